@@ -1,0 +1,4 @@
+pub mod Wire
+pub mod Memory
+pub mod Steady
+pub mod Edge
