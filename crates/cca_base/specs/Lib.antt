@@ -1,0 +1,9 @@
+pub mod formers
+pub mod Automata
+pub mod Cube
+pub mod Formula
+pub mod Model
+pub mod Names
+pub mod Padded
+pub mod Sets
+pub mod State

@@ -1,0 +1,28 @@
+//! The types that every layer of the executive speaks of: models of concurrent components, states and worlds, goals,
+//! events and reports. A `Model` is well formed whenever a caller sees it, and `holds_at` is the truth of a formula.
+#![tactic(auto)]
+
+mod boxed;
+mod cube;
+mod events;
+mod formula;
+mod limits;
+mod list;
+mod model;
+mod name;
+mod sets;
+mod state;
+
+pub use boxed::Boxed;
+pub use cube::{Cube, Pair};
+pub use events::{Detail, Event, PlanEnd, Refusal, Reply, Route, Shown, Stop, TickReport};
+pub use formula::{Formula, Subject, holds_at};
+pub use limits::{
+    MAX_CHOICES, MAX_COMPONENTS, MAX_COST, MAX_DEPTH, MAX_FAILURES, MAX_MOVES, MAX_NAME, MAX_RULES,
+    MAX_VARIABLES,
+};
+pub use list::List;
+pub use model::{Component, Failure, Model, Move, Variable};
+pub use name::Name;
+pub use sets::{ValueSet, VarSet};
+pub use state::{Goal, Seen, State, World};

@@ -1,0 +1,28 @@
+//! How large a model may be.
+
+/// The most components of a model.
+pub const MAX_COMPONENTS: usize = 64;
+
+/// The most modes of a component, and the most values of a variable.
+pub const MAX_CHOICES: usize = 16;
+
+/// The most variables of a model.
+pub const MAX_VARIABLES: usize = 128;
+
+/// The most rules of a model.
+pub const MAX_RULES: usize = 512;
+
+/// The most moves of a model, repairs among them.
+pub const MAX_MOVES: usize = 1024;
+
+/// The most failures of a model.
+pub const MAX_FAILURES: usize = 1024;
+
+/// The greatest depth of a formula's text.
+pub const MAX_DEPTH: usize = 32;
+
+/// The most bytes of a name.
+pub const MAX_NAME: usize = 32;
+
+/// The greatest cost of a failure; the least is 1.
+pub const MAX_COST: u32 = 1_000_000;

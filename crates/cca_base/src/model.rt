@@ -1,0 +1,259 @@
+ghost use Rattle.std.specs.Prelude.{◌≡◌, ◌↔◌, [], ◌∷◌, ◌++◌, false, Contains, IfSome, IsNone, OnOk, OnErr, IsTrue};
+ghost use Rattle.cca_base.specs.Model.{WellFormed, IsMended, is_broken, is_used, empty_model, with_component, with_variable, with_rule, with_command, with_move, with_failure};
+
+use crate::formula::Formula;
+use crate::list::List;
+use crate::name::Name;
+use std::alloc::{AllocError, Global};
+
+/// A part of the plant that stands in one of its modes.
+#[derive(Debug, Drop)]
+pub struct Component {
+    pub name: Name,
+    /// The modes' names. A mode's number is its place here, from 0.
+    pub modes: List<Name>,
+    /// The mode that it starts in.
+    pub start: u8,
+}
+
+/// A quantity that has one of its values in each world of a state.
+#[derive(Debug, Drop)]
+pub struct Variable {
+    pub name: Name,
+    /// The values' names. A value's number is its place here, from 0.
+    pub values: List<Name>,
+    /// Whether scripts may observe it.
+    pub sensed: bool,
+}
+
+/// A move of a component from mode to mode by a command, where its guard allows it.
+#[derive(Debug, Drop)]
+pub struct Move {
+    pub component: u16,
+    /// The mode that it leaves.
+    pub source: u8,
+    /// The mode that it leads to.
+    pub target: u8,
+    /// The number of its command in the model.
+    pub command: u16,
+    /// Whether it is a marked repair.
+    pub repair: bool,
+    /// What has to be true of the plant for it to happen.
+    pub guard: Formula,
+}
+
+/// A change of mode that comes by itself, at a cost.
+#[derive(Clone, Copy, Debug, PartialEq, Eq)]
+pub struct Failure {
+    pub component: u16,
+    /// The mode that it leaves.
+    pub source: u8,
+    /// The mode that it leads to.
+    pub target: u8,
+    /// How unlikely it is: from 1 to `MAX_COST`, and the costs of several failures add up.
+    pub cost: u32,
+}
+
+/// A well-formed model of concurrent components.
+#[derive(Debug, Drop)]
+pub struct Model {
+    components: List<Component>,
+    variables: List<Variable>,
+    rules: List<Formula>,
+    commands: List<Name>,
+    moves: List<Move>,
+    failures: List<Failure>,
+}
+
+impl std::marker::Model for Model {
+    ghost use Rattle.cca_base.specs.Automata.{Automata};
+
+    ghost Value = { Automata };
+
+    ghost use Rattle.cca_base.specs.contracts.formula.Formula as formula;
+    ghost use Rattle.std.specs.Coded.{codes};
+
+    ghost coded = { Prim.hlevel (codes, formula.the_row.coded) };
+
+    ghost use Rattle.cca_base.specs.Model.{WellFormed};
+
+    ghost view = { λ m. record {
+      components = m.components;
+      variables = m.variables;
+      rules = m.rules;
+      commands = m.commands;
+      moves = m.moves;
+      failures = m.failures;
+    } };
+
+    ghost invariant = { λ m. WellFormed (record {
+      components = m.components;
+      variables = m.variables;
+      rules = m.rules;
+      commands = m.commands;
+      moves = m.moves;
+      failures = m.failures;
+    }) };
+}
+
+impl Model {
+    /// The model without any part.
+    #[tactic(auto, using(crate::proofs::ModelLemmas::empty_well_formed))]
+    pub fn empty(alloc: Global) -> Model
+        ensures { result ≡ empty_model }
+    {
+        Model {
+            components: List::new(alloc),
+            variables: List::new(alloc),
+            rules: List::new(alloc),
+            commands: List::new(alloc),
+            moves: List::new(alloc),
+            failures: List::new(alloc),
+        }
+    }
+
+    /// The components. A component's number is its place here, from 0.
+    pub fn components(&self) -> &List<Component>
+        ensures value { result.now ≡ self.now.components }
+        ensures well_formed { WellFormed self.now }
+    {
+        &self.components
+    }
+
+    /// The variables. A variable's number is its place here, from 0.
+    pub fn variables(&self) -> &List<Variable>
+        ensures value { result.now ≡ self.now.variables }
+        ensures well_formed { WellFormed self.now }
+    {
+        &self.variables
+    }
+
+    /// The formulas that are true in each world.
+    pub fn rules(&self) -> &List<Formula>
+        ensures value { result.now ≡ self.now.rules }
+        ensures well_formed { WellFormed self.now }
+    {
+        &self.rules
+    }
+
+    /// The commands' names, in the order of their first use.
+    /// A command's number is its place here, from 0.
+    pub fn commands(&self) -> &List<Name>
+        ensures value { result.now ≡ self.now.commands }
+        ensures well_formed { WellFormed self.now }
+    {
+        &self.commands
+    }
+
+    /// The moves, repairs among them. A move's number is its place here, from 0.
+    pub fn moves(&self) -> &List<Move>
+        ensures value { result.now ≡ self.now.moves }
+        ensures well_formed { WellFormed self.now }
+    {
+        &self.moves
+    }
+
+    /// The failures.
+    pub fn failures(&self) -> &List<Failure>
+        ensures value { result.now ≡ self.now.failures }
+        ensures well_formed { WellFormed self.now }
+    {
+        &self.failures
+    }
+
+    /// Puts a component behind the others.
+    /// The error is want of memory, and the component is gone then.
+    pub fn add_component(&mut self, x: Component) -> Result<(), AllocError>
+        requires { WellFormed (with_component self.old x) }
+        ensures ok { OnOk result (self.new ≡ with_component self.old x) }
+        ensures err { OnErr result (self.new ≡ self.old) }
+    {
+        self.components.push(x)
+    }
+
+    /// Puts a variable behind the others.
+    /// The error is want of memory, and the variable is gone then.
+    pub fn add_variable(&mut self, x: Variable) -> Result<(), AllocError>
+        requires { WellFormed (with_variable self.old x) }
+        ensures ok { OnOk result (self.new ≡ with_variable self.old x) }
+        ensures err { OnErr result (self.new ≡ self.old) }
+    {
+        self.variables.push(x)
+    }
+
+    /// Puts a rule behind the others.
+    /// The error is want of memory, and the rule is gone then.
+    pub fn add_rule(&mut self, x: Formula) -> Result<(), AllocError>
+        requires { WellFormed (with_rule self.old x) }
+        ensures ok { OnOk result (self.new ≡ with_rule self.old x) }
+        ensures err { OnErr result (self.new ≡ self.old) }
+    {
+        self.rules.push(x)
+    }
+
+    /// Puts a command's name behind the others. The error is want of memory.
+    pub fn add_command(&mut self, x: Name) -> Result<(), AllocError>
+        requires { WellFormed (with_command self.old x) }
+        ensures ok { OnOk result (self.new ≡ with_command self.old x) }
+        ensures err { OnErr result (self.new ≡ self.old) }
+    {
+        self.commands.push(x)
+    }
+
+    /// Puts a move behind the others.
+    /// The error is want of memory, and the move is gone then.
+    pub fn add_move(&mut self, x: Move) -> Result<(), AllocError>
+        requires { WellFormed (with_move self.old x) }
+        ensures ok { OnOk result (self.new ≡ with_move self.old x) }
+        ensures err { OnErr result (self.new ≡ self.old) }
+    {
+        self.moves.push(x)
+    }
+
+    /// Puts a failure behind the others. The error is want of memory.
+    pub fn add_failure(&mut self, x: Failure) -> Result<(), AllocError>
+        requires { WellFormed (with_failure self.old x) }
+        ensures ok { OnOk result (self.new ≡ with_failure self.old x) }
+        ensures err { OnErr result (self.new ≡ self.old) }
+    {
+        self.failures.push(x)
+    }
+
+    /// Whether a repair leaves the component's mode.
+    pub fn broken(&self, c: u16, m: u8) -> bool
+        ensures { result ≡ is_broken self.now.moves c m }
+    {
+        self.moves()
+            .as_slice()
+            .iter()
+            .any(|x| x.repair && (x.component == c && x.source == m))
+    }
+
+    /// The mode that the repairs of the component's mode lead to.
+    /// None comes exactly where no repair leaves it.
+    pub fn mended(&self, c: u16, m: u8) -> Option<u8>
+        ensures mended { IfSome result (IsMended self.now.moves c m) }
+        ensures none { IsNone result ↔ (is_broken self.now.moves c m ≡ false) }
+    {
+        for x in self.moves().as_slice() {
+            if x.repair && x.component == c && x.source == m {
+                return Some(x.target);
+            }
+        }
+        None
+    }
+
+    /// The component that a command moves.
+    pub fn component_of(&self, command: u16) -> u16
+        requires { IsTrue (is_used self.now.moves command) }
+        ensures { (move : Move) × Contains self.now.moves move
+            × (move.command ≡ command) × (move.component ≡ result) }
+    {
+        for x in self.moves().as_slice() {
+            if x.command == command {
+                return x.component;
+            }
+        }
+        unreachable!()
+    }
+}
