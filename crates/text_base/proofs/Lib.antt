@@ -1,0 +1,5 @@
+pub mod Loop
+pub mod Spans
+pub mod NumberLemmas
+pub mod NamesLemmas
+pub mod KindLemmas

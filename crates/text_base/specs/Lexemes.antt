@@ -1,0 +1,70 @@
+-- Reading the tokens of a line from left to right.
+use Rattle.std.specs.Prelude.{ℕ, Bool, true, false, not, List, [], ◌∷◌, Option, Some, None, codes, if◌then◌else◌, ◌&&◌}
+use Rattle.std.specs.Str.{bytes_eq}
+use Rattle.cca_base.specs.Names.{is_reserved}
+use Rattle.text_base.specs.declared.token.Kind.{Kind}
+use Rattle.text_base.specs.declared.token.Kind.TheVariants.{Word, Number, Symbol}
+use Rattle.text_base.specs.declared.token.Token.{Token}
+use Rattle.text_base.specs.Tokens.{Tok}
+
+-- a token apart from where it stands
+abbrev pub Lexeme : Type 0
+Lexeme = Kind × List ℕ
+
+abbrev pub lexeme : Tok → Lexeme
+lexeme t = (t.kind, t.text)
+
+abbrev pub lexeme_of : Token → Lexeme
+lexeme_of t = (t.kind, t.text.now)
+
+abbrev pub word : List ℕ → Lexeme
+word text = (Word, text)
+
+abbrev pub number : List ℕ → Lexeme
+number text = (Number, text)
+
+abbrev pub symbol : List ℕ → Lexeme
+symbol text = (Symbol, text)
+
+abbrev pub same_kind : Kind → Kind → Bool
+same_kind Word Word = true
+same_kind Number Number = true
+same_kind Symbol Symbol = true
+same_kind Word Number = false
+same_kind Word Symbol = false
+same_kind Number Word = false
+same_kind Number Symbol = false
+same_kind Symbol Word = false
+same_kind Symbol Number = false
+
+-- the second is the first
+abbrev pub is_lexeme : Lexeme → Lexeme → Bool
+is_lexeme l m = same_kind m.0 l.0 && bytes_eq m.1 l.1
+
+-- a word that may stand in place of a name
+abbrev pub is_name_word : Lexeme → Bool
+is_name_word l = same_kind l.0 Word && not (is_reserved l.1)
+
+-- what stands behind this lexeme
+abbrev pub next_is : Lexeme → List Lexeme → Option (List Lexeme)
+next_is l [] = None
+next_is l (m ∷ ls) = if is_lexeme l m then Some ls else None
+
+-- a word in place of a name, and what stands behind it
+abbrev pub name_word_at : List Lexeme → Option (List ℕ × List Lexeme)
+name_word_at [] = None
+name_word_at (l ∷ ls) = if is_name_word l then Some (l.1, ls) else None
+
+abbrev pub comma : Lexeme
+comma = symbol (codes ",")
+
+abbrev pub with_name : List ℕ → Option (List (List ℕ) × List Lexeme) → Option (List (List ℕ) × List Lexeme)
+with_name name None = None
+with_name name (Some read) = Some (name ∷ read.0, read.1)
+
+-- one or more words in place of names, with commas between them, and what stands behind
+abbrev pub names_at : List Lexeme → Option (List (List ℕ) × List Lexeme)
+names_at [] = None
+names_at (l ∷ []) = if is_name_word l then Some (l.1 ∷ [], []) else None
+names_at (l ∷ m ∷ ls) =
+    if is_name_word l then (if is_lexeme comma m then with_name l.1 (names_at ls) else Some (l.1 ∷ [], m ∷ ls)) else None
