@@ -1,0 +1,10 @@
+pub mod LineLaws
+pub mod PairLemmas
+pub mod PlannerLemmas
+pub mod ScriptLemmas
+pub mod Sending
+pub mod SessionLemmas
+pub mod SoundLemmas
+pub mod SoundSteps
+pub mod StepLemmas
+pub mod TopLemmas

@@ -1,0 +1,150 @@
+-- Plain models that grow by a line, and the sessions round them.
+use Rattle.std.proofs.Common.{◌≡◌, ◌≢◌, ◌<◌, ◌≤◌, ◌+◌, ℕ, zero, suc, true, false, ◌&&◌, ◌==◌, inl, inr, List, [], ◌∷◌, ◌++◌, length, map, get_or, Some, All, IsTrue, slice_get, slice_index, refl, sym, ap, subst, ◌∙◌, arith}
+use Rattle.std.specs.Prelude.{not, nat_lt, if◌then◌else◌, find, option_to_list}
+use Rattle.std.specs.List.{list_any}
+use Rattle.std.specs.Str.{bytes_eq}
+use Rattle.std.proofs.lemmas.Bool.{cases_lt, cases_Bool, and_parts, not-true, ltb-true}
+use Rattle.std.proofs.lemmas.Option.{slice_get_within, get_or_from_slice_get}
+use Rattle.std.proofs.lemmas.List.{length_push, length-map, map_push, get_or_append_left, get_or_push, get_or-map}
+use Rattle.std.proofs.lemmas.List.Elements.{All-nil, All-append, All-map}
+use Rattle.std.proofs.lemmas.List.Quantifiers.{position-Some}
+use Rattle.cca_base.specs.declared.model.Component.{Component}
+use Rattle.cca_base.specs.declared.model.Move.{Move}
+use Rattle.cca_base.specs.declared.cube.Pair.{Pair}
+use Rattle.cca_base.specs.declared.limits.TheConstants.{MAX_COMPONENTS, MAX_MOVES}
+use Rattle.cca_base.specs.Automata.{Automata}
+use Rattle.cca_base.specs.Names.{is_name}
+use Rattle.cca_base.specs.Model.{WellFormed, HasMode, IsMove, mode_counts, names_of, is_used, with_component, with_command, with_move}
+use Rattle.cca_base.specs.State.{IsState}
+use Rattle.cca_base.proofs.FormulaGrowth.{counts_push}
+use Rattle.cca_base.proofs.Growth.{component_kept, command_kept}
+use Rattle.titan_top.specs.Session.{start, place_of, mode_number, declared_component, has_room_for_component, is_command, with_named, command_number, is_free, plain_move, has_room_for_move, in_order}
+use Rattle.titan_top.specs.Sound.{IsPlain, IsSound}
+use Rattle.titan_top.proofs.SoundSteps.{bind_some, absent, number_found, number_past, nothing, mode_within, IsDeclared, declared, named_old, named_new, number_at_most, true_is_formula, ordinary_move, plain_push, All-find}
+
+pub start_sound : IsSound start
+start_sound = record {
+  model = record { no_variables = refl; no_repairs = λ k d h. absurd (omega arith); complete = λ command h. absurd (omega arith); few_commands = omega arith };
+  state = record { full = refl; modes = λ c h. absurd (omega arith) };
+  goal = tt;
+}
+
+-- the number of a component, and of its mode
+pub mode_found : (m : Automata) (c mode : ℕ) (text : List ℕ) → mode_number m c text ≡ Some mode → HasMode m c mode
+mode_found m c mode text e =
+    let found = bind_some (slice_get m.components c) (λ (x : Component). place_of x.modes text) mode e in
+    let x : Component = found.0 in
+    let here = position-Some (λ name. bytes_eq name text) x.modes mode [] found.2 in
+    let count : slice_index (mode_counts m) c ≡ length x.modes =
+    get_or-map (λ (y : Component). length y.modes) m.components c x 0 (slice_get_within m.components c x found.1)
+    ∙ ap (λ (y : Component). length y.modes) (get_or_from_slice_get m.components c x x found.1)
+    in
+    subst (λ n. mode < n) (sym count) here.0
+
+-- a mode's number is small, and its component is there
+pub mode_small : (m : Automata) (c mode : ℕ) → WellFormed m → HasMode m c mode → (mode < 16) × (c < length m.components)
+mode_small m c mode w h =
+    let within : c < length m.components = mode_within m c mode h in
+    let count : slice_index (mode_counts m) c ≡ length (get_or m.components c nothing).modes = get_or-map (λ (y : Component). length y.modes) m.components c nothing 0 within in
+    let few : length (get_or m.components c nothing).modes ≤ 16 = (w.components c nothing within).modes.few in
+    (omega arith, within)
+
+-- a mode of the model stays one
+pub mode_kept : (m : Automata) (x : Component) (c mode : ℕ) → HasMode m c mode → HasMode (with_component m x) c mode
+mode_kept m x c mode h =
+    let same : slice_index (mode_counts (with_component m x)) c ≡ slice_index (mode_counts m) c = counts_push (λ (y : Component). length y.modes) m.components x c (omega arith) in
+    subst (λ n. mode < n) (sym same) h
+
+pub component_well_formed : (m : Automata) (x : Component) (name : List ℕ) (modes : List (List ℕ)) (start : List ℕ) → WellFormed m → IsPlain m → has_room_for_component m name ≡ true → declared_component name modes start ≡ Some x → WellFormed (with_component m x)
+component_well_formed m x name modes start w p room e =
+    let free = and_parts (nat_lt (length m.components) MAX_COMPONENTS) (not (list_any (λ c. bytes_eq c.name name) m.components)) room in
+    let d : IsDeclared name x = declared x name modes start e in
+    let others : All (λ n. n ≢ name) (map (λ c. c.name) m.components) =
+    All-map (λ n. n ≢ name) (λ (c : Component). c.name) m.components (absent (λ (c : Component). c.name) name m.components (not-true (list_any (λ c. bytes_eq c.name name) m.components) free.1))
+    in
+    let variables : All (λ n. n ≢ name) (map (λ v. v.name) m.variables) = subst (λ vs. All (λ n. n ≢ name) (map (λ v. v.name) vs)) (sym p.no_variables) (All-nil (λ n. n ≢ name)) in
+    let new : All (λ n. n ≢ name) (names_of m) = All-append (λ n. n ≢ name) (map (λ c. c.name) m.components) (map (λ v. v.name) m.variables) others variables in
+    component_kept m x w (ltb-true (length m.components) MAX_COMPONENTS free.0) d.good (subst (λ n. IsTrue (is_name n)) (sym d.same_name) d.named)
+    (subst (λ t. All (λ n. n ≢ t) (names_of m)) (sym d.same_name) new)
+
+pub component_plain : (m : Automata) (x : Component) → IsPlain m → IsPlain (with_component m x)
+component_plain m x p = record { no_variables = p.no_variables; no_repairs = p.no_repairs; complete = p.complete; few_commands = p.few_commands }
+
+-- a component that is new starts in its start mode
+pub state_with_component : (m : Automata) (x : Component) (name : List ℕ) (modes : List (List ℕ)) (start : List ℕ) (s : List ℕ) → declared_component name modes start ≡ Some x → IsState m s → IsState (with_component m x) (s ++ x.start ∷ [])
+state_with_component m x name modes start s e h =
+    let longer : length (m.components ++ x ∷ []) ≡ length m.components + 1 = length_push m.components x in
+    let full : length s ≡ length m.components = h.full in
+    record {
+      full = length_push s x.start ∙ omega arith;
+      modes = λ c within.
+          elim (cases_lt c (length m.components)) [
+            | inl old ↦
+                let same : slice_index (s ++ x.start ∷ []) c ≡ slice_index s c = get_or_append_left s (x.start ∷ []) 0 c (omega arith) in
+                subst (λ mode. HasMode (with_component m x) c mode) (sym same) (mode_kept m x c (slice_index s c) (h.modes c old))
+            | inr new ↦
+                let d : IsDeclared name x = declared x name modes start e in
+                let size : length (mode_counts m) ≡ length m.components = length-map m.components (λ (y : Component). length y.modes) in
+                let last : slice_index (s ++ x.start ∷ []) c ≡ x.start = get_or_push s x.start 0 c (omega arith) in
+                let count : slice_index (mode_counts (with_component m x)) c ≡ length x.modes =
+                ap (λ counts. slice_index counts c) (map_push (λ (y : Component). length y.modes) m.components x) ∙ get_or_push (mode_counts m) (length x.modes) 0 c (omega arith)
+                in
+                let good : x.start < length x.modes = d.good.start in
+                subst (λ mode. HasMode (with_component m x) c mode) (sym last) (subst (λ n. x.start < n) (sym count) good)
+          ];
+    }
+
+pub number_small : (m : Automata) (text : List ℕ) → WellFormed m → IsPlain m → command_number m text < 65536
+number_small m text w p =
+    let most : length m.moves ≤ 1024 = w.limits.moves in
+    let few : length m.commands ≤ length m.moves = p.few_commands in
+    omega (arith, number_at_most m text)
+
+pub named_well_formed : (m : Automata) (text : List ℕ) → WellFormed m → IsTrue (is_name text) → WellFormed (with_named m text)
+named_well_formed m text w n =
+    elim (cases_Bool (is_command m text)) [
+      | inl e ↦ subst WellFormed (sym (named_old m text e)) w
+      | inr e ↦ subst WellFormed (sym (named_new m text e)) (command_kept m text w n (absent (λ name. name) text m.commands e))
+    ]
+
+pub move_well_formed : (m : Automata) (c a b : ℕ) (text : List ℕ) → WellFormed m → IsPlain m → has_room_for_move m c a text ≡ true → HasMode m c a → HasMode m c b → WellFormed (with_move (with_named m text) (plain_move m c a b text))
+move_well_formed m c a b text w p room source target =
+    let parts = and_parts (nat_lt (length m.moves) MAX_MOVES) (is_name text && is_free m.moves (command_number m text) c a) room in
+    let rest = and_parts (is_name text) (is_free m.moves (command_number m text) c a) parts.1 in
+    let few : length m.moves < MAX_MOVES = ltb-true (length m.moves) MAX_MOVES parts.0 in
+    let used : (command : ℕ) → command < command_number m text → IsTrue (is_used m.moves command) = λ command before. p.complete command (omega (arith, number_at_most m text)) in
+    let x : Move = plain_move m c a b text in
+    elim (cases_Bool (is_command m text)) [
+      | inl e ↦
+          let good : IsMove m x = record { source = source; target = target; command = number_found (λ name. bytes_eq name text) m.commands e; guard = true_is_formula m } in
+          subst (λ n. WellFormed (with_move n x)) (sym (named_old m text e)) (ordinary_move m x w p.no_repairs few good refl rest.1 used)
+      | inr e ↦
+          let n : Automata = with_command m text in
+          let past : command_number m text ≡ length m.commands = number_past (λ name. bytes_eq name text) m.commands e in
+          let good : IsMove n x = record { source = source; target = target; command = omega (arith, length_push m.commands text); guard = true_is_formula n } in
+          subst (λ n. WellFormed (with_move n x)) (sym (named_new m text e))
+          (ordinary_move n x (command_kept m text w rest.0 (absent (λ name. name) text m.commands e)) p.no_repairs few good refl rest.1 used)
+    ]
+
+pub move_plain : (m : Automata) (c a b : ℕ) (text : List ℕ) → IsPlain m → IsPlain (with_move (with_named m text) (plain_move m c a b text))
+move_plain m c a b text p =
+    let x : Move = plain_move m c a b text in
+    let few : length m.commands ≤ length m.moves = p.few_commands in
+    elim (cases_Bool (is_command m text)) [
+      | inl e ↦ subst (λ n. IsPlain (with_move n x)) (sym (named_old m text e)) (plain_push m x p.no_variables p.no_repairs refl (omega arith) (λ command within. inr (p.complete command within)))
+      | inr e ↦
+          let past : command_number m text ≡ length m.commands = number_past (λ name. bytes_eq name text) m.commands e in
+          let longer : length (m.commands ++ text ∷ []) ≡ length m.commands + 1 = length_push m.commands text in
+          subst (λ n. IsPlain (with_move n x)) (sym (named_new m text e))
+          (plain_push (with_command m text) x p.no_variables p.no_repairs refl (omega arith)
+          (λ command within. elim (cases_lt command (length m.commands)) [ inl old ↦ inr (p.complete command old) | inr new ↦ inl (omega arith) ]))
+    ]
+
+-- the components, and so their modes, are those of the model before
+pub same_components : (m : Automata) (c a b : ℕ) (text : List ℕ) → (with_move (with_named m text) (plain_move m c a b text)).components ≡ m.components
+same_components m c a b text = elim (is_command m text) as (λ t. (if t then m else with_command m text).components ≡ m.components) [ true ↦ refl | false ↦ refl ]
+
+-- pairs in the order of components are among those that were given
+pub All-in_order : (P : Pair → Type 0) (n : ℕ) (pairs : List Pair) → All P pairs → All P (in_order n pairs)
+All-in_order P zero pairs h = All-nil P
+All-in_order P (suc c) pairs h = All-append P (in_order c pairs) (option_to_list (find (λ p. p.item == c) pairs)) (All-in_order P c pairs h) (All-find P (λ p. p.item == c) pairs h)

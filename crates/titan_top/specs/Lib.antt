@@ -1,0 +1,9 @@
+pub mod Items
+pub mod Lines
+pub mod Planner
+pub mod Session
+pub mod Sound
+pub mod Text
+pub mod TickLine
+pub mod Wire
+pub mod Words

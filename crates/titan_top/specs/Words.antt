@@ -1,0 +1,15 @@
+-- The forms of words.
+use Rattle.std.specs.Prelude.{ℕ, List, [], ◌∷◌, Option, Some, None, codes, map, if◌then◌else◌, string_bytes, String}
+use Rattle.std.specs.Global.{Global}
+use Rattle.std.specs.Str.{bytes_eq}
+use Rattle.titan_top.specs.declared.words.Form.{Form}
+use Rattle.titan_top.specs.declared.words.Form.TheVariants.{Run}
+
+-- the form of the words, if they have one
+abbrev pub form_of : List (List ℕ) → Option Form
+form_of [] = None
+form_of (a ∷ []) = if bytes_eq a (codes "run") then Some Run else None
+form_of (a ∷ b ∷ cs) = None
+
+abbrev pub texts : List (String Global) → List (List ℕ)
+texts words = map string_bytes words

@@ -1,0 +1,21 @@
+//! The top call: from words and bytes to bytes. A caller gets exactly the text and the status that the words and the
+//! input lead to, or after a fault or want of memory a front of that text.
+#![tactic(auto)]
+
+mod input;
+mod item;
+mod lines;
+mod output;
+mod planner;
+mod print;
+mod reader;
+mod script;
+mod session;
+mod status;
+mod step;
+mod stops;
+mod top;
+mod words;
+
+pub use status::Status;
+pub use top::titan;

@@ -1,0 +1,25 @@
+ghost use Rattle.std.specs.Prelude.{◌≡◌};
+ghost use Rattle.titan_top.specs.Words.{form_of, texts};
+
+/// What the words ask for.
+#[derive(Clone, Copy, Debug, PartialEq, Eq)]
+pub enum Form {
+    /// Reads a document and prints its trace.
+    Run,
+}
+
+/// The form of the words, if they have one.
+pub fn form_of(words: &[String]) -> Option<Form>
+    ensures { result ≡ form_of (texts words.now) }
+{
+    match words {
+        [a] => {
+            if a.as_str() == "run" {
+                Some(Form::Run)
+            } else {
+                None
+            }
+        }
+        _ => None,
+    }
+}
