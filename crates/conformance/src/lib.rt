@@ -1,0 +1,10 @@
+//! Worked rows of the program, run on the top call, and each call below it that takes memory, once with enough of it.
+//! This crate has no code of its own: a caller gets its tests alone.
+#![tactic(auto)]
+
+#[cfg(test)]
+mod calls;
+#[cfg(test)]
+mod first_path;
+#[cfg(test)]
+mod row;

@@ -1,0 +1,52 @@
+use std::alloc::Global;
+use std::process::Abort;
+use std::test::*;
+use titan_top::{Status, titan};
+use titan_wire::*;
+
+fn words_of(alloc: Global, words: &[&str]) -> Result<Vec<String>, Fail> {
+    let mut list = Vec::new(alloc);
+    for word in words {
+        list.push(String::from_str(alloc, word)?)?;
+    }
+    Ok(list)
+}
+
+/// Runs the top call over bytes in memory, and asserts how it ends and what it writes.
+pub fn assert_row(
+    rt: &impl Abort,
+    alloc: Global,
+    words: &[&str],
+    input: &str,
+    status: Status,
+    text: &str,
+) -> Result<(), Fail> {
+    let mut source = MemorySource::new(Vec::from_slice(alloc, input.as_bytes())?, Vec::new(alloc));
+    let mut sink = MemorySink::new(alloc, 4096, Vec::new(alloc))?;
+    let ended = titan(alloc, &words_of(alloc, words)?, &mut source, &mut sink);
+    assert_eq!(rt; ended, status, "how it ends");
+    assert_eq!(rt; sink.bytes(), text.as_bytes(), "what is written");
+    Ok(())
+}
+
+/// The same over a source and a sink whose calls of these numbers fail; 0 is no call's number.
+pub fn assert_faulty_row(
+    rt: &impl Abort,
+    alloc: Global,
+    input: &str,
+    failing_take: u64,
+    failing_put: u64,
+    status: Status,
+    text: &str,
+) -> Result<(), Fail> {
+    let mut takes = Vec::new(alloc);
+    takes.push(failing_take)?;
+    let mut puts = Vec::new(alloc);
+    puts.push(failing_put)?;
+    let mut source = MemorySource::new(Vec::from_slice(alloc, input.as_bytes())?, takes);
+    let mut sink = MemorySink::new(alloc, 4096, puts)?;
+    let ended = titan(alloc, &words_of(alloc, &["run"])?, &mut source, &mut sink);
+    assert_eq!(rt; ended, status, "how it ends");
+    assert_eq!(rt; sink.bytes(), text.as_bytes(), "what is written");
+    Ok(())
+}
