@@ -1,5 +1,5 @@
 -- Models that stay well formed as they grow by one part.
-use Rattle.std.proofs.Common.{◌≡◌, ◌≢◌, ◌<◌, ℕ, zero, suc, false, ◌&&◌, ◌||◌, ◌==◌, ◌⊎◌, inl, inr, List, [], ◌∷◌, ◌++◌, length, map, slice_get, Some, Contains, IsTrue, All, AllPairs, refl, sym, ap, subst, ◌∙◌, arith}
+use Rattle.std.proofs.Common.{◌≡◌, ◌≢◌, ◌<◌, ℕ, zero, suc, false, ◌&&◌, ◌||◌, ◌==◌, ◌⊎◌, inl, inr, List, [], ◌∷◌, ◌++◌, length, map, slice_get, Some, Contains, IsTrue, All, refl, sym, ap, subst, ◌∙◌, arith}
 use Rattle.std.proofs.lemmas.Bool.{eqb-true, false≢true}
 use Rattle.std.proofs.lemmas.Option.{slice_get-get_or, same_Some}
 use Rattle.std.proofs.lemmas.List.{append_assoc, map_push, length_push}
@@ -7,6 +7,7 @@ use Rattle.std.proofs.lemmas.List.Elements.{All-weaker, All-push, All-cons, All-
 use Rattle.std.proofs.lemmas.List.Quantifiers.{all_pairs_push}
 use Rattle.std.proofs.lemmas.List.Kept.{AllPairs-cons}
 use Rattle.std.proofs.lemmas.List.Folds.{Any-from_list_any}
+use Rattle.cca_base.proofs.Pairwise.{AllPairs-head, AllPairs-tail}
 use Rattle.cca_base.proofs.FormulaGrowth.{Extends, counts_same, counts_push, IsFormula-kept, IsMove-kept, IsFailure-kept, All-IsFormula-kept, All-IsMove-kept, All-IsFailure-kept}
 use Rattle.cca_base.specs.declared.formula.Formula.{Formula}
 use Rattle.cca_base.specs.declared.model.Component.{Component}
@@ -24,12 +25,6 @@ use Rattle.cca_base.specs.Model.{WellFormed, mode_counts, value_counts, AreChoic
 All-middle : {X : Type 0} (P : X → Type 0) (xs : List X) (x : X) (ys : List X) → P x → All P (xs ++ ys) → All P ((xs ++ x ∷ []) ++ ys)
 All-middle P [] x ys p h = All-cons P x ys p h
 All-middle P (y ∷ xs) x ys p h = All-cons P y _ (All-head P y (xs ++ ys) h) (All-middle P xs x ys p (All-tail P y (xs ++ ys) h))
-
-AllPairs-tail : {X : Type 0} (R : X → X → Type 0) (x : X) (xs : List X) → AllPairs R (x ∷ xs) → AllPairs R xs
-AllPairs-tail R x xs h i j d before within = h (suc i) (suc j) d (omega arith) (omega arith)
-
-AllPairs-head : {X : Type 0} (R : X → X → Type 0) (x : X) (xs : List X) → AllPairs R (x ∷ xs) → All (R x) xs
-AllPairs-head R x xs h k d within = h 0 (suc k) d (omega arith) (omega arith)
 
 -- different names, with a new one between them
 AreDifferent-middle : {X : Type 0} (xs : List X) (x : X) (ys : List X) → All (λ y. y ≢ x) (xs ++ ys) → AreDifferent (xs ++ ys) → AreDifferent ((xs ++ x ∷ []) ++ ys)

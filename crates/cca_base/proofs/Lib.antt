@@ -5,3 +5,8 @@ pub mod CubeLemmas
 pub mod Found
 pub mod FormulaGrowth
 pub mod Growth
+pub mod Pairwise
+pub mod BoundLemmas
+pub mod TakenBack
+pub mod Within
+pub mod Members

@@ -1,29 +1,31 @@
--- Pairs of components and modes.
-use Rattle.std.specs.Prelude.{◌≡◌, ℕ, ◌≢◌, List, [], ◌∷◌, length, All, Contains, map}
+-- Pairs of components and modes, or of variables and values.
+use Rattle.std.specs.Prelude.{◌≡◌, ℕ, ◌≢◌, ◌<◌, ◌⊎◌, ◌↔◌, List, length, All, AllPairs, Contains}
 use Rattle.std.specs.Ordering.{nat_cmp, ordering_then}
 use Rattle.std.specs.Cmp.Lexicographic.{slice_cmp}
 use Rattle.std.specs.declared.cmp.Ordering.{Ordering}
 use Rattle.std.specs.declared.cmp.Ordering.TheVariants.{Less}
-use Rattle.std.specs.List.Sorted.{IsStrictlyIncreasing}
 use Rattle.cca_base.specs.declared.cube.Pair.{Pair}
 
 -- no pair is of this component
 abbrev pub Lacks : ℕ → List Pair → Type 0
-Lacks c [] = Unit {0}
-Lacks c (p ∷ ps) = (p.item ≢ c) × Lacks c ps
+Lacks c pairs = All (λ p. p.item ≢ c) pairs
 
 -- at most one pair of each component
 abbrev pub IsCube : List Pair → Type 0
-IsCube [] = Unit {0}
-IsCube (p ∷ ps) = Lacks p.item ps × IsCube ps
+IsCube pairs = AllPairs (λ p q. p.item ≢ q.item) pairs
 
 -- each pair of the first is one of the second
 abbrev pub IsPart : List Pair → List Pair → Type 0
 IsPart part cube = All (Contains cube) part
 
--- each component comes after the one before
+-- each pair's component is less than those of the pairs after it
 abbrev pub IsRising : List Pair → Type 0
-IsRising cube = IsStrictlyIncreasing (map (λ p. p.item) cube)
+IsRising pairs = AllPairs (λ p q. p.item < q.item) pairs
+
+-- exactly the pairs that are of the one kind or of the other, rising
+pub record IsUnion (P Q : Pair → Type 0) (both : List Pair) : Type 0 where
+  pub rising : IsRising both
+  pub each : (p : Pair) → Contains both p ↔ (P p ⊎ Q p)
 
 -- pairs by component, and then by mode
 abbrev pub pair_cmp : Pair → Pair → Ordering
@@ -37,7 +39,6 @@ cube_cmp a b = ordering_then (nat_cmp (length a) (length b)) (slice_cmp pair_cmp
 abbrev pub IsBeforeCube : List Pair → List Pair → Type 0
 IsBeforeCube a b = cube_cmp a b ≡ Less
 
--- each cube comes before the next
+-- each cube comes before those after it
 abbrev pub AreInCubeOrder : List (List Pair) → Type 0
-AreInCubeOrder [] = Unit {0}
-AreInCubeOrder (cube ∷ cubes) = All (IsBeforeCube cube) cubes × AreInCubeOrder cubes
+AreInCubeOrder cubes = AllPairs IsBeforeCube cubes

@@ -1,5 +1,5 @@
 -- Which models are well formed.
-use Rattle.std.specs.Prelude.{◌≡◌, ◌≢◌, ◌==◌, ◌&&◌, Bool, ℕ, ◌<◌, ◌≤◌, false, IsTrue, List, [], ◌∷◌, ◌++◌, length, map, All, AllPairs, slice_get, slice_index, Some, Contains}
+use Rattle.std.specs.Prelude.{◌≡◌, ◌≢◌, ◌==◌, ◌&&◌, Bool, ℕ, ◌-◌, ◌<◌, ◌≤◌, false, IsTrue, List, [], ◌∷◌, ◌++◌, length, map, take, All, AllPairs, slice_get, slice_index, Some, Contains}
 use Rattle.std.specs.List.{list_any}
 use Rattle.cca_base.specs.declared.formula.Formula.{Formula}
 use Rattle.cca_base.specs.declared.model.Component.{Component}
@@ -117,8 +117,6 @@ pub record WellFormed (m : Automata) : Type 0 where
 abbrev pub IsComplete : Automata → Type 0
 IsComplete m = (command : ℕ) → command < length m.commands → IsTrue (is_used m.moves command)
 
--- ---- models that grow
-
 -- the model without any part
 abbrev pub empty_model : Automata
 empty_model = record { components = []; variables = []; rules = []; commands = []; moves = []; failures = [] }
@@ -138,6 +136,10 @@ with_rule m x = record m { rules = m.rules ++ x ∷ [] }
 -- the model with one more command
 abbrev pub with_command : Automata → List ℕ → Automata
 with_command m x = record m { commands = m.commands ++ x ∷ [] }
+
+-- the model without its last command
+abbrev pub without_last_command : Automata → Automata
+without_last_command m = record m { commands = take (length m.commands - 1) m.commands }
 
 -- the model with one more move
 abbrev pub with_move : Automata → Move → Automata

@@ -1,7 +1,10 @@
--- States: a mode for each component.
-use Rattle.std.specs.Prelude.{◌≡◌, ℕ, ◌<◌, List, length, map, slice_index}
+-- States and worlds, and what is true in them.
+use Rattle.std.specs.Prelude.{◌≡◌, ℕ, ◌<◌, IsTrue, List, length, map, slice_get, slice_index, Some, All}
+use Rattle.cca_base.specs.declared.formula.Formula.{Formula}
+use Rattle.cca_base.specs.declared.cube.Pair.{Pair}
 use Rattle.cca_base.specs.Automata.{Automata}
-use Rattle.cca_base.specs.Model.{HasMode}
+use Rattle.cca_base.specs.Formula.{truth}
+use Rattle.cca_base.specs.Model.{HasMode, value_counts}
 
 -- a mode for each component
 pub record IsState (m : Automata) (s : List ℕ) : Type 0 where
@@ -11,3 +14,29 @@ pub record IsState (m : Automata) (s : List ℕ) : Type 0 where
 -- the mode in which each component starts
 abbrev pub start_modes : Automata → List ℕ
 start_modes m = map (λ c. c.start) m.components
+
+-- the list has each pair's value at the pair's place: a state extends a partial state, and a world what was observed
+abbrev pub Extends : List ℕ → List Pair → Type 0
+Extends values pairs = All (λ p. slice_get values p.item ≡ Some p.value) pairs
+
+-- the variable has the value
+abbrev pub HasValue : Automata → ℕ → ℕ → Type 0
+HasValue m v value = value < slice_index (value_counts m) v
+
+-- a value for each variable, with which every rule is true in the state
+pub record IsWorld (m : Automata) (s w : List ℕ) : Type 0 where
+  pub full : length w ≡ length m.variables
+  pub values : (v : ℕ) → v < length m.variables → HasValue m v (slice_index w v)
+  pub rules : All (λ rule. IsTrue (truth s w rule)) m.rules
+
+-- the state has a world
+abbrev pub HasWorld : Automata → List ℕ → Type 0
+HasWorld m s = (w : List ℕ) × IsWorld m s w
+
+-- the formula is true in every world of the state
+abbrev pub Holds : Automata → List ℕ → Formula → Type 0
+Holds m s f = (w : List ℕ) → IsWorld m s w → IsTrue (truth s w f)
+
+-- the formula is true in every world of every state that extends the pairs
+abbrev pub Follows : Automata → List Pair → Formula → Type 0
+Follows m pairs f = (s : List ℕ) → IsState m s → Extends s pairs → Holds m s f

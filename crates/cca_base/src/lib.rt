@@ -3,9 +3,11 @@
 #![tactic(auto)]
 
 mod boxed;
+mod compiled;
 mod cube;
 mod events;
 mod formula;
+mod laws;
 mod limits;
 mod list;
 mod model;
@@ -14,12 +16,14 @@ mod sets;
 mod state;
 
 pub use boxed::Boxed;
+pub use compiled::Compiled;
 pub use cube::{Cube, Pair};
 pub use events::{Detail, Event, PlanEnd, Refusal, Reply, Route, Shown, Stop, TickReport};
 pub use formula::{Formula, Subject, holds_at};
+pub use laws::formulas_are_within;
 pub use limits::{
-    MAX_CHOICES, MAX_COMPONENTS, MAX_COST, MAX_DEPTH, MAX_FAILURES, MAX_MOVES, MAX_NAME, MAX_RULES,
-    MAX_VARIABLES,
+    MAX_BOUND, MAX_CHOICES, MAX_COMPONENTS, MAX_COST, MAX_DEPTH, MAX_FAILURES, MAX_MOVES, MAX_NAME,
+    MAX_PLAN, MAX_RULES, MAX_VARIABLES, MAX_WAYS,
 };
 pub use list::List;
 pub use model::{Component, Failure, Model, Move, Variable};

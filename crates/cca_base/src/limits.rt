@@ -26,3 +26,12 @@ pub const MAX_NAME: usize = 32;
 
 /// The greatest cost of a failure; the least is 1.
 pub const MAX_COST: u32 = 1_000_000;
+
+/// The most prime implicants of a move.
+pub const MAX_WAYS: usize = 256;
+
+/// The greatest sum of all components' bounds.
+pub const MAX_BOUND: u64 = 9_223_372_036_854_775_807;
+
+/// The most commands of a plan that is written down.
+pub const MAX_PLAN: usize = 10_000;

@@ -1,4 +1,4 @@
-ghost use Rattle.std.specs.Prelude.{◌≡◌, [], ◌∷◌, ◌++◌, ◌<◌, length, slice_get, slice_index_or, slice_set, Some, IfOk, OnOk, OnErr};
+ghost use Rattle.std.specs.Prelude.{◌≡◌, [], ◌∷◌, ◌++◌, ◌-◌, ◌<◌, length, take, slice_get, slice_index_or, slice_set, Some, IfOk, OnOk, OnErr};
 
 use std::alloc::{AllocError, Global};
 use std::marker::Model;
@@ -62,6 +62,14 @@ impl<T: Drop> List<T> {
     {
         self.items.push(x)?;
         Ok(())
+    }
+
+    /// Removes the last item.
+    pub(crate) fn take_back(&mut self)
+        requires { 0 < length self.old }
+        ensures { self.new ≡ take (length self.old - 1) self.old }
+    {
+        self.items.pop();
     }
 
     /// Puts an item in the place of the one at `at`, counted from 0.

@@ -1,5 +1,5 @@
-ghost use Rattle.std.specs.Prelude.{◌≡◌, ◌↔◌, [], ◌∷◌, ◌++◌, false, Contains, IfSome, IsNone, OnOk, OnErr, IsTrue};
-ghost use Rattle.cca_base.specs.Model.{WellFormed, IsMended, is_broken, is_used, empty_model, with_component, with_variable, with_rule, with_command, with_move, with_failure};
+ghost use Rattle.std.specs.Prelude.{◌≡◌, ◌↔◌, [], ◌∷◌, ◌++◌, ◌-◌, ◌<◌, false, length, Contains, IfSome, IsNone, OnOk, OnErr, IsTrue};
+ghost use Rattle.cca_base.specs.Model.{WellFormed, IsMended, is_broken, is_used, empty_model, with_component, with_variable, with_rule, with_command, without_last_command, with_move, with_failure};
 
 use crate::formula::Formula;
 use crate::list::List;
@@ -200,6 +200,16 @@ impl Model {
         self.commands.push(x)
     }
 
+    /// Removes the last command, which no move has.
+    #[tactic(auto, using(crate::proofs::TakenBack::taken_back))]
+    pub fn take_back_command(&mut self)
+        requires some { 0 < length self.old.commands }
+        requires unused { is_used self.old.moves (length self.old.commands - 1) ≡ false }
+        ensures { self.new ≡ without_last_command self.old }
+    {
+        self.commands.take_back();
+    }
+
     /// Puts a move behind the others.
     /// The error is want of memory, and the move is gone then.
     pub fn add_move(&mut self, x: Move) -> Result<(), AllocError>
@@ -246,8 +256,9 @@ impl Model {
     /// The component that a command moves.
     pub fn component_of(&self, command: u16) -> u16
         requires { IsTrue (is_used self.now.moves command) }
-        ensures { (move : Move) × Contains self.now.moves move
+        ensures component { (move : Move) × Contains self.now.moves move
             × (move.command ≡ command) × (move.component ≡ result) }
+        ensures well_formed { WellFormed self.now }
     {
         for x in self.moves().as_slice() {
             if x.command == command {
