@@ -1,0 +1,10 @@
+pub mod PlansLemmas
+pub mod EstimatesLemmas
+pub mod GoalsLemmas
+pub mod CostsLemmas
+pub mod OrderLemmas
+pub mod PickLemmas
+pub mod TraceLemmas
+pub mod CompiledLemmas
+pub mod EmptyLemmas
+pub mod LampLemmas

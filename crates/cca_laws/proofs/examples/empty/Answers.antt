@@ -1,0 +1,5 @@
+use Rattle.cca_laws.proofs.EmptyLemmas.{empty_compiled, empty_trace}
+use Rattle.cca_laws.proofs.examples.empty.Goals as goal
+
+pub returns : goal.returns
+returns c = (empty_compiled, empty_trace)

@@ -1,0 +1,5 @@
+use Rattle.cca_laws.proofs.LampLemmas.{lamp_is_lit}
+use Rattle.cca_laws.proofs.examples.lamp.Goals as goal
+
+pub returns : goal.returns
+returns c = lamp_is_lit

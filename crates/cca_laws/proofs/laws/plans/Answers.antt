@@ -1,0 +1,17 @@
+use Rattle.cca_laws.proofs.PlansLemmas.{runs_join, allowed_run, mends_itself, repair_allowed, implicant_gives_step}
+use Rattle.cca_laws.proofs.laws.plans.Goals as goal
+
+pub returns-clause-join : goal.returns-clause-join
+returns-clause-join c = runs_join
+
+pub returns-clause-allowed : goal.returns-clause-allowed
+returns-clause-allowed c = allowed_run
+
+pub returns-clause-itself : goal.returns-clause-itself
+returns-clause-itself c = mends_itself
+
+pub returns-clause-repairs : goal.returns-clause-repairs
+returns-clause-repairs c = repair_allowed
+
+pub returns-clause-implicants : goal.returns-clause-implicants
+returns-clause-implicants c = implicant_gives_step

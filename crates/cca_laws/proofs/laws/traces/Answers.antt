@@ -1,0 +1,8 @@
+use Rattle.cca_laws.proofs.TraceLemmas.{one_seen, one_fixed_trace}
+use Rattle.cca_laws.proofs.laws.traces.Goals as goal
+
+pub returns-clause-observed : goal.returns-clause-observed
+returns-clause-observed c = one_seen
+
+pub returns-clause-fixed : goal.returns-clause-fixed
+returns-clause-fixed c = one_fixed_trace

@@ -1,0 +1,15 @@
+//! Functions that cite the definitions of the base crate, so that each of them is read, and laws that test them.
+#![tactic(auto)]
+
+ghost use Rattle.cca_laws.specs.Cited.{Cited};
+
+mod examples;
+mod laws;
+
+pub use examples::{empty, lamp};
+pub use laws::{compiled, costs, estimates, goals, orders, plans, traces};
+
+/// The definitions are cited.
+pub fn cited()
+    ensures { Cited → Cited }
+{}
