@@ -11,21 +11,27 @@ use Rattle.text_base.specs.Tokens.{Tok}
 abbrev pub Lexeme : Type 0
 Lexeme = Kind × List ℕ
 
+-- what a token is, apart from where it stands
 abbrev pub lexeme : Tok → Lexeme
 lexeme t = (t.kind, t.text)
 
+-- the same of a token of the code
 abbrev pub lexeme_of : Token → Lexeme
 lexeme_of t = (t.kind, t.text.now)
 
+-- the word with this text
 abbrev pub word : List ℕ → Lexeme
 word text = (Word, text)
 
+-- the number with these digits
 abbrev pub number : List ℕ → Lexeme
 number text = (Number, text)
 
+-- the symbol with this text
 abbrev pub symbol : List ℕ → Lexeme
 symbol text = (Symbol, text)
 
+-- whether two kinds are one
 abbrev pub same_kind : Kind → Kind → Bool
 same_kind Word Word = true
 same_kind Number Number = true
@@ -55,9 +61,11 @@ abbrev pub name_word_at : List Lexeme → Option (List ℕ × List Lexeme)
 name_word_at [] = None
 name_word_at (l ∷ ls) = if is_name_word l then Some (l.1, ls) else None
 
+-- the symbol between the parts of a list
 abbrev pub comma : Lexeme
 comma = symbol (codes ",")
 
+-- a name, put before what was read behind it
 abbrev pub with_name : List ℕ → Option (List (List ℕ) × List Lexeme) → Option (List (List ℕ) × List Lexeme)
 with_name name None = None
 with_name name (Some read) = Some (name ∷ read.0, read.1)

@@ -5,6 +5,7 @@ ghost use Rattle.text_base.specs.Tokens.{Tok, IsPartOf, IsOfItsKind, Rise, piece
 
 use crate::bytes::{digits_len, is_blank, is_comment_byte, is_symbol, word_len};
 use std::alloc::{AllocError, AllocFailed, Global};
+use thiserror::Error;
 
 /// What a token's bytes are.
 #[derive(Clone, Copy, Debug, PartialEq, Eq)]
@@ -30,9 +31,13 @@ pub struct BadByte {
 }
 
 /// Why a line has no tokens.
-#[derive(Clone, Copy, Debug, PartialEq, Eq)]
+#[derive(Clone, Copy, Debug, PartialEq, Eq, Error)]
 pub enum TokenFault {
+    /// A byte belongs to nothing.
+    #[error("a byte of the line belongs to no token")]
     Bad(BadByte),
+    /// There was not enough memory.
+    #[error("out of memory")]
     Memory,
 }
 
