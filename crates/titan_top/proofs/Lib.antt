@@ -1,6 +1,9 @@
+pub mod Grammar
 pub mod LineLaws
+pub mod ListGrammar
 pub mod PairLemmas
 pub mod PlannerLemmas
+pub mod PositionLemmas
 pub mod ScriptLemmas
 pub mod Sending
 pub mod SessionLemmas

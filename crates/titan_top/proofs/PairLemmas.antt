@@ -1,5 +1,5 @@
 -- Pairs read one after the other, as a loop does.
-use Rattle.std.proofs.Common.{◌≡◌, ℕ, suc, ◌+◌, ◌-◌, ◌≤◌, Bool, true, false, cond, ◌&&◌, codes, List, [], ◌∷◌, ◌++◌, length, drop, take, map, Option, Some, None, refl, sym, ap, subst, ◌∙◌, append_assoc, arith, length-drop}
+use Rattle.std.proofs.Common.{◌≡◌, ℕ, suc, ◌+◌, ◌-◌, ◌≤◌, Bool, true, false, cond, ◌&&◌, codes, List, [], ◌∷◌, ◌++◌, length, drop, take, map, Option, Some, None, refl, sym, ap, ◌∙◌, append_assoc, arith, length-drop}
 use Rattle.std.proofs.lemmas.List.{take_rest, drop-drop, drop-map, length-map}
 use Rattle.text_base.specs.declared.token.Token.{Token}
 use Rattle.text_base.specs.Lexemes.{Lexeme, lexeme_of, symbol, is_lexeme, is_name_word, next_is, name_word_at, comma}
@@ -109,12 +109,12 @@ none_found (a ∷ b ∷ c ∷ []) e = rw (if_none (is_pair a b c) _ (sym (e ∙ 
 none_found (a ∷ b ∷ c ∷ d ∷ ls) e = rw (if_none (is_pair a b c) _ (sym (e ∙ pair_cases a b c (d ∷ ls)))) refl
 
 -- the last pair
-last_pair : (a b c : Lexeme) (behind : List Lexeme) → is_pair a b c ≡ true → next_is comma behind ≡ None → pairs_at (a ∷ b ∷ c ∷ behind) ≡ Some (pair_of_words a c ∷ [], behind)
+pub last_pair : (a b c : Lexeme) (behind : List Lexeme) → is_pair a b c ≡ true → next_is comma behind ≡ None → pairs_at (a ∷ b ∷ c ∷ behind) ≡ Some (pair_of_words a c ∷ [], behind)
 last_pair a b c [] h e = rw h refl
 last_pair a b c (d ∷ ds) h e = rw (h, if_none (is_lexeme comma d) ds e) refl
 
 -- a pair with a comma behind it
-next_pair : (a b c : Lexeme) (behind more : List Lexeme) → is_pair a b c ≡ true → next_is comma behind ≡ Some more → pairs_at (a ∷ b ∷ c ∷ behind) ≡ with_pair (pair_of_words a c) (pairs_at more)
+pub next_pair : (a b c : Lexeme) (behind more : List Lexeme) → is_pair a b c ≡ true → next_is comma behind ≡ Some more → pairs_at (a ∷ b ∷ c ∷ behind) ≡ with_pair (pair_of_words a c) (pairs_at more)
 next_pair a b c [] more h e = absurd cc
 next_pair a b c (d ∷ ds) more h e =
     let p = if_some (is_lexeme comma d) ds more e in

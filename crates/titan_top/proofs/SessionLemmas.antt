@@ -1,21 +1,19 @@
 -- Sessions that stay sound from line to line.
-use Rattle.std.proofs.Common.{◌≡◌, ◌<◌, ℕ, true, false, List, [], ◌∷◌, ◌++◌, length, map, Option, Some, None, All, IsTrue, slice_index, refl, sym, ap, subst, ◌∙◌}
+use Rattle.std.proofs.Common.{◌≡◌, ◌<◌, ℕ, true, false, List, length, map, Option, Some, None, All, IsTrue, slice_index, sym, ap, subst, ◌∙◌}
 use Rattle.std.specs.Prelude.{IfSome}
 use Rattle.std.proofs.lemmas.List.Elements.{All-weaker}
 use Rattle.cca_base.specs.declared.model.Component.{Component}
-use Rattle.cca_base.specs.declared.model.Move.{Move}
 use Rattle.cca_base.specs.declared.cube.Pair.{Pair}
 use Rattle.cca_base.specs.declared.state.Goal.{Goal}
 use Rattle.cca_base.specs.declared.formula.Formula.TheVariants.{True}
 use Rattle.cca_base.specs.Automata.{Automata}
 use Rattle.cca_base.specs.Names.{is_name}
 use Rattle.cca_base.specs.Model.{WellFormed, HasMode, mode_counts, with_component, with_command, with_move}
-use Rattle.cca_base.specs.State.{IsState}
 use Rattle.cca_base.proofs.Growth.{command_kept}
 use Rattle.titan_top.specs.declared.session.Session.{Session}
-use Rattle.titan_top.specs.Session.{declared_component, is_command, with_named, command_number, plain_move, has_room_for_move, add_part}
+use Rattle.titan_top.specs.Session.{takes_component, new_component, is_command, with_named, command_number, plain_move, has_room_for_move, add_part}
 use Rattle.titan_top.specs.Sound.{IsPlain, IsSound}
-use Rattle.titan_top.proofs.SoundSteps.{absent}
+use Rattle.titan_top.proofs.SoundSteps.{absent, declared}
 use Rattle.titan_top.proofs.SoundLemmas.{component_plain, state_with_component, mode_kept, move_well_formed, move_plain}
 
 -- a command that is new
@@ -42,12 +40,14 @@ goal_kept : (m : Automata) (x : Component) (goal : Option Goal) → IfSome goal 
 goal_kept m x None h = tt
 goal_kept m x (Some g) h = All-weaker (λ (p : Pair). HasMode m p.item p.value) (λ (p : Pair). HasMode (with_component m x) p.item p.value) (λ p k. mode_kept m x p.item p.value k) g.pairs h
 
-pub sound_with_component : (s : Session) (x : Component) (name : List ℕ) (modes : List (List ℕ)) (start : List ℕ) → IsSound s → declared_component name modes start ≡ Some x → IsSound (add_part s x)
-sound_with_component s x name modes start h e = record {
-  model = component_plain s.model x h.model;
-  state = state_with_component s.model x name modes start s.state.modes e h.state;
-  goal = goal_kept s.model x s.goal h.goal;
-}
+pub sound_with_component : (s : Session) (name : List ℕ) (modes : List (List ℕ)) (start : ℕ) → IsSound s → takes_component s.model name modes ≡ true → start < length modes → IsSound (add_part s (new_component name modes start))
+sound_with_component s name modes start h takes within =
+    let x : Component = new_component name modes start in
+    record {
+      model = component_plain s.model x h.model;
+      state = state_with_component s.model x s.state.modes (declared s.model name modes start takes within).good h.state;
+      goal = goal_kept s.model x s.goal h.goal;
+    }
 
 same_counts : (m n : Automata) → n.components ≡ m.components → mode_counts n ≡ mode_counts m
 same_counts m n e = ap (map (λ (c : Component). length c.modes)) e

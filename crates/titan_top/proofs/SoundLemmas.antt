@@ -14,11 +14,11 @@ use Rattle.cca_base.specs.declared.cube.Pair.{Pair}
 use Rattle.cca_base.specs.declared.limits.TheConstants.{MAX_COMPONENTS, MAX_MOVES}
 use Rattle.cca_base.specs.Automata.{Automata}
 use Rattle.cca_base.specs.Names.{is_name}
-use Rattle.cca_base.specs.Model.{WellFormed, HasMode, IsMove, mode_counts, names_of, is_used, with_component, with_command, with_move}
+use Rattle.cca_base.specs.Model.{WellFormed, HasMode, IsComponent, IsMove, mode_counts, names_of, is_used, with_component, with_command, with_move}
 use Rattle.cca_base.specs.State.{IsState}
 use Rattle.cca_base.proofs.FormulaGrowth.{counts_push}
 use Rattle.cca_base.proofs.Growth.{component_kept, command_kept}
-use Rattle.titan_top.specs.Session.{start, place_of, mode_number, declared_component, has_room_for_component, is_command, with_named, command_number, is_free, plain_move, has_room_for_move, in_order}
+use Rattle.titan_top.specs.Session.{start, place_of, mode_number, are_choices, takes_component, new_component, is_command, with_named, command_number, is_free, plain_move, has_room_for_move, in_order}
 use Rattle.titan_top.specs.Sound.{IsPlain, IsSound}
 use Rattle.titan_top.proofs.SoundSteps.{bind_some, absent, number_found, number_past, nothing, mode_within, IsDeclared, declared, named_old, named_new, number_at_most, true_is_formula, ordinary_move, plain_push, All-find}
 
@@ -55,10 +55,12 @@ mode_kept m x c mode h =
     let same : slice_index (mode_counts (with_component m x)) c ≡ slice_index (mode_counts m) c = counts_push (λ (y : Component). length y.modes) m.components x c (omega arith) in
     subst (λ n. mode < n) (sym same) h
 
-pub component_well_formed : (m : Automata) (x : Component) (name : List ℕ) (modes : List (List ℕ)) (start : List ℕ) → WellFormed m → IsPlain m → has_room_for_component m name ≡ true → declared_component name modes start ≡ Some x → WellFormed (with_component m x)
-component_well_formed m x name modes start w p room e =
-    let free = and_parts (nat_lt (length m.components) MAX_COMPONENTS) (not (list_any (λ c. bytes_eq c.name name) m.components)) room in
-    let d : IsDeclared name x = declared x name modes start e in
+pub component_well_formed : (m : Automata) (name : List ℕ) (modes : List (List ℕ)) (start : ℕ) → WellFormed m → IsPlain m → takes_component m name modes ≡ true → start < length modes → WellFormed (with_component m (new_component name modes start))
+component_well_formed m name modes start w p takes within =
+    let x : Component = new_component name modes start in
+    let room = and_parts (nat_lt (length m.components) MAX_COMPONENTS && not (list_any (λ c. bytes_eq c.name name) m.components)) (is_name name && are_choices modes) takes in
+    let free = and_parts (nat_lt (length m.components) MAX_COMPONENTS) (not (list_any (λ c. bytes_eq c.name name) m.components)) room.0 in
+    let d : IsDeclared name x = declared m name modes start takes within in
     let others : All (λ n. n ≢ name) (map (λ c. c.name) m.components) =
     All-map (λ n. n ≢ name) (λ (c : Component). c.name) m.components (absent (λ (c : Component). c.name) name m.components (not-true (list_any (λ c. bytes_eq c.name name) m.components) free.1))
     in
@@ -71,8 +73,8 @@ pub component_plain : (m : Automata) (x : Component) → IsPlain m → IsPlain (
 component_plain m x p = record { no_variables = p.no_variables; no_repairs = p.no_repairs; complete = p.complete; few_commands = p.few_commands }
 
 -- a component that is new starts in its start mode
-pub state_with_component : (m : Automata) (x : Component) (name : List ℕ) (modes : List (List ℕ)) (start : List ℕ) (s : List ℕ) → declared_component name modes start ≡ Some x → IsState m s → IsState (with_component m x) (s ++ x.start ∷ [])
-state_with_component m x name modes start s e h =
+pub state_with_component : (m : Automata) (x : Component) (s : List ℕ) → IsComponent x → IsState m s → IsState (with_component m x) (s ++ x.start ∷ [])
+state_with_component m x s good h =
     let longer : length (m.components ++ x ∷ []) ≡ length m.components + 1 = length_push m.components x in
     let full : length s ≡ length m.components = h.full in
     record {
@@ -83,14 +85,13 @@ state_with_component m x name modes start s e h =
                 let same : slice_index (s ++ x.start ∷ []) c ≡ slice_index s c = get_or_append_left s (x.start ∷ []) 0 c (omega arith) in
                 subst (λ mode. HasMode (with_component m x) c mode) (sym same) (mode_kept m x c (slice_index s c) (h.modes c old))
             | inr new ↦
-                let d : IsDeclared name x = declared x name modes start e in
                 let size : length (mode_counts m) ≡ length m.components = length-map m.components (λ (y : Component). length y.modes) in
                 let last : slice_index (s ++ x.start ∷ []) c ≡ x.start = get_or_push s x.start 0 c (omega arith) in
                 let count : slice_index (mode_counts (with_component m x)) c ≡ length x.modes =
                 ap (λ counts. slice_index counts c) (map_push (λ (y : Component). length y.modes) m.components x) ∙ get_or_push (mode_counts m) (length x.modes) 0 c (omega arith)
                 in
-                let good : x.start < length x.modes = d.good.start in
-                subst (λ mode. HasMode (with_component m x) c mode) (sym last) (subst (λ n. x.start < n) (sym count) good)
+                let within_modes : x.start < length x.modes = good.start in
+                subst (λ mode. HasMode (with_component m x) c mode) (sym last) (subst (λ n. x.start < n) (sym count) within_modes)
           ];
     }
 

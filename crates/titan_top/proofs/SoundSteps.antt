@@ -1,13 +1,12 @@
 -- What the lemmas on sound sessions rest on: tests of names, the numbers of commands, and one move more.
-use Rattle.std.proofs.Common.{◌≡◌, ◌≢◌, ◌<◌, ◌≤◌, ◌+◌, ℕ, suc, Bool, true, false, ◌&&◌, ◌||◌, ◌==◌, ◌⊎◌, inl, inr, List, [], ◌∷◌, ◌++◌, length, Some, None, All, IsTrue, slice_index, refl, sym, ap, subst, ◌∙◌, arith}
+use Rattle.std.proofs.Common.{◌≡◌, ◌≢◌, ◌<◌, ◌≤◌, ◌+◌, ℕ, suc, Bool, true, false, ◌&&◌, ◌||◌, ◌==◌, ◌⊎◌, inl, inr, List, [], ◌∷◌, ◌++◌, length, Some, None, All, IsTrue, slice_index, refl, sym, ap, ◌∙◌, arith}
 use Rattle.std.specs.Prelude.{Option, not, nat_lt, nat_le, if◌then◌else◌, position, find, option_to_list}
 use Rattle.std.specs.List.{list_all, list_any, position_or_len}
 use Rattle.std.specs.Str.{bytes_eq}
 use Rattle.std.proofs.lemmas.Bool.{cases_lt, cases_Bool, and_parts, or_parts, or_cases, or_left, or_right, not-true, not_from_true, not_from_false, eq-eqb, eqb-true, eqb-false, ltb-false, leb-true, cond_both, cond-true, false≢true}
-use Rattle.std.proofs.lemmas.Option.{none-some, same_Some}
+use Rattle.std.proofs.lemmas.Option.{none-some}
 use Rattle.std.proofs.lemmas.List.{length_push, length-map, get_or_past}
 use Rattle.std.proofs.lemmas.List.Elements.{All-nil, All-cons, All-head, All-tail, All-push, All-weaker}
-use Rattle.std.proofs.lemmas.List.Quantifiers.{position-Some}
 use Rattle.std.proofs.lemmas.List.Kept.{AllPairs-cons}
 use Rattle.std.proofs.lemmas.List.Folds.{list_any_none, list_any-append}
 use Rattle.std.proofs.lemmas.List.Sums.{AllPass-from_list_all}
@@ -18,14 +17,14 @@ use Rattle.cca_base.specs.declared.formula.Formula as formula
 use Rattle.cca_base.specs.declared.formula.Formula.TheVariants.{True}
 use Rattle.cca_base.specs.declared.formula.Formula.TheOpen.{Formula-F}
 use Rattle.cca_base.specs.declared.formula.Formula.TheFolds.{fold-roll-Formula}
-use Rattle.cca_base.specs.declared.limits.TheConstants.{MAX_CHOICES, MAX_MOVES}
+use Rattle.cca_base.specs.declared.limits.TheConstants.{MAX_CHOICES, MAX_COMPONENTS, MAX_MOVES}
 use Rattle.cca_base.specs.Automata.{Automata}
-use Rattle.cca_base.specs.Names.{is_name, AreDifferent}
+use Rattle.cca_base.specs.Names.{is_word, is_reserved, is_name, AreDifferent}
 use Rattle.cca_base.specs.Formula.{fits_step, depth, Printed, printed_step}
 use Rattle.cca_base.specs.Model.{WellFormed, HasMode, AreChoices, IsComponent, IsFormula, IsMove, mode_counts, value_counts, is_broken, is_repair_of, is_used, with_command, with_move}
 use Rattle.cca_base.proofs.Growth.{move_kept, ordinary_fits}
 use Rattle.titan_top.specs.Items.{◌>>=◌}
-use Rattle.titan_top.specs.Session.{place_of, number_or, all_different, are_choices, declared_component, is_command, with_named, command_number, is_free}
+use Rattle.titan_top.specs.Session.{number_or, all_different, are_choices, takes_component, new_component, is_command, with_named, command_number, is_free}
 use Rattle.titan_top.specs.Sound.{IsPlain}
 
 -- ---- options
@@ -118,22 +117,27 @@ choices modes mode h within =
       few = leb-true (length modes) MAX_CHOICES parts.0;
     }
 
-abbrev part : List ℕ → List (List ℕ) → ℕ → Component
-part name modes mode = record { name = name; modes = modes; start = mode }
+pub declared : (m : Automata) (name : List ℕ) (modes : List (List ℕ)) (start : ℕ) → takes_component m name modes ≡ true → start < length modes → IsDeclared name (new_component name modes start)
+declared m name modes start takes within =
+    let parts = and_parts (nat_lt (length m.components) MAX_COMPONENTS && not (list_any (λ c. bytes_eq c.name name) m.components)) (is_name name && are_choices modes) takes in
+    let tests = and_parts (is_name name) (are_choices modes) parts.1 in
+    record { named = tests.0; same_name = refl; good = record { modes = choices modes start tests.1 within; start = within } }
 
-pub declared : (x : Component) (name : List ℕ) (modes : List (List ℕ)) (start : List ℕ) → declared_component name modes start ≡ Some x → IsDeclared name x
-declared x name modes start e =
-    let chosen = if_some (is_name name && are_choices modes) (place_of modes start >>= λ mode. Some (part name modes mode)) x e in
-    let tests = and_parts (is_name name) (are_choices modes) chosen.0 in
-    let found = bind_some {B = Component} (place_of modes start) (λ mode. Some (part name modes mode)) x chosen.1 in
-    let mode : ℕ = found.0 in
-    let same : part name modes mode ≡ x = same_Some (part name modes mode) x found.2 in
-    let here = position-Some (λ name. bytes_eq name start) modes mode [] found.1 in
-    record {
-      named = tests.0;
-      same_name = sym (ap (λ (y : Component). y.name) same);
-      good = subst IsComponent same (record { modes = choices modes mode tests.1 here.0; start = here.0 });
-    }
+-- the parts of a component that is taken are small
+pub name_short : (m : Automata) (name : List ℕ) (modes : List (List ℕ)) → takes_component m name modes ≡ true → length name ≤ 32
+name_short m name modes takes =
+    let parts = and_parts (nat_lt (length m.components) MAX_COMPONENTS && not (list_any (λ c. bytes_eq c.name name) m.components)) (is_name name && are_choices modes) takes in
+    let named = and_parts (is_name name) (are_choices modes) parts.1 in
+    let word = and_parts (is_word name) (nat_le (length name) 32 && not (is_reserved name)) named.0 in
+    let short = and_parts (nat_le (length name) 32) (not (is_reserved name)) word.1 in
+    leb-true (length name) 32 short.0
+
+pub few_modes : (m : Automata) (name : List ℕ) (modes : List (List ℕ)) → takes_component m name modes ≡ true → length modes ≤ 16
+few_modes m name modes takes =
+    let parts = and_parts (nat_lt (length m.components) MAX_COMPONENTS && not (list_any (λ c. bytes_eq c.name name) m.components)) (is_name name && are_choices modes) takes in
+    let named = and_parts (is_name name) (are_choices modes) parts.1 in
+    let few = and_parts (nat_le (length modes) 16) (list_all is_name modes && all_different modes) named.1 in
+    leb-true (length modes) 16 few.0
 
 -- ---- commands
 

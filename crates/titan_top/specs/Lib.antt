@@ -3,6 +3,7 @@ pub mod Lines
 pub mod Planner
 pub mod Session
 pub mod Sound
+pub mod Statuses
 pub mod Text
 pub mod TickLine
 pub mod Wire

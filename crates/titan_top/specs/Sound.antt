@@ -1,5 +1,5 @@
 -- What is true of each session.
-use Rattle.std.specs.Prelude.{◌≡◌, ℕ, ◌≤◌, false, List, [], length, All, IfSome}
+use Rattle.std.specs.Prelude.{◌≡◌, ◌≤◌, false, [], length, All, IfSome}
 use Rattle.cca_base.specs.Automata.{Automata}
 use Rattle.cca_base.specs.Model.{HasMode, IsComplete}
 use Rattle.cca_base.specs.State.{IsState}

@@ -1,5 +1,5 @@
 -- The whole text and the status for words and an input.
-use Rattle.std.specs.Prelude.{◌≡◌, ℕ, ◌+◌, List, [], ◌∷◌, ◌++◌, length, Option, Some, None, codes, if◌then◌else◌, nat_lt, String}
+use Rattle.std.specs.Prelude.{◌==◌, ◌≡◌, ℕ, ◌+◌, List, [], ◌∷◌, ◌++◌, length, Option, Some, None, codes, if◌then◌else◌, nat_lt, String}
 use Rattle.std.specs.Global.{Global}
 use Rattle.std.specs.Fmt.{decimal}
 use Rattle.titan_top.specs.Lines.{lines_of}
@@ -12,7 +12,8 @@ use Rattle.titan_top.specs.declared.status.Status.TheVariants.{Ended, Rejected, 
 use Rattle.titan_top.specs.declared.words.Form.{Form}
 use Rattle.titan_top.specs.declared.words.Form.TheVariants.{Run}
 use Rattle.titan_top.specs.declared.input.TheConstants.{MAX_INPUT}
-use Rattle.titan_top.specs.Session.{Next, Goes, unsupported, start, after_line}
+use Rattle.titan_top.specs.declared.stops.TheConstants.{MALFORMED, NAME_UNKNOWN, ENDS_EARLY, UNSUPPORTED}
+use Rattle.titan_top.specs.Session.{Next, Goes, start, after_line}
 use Rattle.titan_top.specs.Session as session
 
 -- what is printed and the status that it ends with, where no fault comes
@@ -20,13 +21,24 @@ pub record Outcome : Type 0 where
   pub text : List ℕ
   pub status : Status
 
--- the line of a refusal; there is one code in these forms
-unfoldable pub refusal_text : ℕ → ℕ → List ℕ
-refusal_text line code = codes "refused " ++ decimal line ++ 32 ∷ decimal code ++ codes " unsupported" ++ 10 ∷ []
+-- the name of a code
+abbrev pub code_name : ℕ → List ℕ
+code_name code =
+    if code == MALFORMED then codes "malformed"
+    else (if code == NAME_UNKNOWN then codes "name_unknown"
+    else (if code == ENDS_EARLY then codes "ends_early"
+    else (if code == UNSUPPORTED then codes "unsupported"
+    else [])))
 
+-- the line of a refusal
+unfoldable pub refusal_text : ℕ → ℕ → List ℕ
+refusal_text line code = codes "refused " ++ decimal line ++ 32 ∷ decimal code ++ 32 ∷ code_name code ++ 10 ∷ []
+
+-- the outcome of a refusal
 abbrev pub refusal : ℕ → ℕ → Outcome
 refusal line code = record { text = refusal_text line code; status = Refused }
 
+-- a text that is printed before the rest
 abbrev pub with_text : List ℕ → Outcome → Outcome
 with_text text o = record { text = text ++ o.text; status = o.status }
 
@@ -38,8 +50,8 @@ outcome_after (session.Refused code) line rest = refusal line code
 -- the outcome where no line is left after n lines: the input is to end behind the line `script`
 abbrev pub outcome_at_end : Stage → ℕ → Outcome
 outcome_at_end stage.Running n = record { text = []; status = Ended }
-outcome_at_end stage.Opening n = refusal n unsupported
-outcome_at_end stage.Modelling n = refusal n unsupported
+outcome_at_end stage.Opening n = refusal n ENDS_EARLY
+outcome_at_end stage.Modelling n = refusal n ENDS_EARLY
 
 -- the outcome of the lines that are left after n lines
 unfoldable pub outcome_from : Session → ℕ → List (List ℕ) → Outcome
@@ -48,14 +60,17 @@ outcome_from s n (l ∷ ls) = outcome_after (after_line s l) (n + 1) (λ t. outc
 
 -- the outcome of a run; an input past the limit is refused before its first line
 abbrev pub run_outcome : List ℕ → Outcome
-run_outcome input = if nat_lt MAX_INPUT (length input) then refusal 0 unsupported else outcome_from start 0 (lines_of input)
+run_outcome input = if nat_lt MAX_INPUT (length input) then refusal 0 UNSUPPORTED else outcome_from start 0 (lines_of input)
 
+-- the line for words of no form
 abbrev pub usage_text : List ℕ
 usage_text = codes "usage: see the forms of titan" ++ 10 ∷ []
 
+-- the outcome for words of no form
 abbrev pub usage : Outcome
 usage = record { text = usage_text; status = Usage }
 
+-- the outcome for a form of words
 abbrev pub outcome_of : Option Form → List ℕ → Outcome
 outcome_of None input = usage
 outcome_of (Some Run) input = run_outcome input

@@ -11,5 +11,6 @@ form_of [] = None
 form_of (a ∷ []) = if bytes_eq a (codes "run") then Some Run else None
 form_of (a ∷ b ∷ cs) = None
 
+-- the bytes of the words
 abbrev pub texts : List (String Global) → List (List ℕ)
 texts words = map string_bytes words

@@ -1,7 +1,10 @@
-ghost use Rattle.std.specs.Prelude.{◌≡◌, ◌∷◌, List, Some, None, codes, map, IfOk};
+ghost use Rattle.std.specs.Prelude.{◌≡◌, ◌∷◌, List, Some, None, codes, map, IfOk, take, drop};
 ghost use Rattle.std.specs.Option.{option_map};
 ghost use Rattle.text_base.specs.Lexemes.{lexeme_of};
-ghost use Rattle.titan_top.specs.Items.{pair_at, pairs_at, ended, header_at, component_at, move_at, goal_at, item_of, shown_pair, shown_item};
+ghost use Rattle.std.specs.List.{list_any};
+ghost use Rattle.std.specs.Str.{bytes_eq};
+ghost use Rattle.text_base.specs.Lexemes.{Lexeme};
+ghost use Rattle.titan_top.specs.Items.{Item as SpelledItem, IsSpelled, spelling, unbuilt_words, is_unbuilt, pair_at, pairs_at, ended, followed, header_at, component_at, move_at, goal_at, item_of, shown_pair, shown_item};
 
 use std::alloc::{AllocError, Global};
 use text_base::{Kind, Token, is_lexeme, name_word_at, names_at, next_is};
@@ -15,7 +18,7 @@ pub struct NamedPair<'a> {
 
 /// What a line says, by words in place of names.
 #[derive(Debug, Drop)]
-pub enum Item<'a> {
+pub enum Item<'a, 'b> {
     Header,
     Component {
         name: &'a [u8],
@@ -27,17 +30,31 @@ pub enum Item<'a> {
         source: &'a [u8],
         target: &'a [u8],
         command: &'a [u8],
+        /// All that stands behind `when`.
+        guard: &'b [Token<'a>],
     },
     Script,
     Goal(Vec<NamedPair<'a>>),
     Tick,
+    /// A line whose form is not built yet.
+    Unbuilt {
+        first: &'a [u8],
+        rest: &'b [Token<'a>],
+    },
 }
 
 /// The item, where nothing follows.
-fn ended<'a>(item: Item<'a>, tokens: &[Token]) -> Option<Item<'a>>
+fn ended<'a, 'b>(item: Item<'a, 'b>, tokens: &[Token]) -> Option<Item<'a, 'b>>
     ensures { option_map shown_item result ≡ ended (shown_item item.entry) (map lexeme_of tokens.now) }
 {
     if tokens.is_empty() { Some(item) } else { None }
+}
+
+/// The item, where something follows.
+fn followed<'a, 'b>(item: Item<'a, 'b>, tokens: &[Token]) -> Option<Item<'a, 'b>>
+    ensures { option_map shown_item result ≡ followed (shown_item item.entry) (map lexeme_of tokens.now) }
+{
+    if tokens.is_empty() { None } else { Some(item) }
 }
 
 /// The pair at the front of the tokens, and what stands behind it.
@@ -71,7 +88,7 @@ fn pairs_at<'a, 'b>(
 }
 
 #[tactic(auto, unfolding(crate::specs::Items::header_at))]
-fn header_at<'a>(tokens: &[Token<'a>]) -> Option<Item<'a>>
+fn header_at<'a, 'b>(tokens: &'b [Token<'a>]) -> Option<Item<'a, 'b>>
     ensures { option_map shown_item result ≡ header_at (map lexeme_of tokens.now) }
 {
     let rest = next_is(Kind::Number, b"1", tokens)?;
@@ -79,7 +96,10 @@ fn header_at<'a>(tokens: &[Token<'a>]) -> Option<Item<'a>>
 }
 
 #[tactic(auto, unfolding(crate::specs::Items::component_at))]
-fn component_at<'a>(alloc: Global, tokens: &[Token<'a>]) -> Result<Option<Item<'a>>, AllocError>
+fn component_at<'a, 'b>(
+    alloc: Global,
+    tokens: &'b [Token<'a>],
+) -> Result<Option<Item<'a, 'b>>, AllocError>
     ensures { IfOk result (λ read. option_map shown_item read ≡ component_at (map lexeme_of tokens.now)) }
 {
     let Some((name, rest)) = name_word_at(tokens) else {
@@ -101,7 +121,7 @@ fn component_at<'a>(alloc: Global, tokens: &[Token<'a>]) -> Result<Option<Item<'
 }
 
 #[tactic(auto, unfolding(crate::specs::Items::move_at))]
-fn move_at<'a>(tokens: &[Token<'a>]) -> Option<Item<'a>>
+fn move_at<'a, 'b>(tokens: &'b [Token<'a>]) -> Option<Item<'a, 'b>>
     ensures { option_map shown_item result ≡ move_at (map lexeme_of tokens.now) }
 {
     let (name, rest) = name_word_at(tokens)?;
@@ -110,19 +130,22 @@ fn move_at<'a>(tokens: &[Token<'a>]) -> Option<Item<'a>>
     let (target, rest) = name_word_at(rest)?;
     let rest = next_is(Kind::Word, b"by", rest)?;
     let (command, rest) = name_word_at(rest)?;
-    let rest = next_is(Kind::Word, b"when", rest)?;
-    let rest = next_is(Kind::Word, b"true", rest)?;
+    let guard = next_is(Kind::Word, b"when", rest)?;
     let item = Item::Move {
         name,
         source,
         target,
         command,
+        guard,
     };
-    ended(item, rest)
+    followed(item, guard)
 }
 
 #[tactic(auto, unfolding(crate::specs::Items::goal_at))]
-fn goal_at<'a>(alloc: Global, tokens: &[Token<'a>]) -> Result<Option<Item<'a>>, AllocError>
+fn goal_at<'a, 'b>(
+    alloc: Global,
+    tokens: &'b [Token<'a>],
+) -> Result<Option<Item<'a, 'b>>, AllocError>
     ensures { IfOk result (λ read. option_map shown_item read ≡ goal_at (map lexeme_of tokens.now)) }
 {
     let Some((pairs, rest)) = pairs_at(alloc, tokens)? else {
@@ -131,8 +154,40 @@ fn goal_at<'a>(alloc: Global, tokens: &[Token<'a>]) -> Result<Option<Item<'a>>, 
     Ok(ended(Item::Goal(pairs), rest))
 }
 
+/// Whether the text is the first word of a model line that is not built yet.
+fn is_unbuilt_model_word(text: &[u8]) -> bool
+    ensures { result ≡ list_any (bytes_eq text.now) (take 4 unbuilt_words) }
+{
+    text == b"var".as_slice()
+        || text == b"rule".as_slice()
+        || text == b"repair".as_slice()
+        || text == b"fail".as_slice()
+}
+
+/// Whether the text is the first word of an event line that is not built yet.
+fn is_unbuilt_event_word(text: &[u8]) -> bool
+    ensures { result ≡ list_any (bytes_eq text.now) (drop 4 unbuilt_words) }
+{
+    text == b"clear".as_slice()
+        || text == b"observe".as_slice()
+        || text == b"fault".as_slice()
+        || text == b"mirror".as_slice()
+        || text == b"reset".as_slice()
+}
+
+/// Whether a line that begins so is not built yet.
+fn is_unbuilt(first: &Token) -> bool
+    ensures { result ≡ is_unbuilt (lexeme_of first.now) }
+{
+    first.kind == Kind::Word
+        && (is_unbuilt_model_word(first.text) || is_unbuilt_event_word(first.text))
+}
+
 /// What a line with these tokens says, if it has a form.
-pub fn item_of<'a>(alloc: Global, tokens: &[Token<'a>]) -> Result<Option<Item<'a>>, AllocError>
+pub fn item_of<'a, 'b>(
+    alloc: Global,
+    tokens: &'b [Token<'a>],
+) -> Result<Option<Item<'a, 'b>>, AllocError>
     ensures { IfOk result (λ read. option_map shown_item read ≡ item_of (map lexeme_of tokens.now)) }
 {
     match tokens {
@@ -150,9 +205,18 @@ pub fn item_of<'a>(alloc: Global, tokens: &[Token<'a>]) -> Result<Option<Item<'a
                 goal_at(alloc, rest)
             } else if is_lexeme(first, Kind::Word, b"tick") {
                 Ok(ended(Item::Tick, rest))
+            } else if is_unbuilt(first) {
+                let first = first.text;
+                Ok(Some(Item::Unbuilt { first, rest }))
             } else {
                 Ok(None)
             }
         }
     }
 }
+
+/// The grammar beside the reading: what an item spells is read as that item, and what is read as an item is its spelling.
+pub fn lines_are_spelled()
+    ensures read { (i : SpelledItem) → IsSpelled i → item_of (spelling i) ≡ Some i }
+    ensures spelled { (ls : List Lexeme) (i : SpelledItem) → item_of ls ≡ Some i → (ls ≡ spelling i) × IsSpelled i }
+{}

@@ -17,5 +17,6 @@ mod stops;
 mod top;
 mod words;
 
+pub use item::lines_are_spelled;
 pub use status::Status;
 pub use top::titan;

@@ -10,7 +10,7 @@ use crate::print::refusal_text;
 use crate::session::{Stage, start};
 use crate::status::Status;
 use crate::step::after_line;
-use crate::stops::{UNSUPPORTED, stop_code};
+use crate::stops::{ENDS_EARLY, stop_code};
 use std::alloc::Global;
 use titan_wire::{PutEnd, Sink, put_all};
 
@@ -55,7 +55,7 @@ fn finish<K: Sink>(alloc: Global, sink: &mut K, stage: Stage, lines: u64) -> Sta
 {
     match stage {
         Stage::Running => Status::Ended,
-        Stage::Opening | Stage::Modelling => refuse(alloc, sink, lines, UNSUPPORTED),
+        Stage::Opening | Stage::Modelling => refuse(alloc, sink, lines, ENDS_EARLY),
     }
 }
 

@@ -1,8 +1,9 @@
 ghost use Rattle.std.specs.Prelude.{◌≡◌, ◌+◌, ◌<◌, ◌^◌, ◌++◌, ◌∷◌, [], codes, IfOk, OnOk, slice_get};
 ghost use Rattle.std.specs.Fmt.{decimal};
 ghost use Rattle.titan_top.specs.TickLine.{text_or_nothing, name_at, pair_text, pair_text_at, modes_text, reply_text, tick_text};
-ghost use Rattle.titan_top.specs.Text.{refusal_text};
+ghost use Rattle.titan_top.specs.Text.{code_name, refusal_text};
 
+use crate::stops::{ENDS_EARLY, MALFORMED, NAME_UNKNOWN, UNSUPPORTED};
 use cca_base::{Component, Model, Name, Reply, State};
 use std::alloc::{AllocError, Global};
 
@@ -102,6 +103,19 @@ pub fn tick_text(
     Ok(out)
 }
 
+/// The name of a code.
+fn code_name(code: u8) -> &'static [u8]
+    ensures { result.now ≡ code_name code }
+{
+    match code {
+        MALFORMED => b"malformed",
+        NAME_UNKNOWN => b"name_unknown",
+        ENDS_EARLY => b"ends_early",
+        UNSUPPORTED => b"unsupported",
+        _ => b"",
+    }
+}
+
 /// The line of a refusal, with its LF.
 #[tactic(auto, unfolding(crate::specs::Text::refusal_text))]
 pub fn refusal_text(alloc: Global, line: u64, code: u8) -> Result<Vec<u8>, AllocError>
@@ -112,7 +126,8 @@ pub fn refusal_text(alloc: Global, line: u64, code: u8) -> Result<Vec<u8>, Alloc
     push_number(alloc, &mut out, line)?;
     out.push(b' ')?;
     push_number(alloc, &mut out, u64::from(code))?;
-    out.extend_from_slice(b" unsupported")?;
+    out.push(b' ')?;
+    out.extend_from_slice(code_name(code))?;
     out.push(b'\n')?;
     Ok(out)
 }

@@ -1,18 +1,19 @@
-ghost use Rattle.std.specs.Prelude.{◌≡◌, ◌<◌, ◌≤◌, ◌∷◌, ◌++◌, [], length, map, IfOk, OnOk, IfSome, IsTrue, slice_get, Some, None, true, is_some};
+ghost use Rattle.std.specs.Prelude.{◌≡◌, ◌<◌, ◌≤◌, ◌∷◌, ◌++◌, [], length, map, IfOk, OnOk, IfSome, IsTrue, position, slice_get, Some, None, true, is_some};
 ghost use Rattle.cca_base.specs.Names.{is_name};
 ghost use Rattle.std.specs.List.{list_any, list_all};
 ghost use Rattle.std.specs.Str.{bytes_eq};
 ghost use Rattle.cca_base.specs.Model.{HasMode, WellFormed};
-ghost use Rattle.titan_top.specs.Session.{AnswersNext, AnswersModel, go_on, place_of, component_number, mode_number, all_different, are_choices, declared_component, has_room_for_component, component_item, is_command, command_number, is_free, has_room_for_move, with_named, move_between, move_item};
+ghost use Rattle.titan_top.specs.Session.{AnswersNext, AnswersModel, go_on, place_of, component_number, mode_number, all_different, are_choices, start_mode, takes_component, component_item, ends_of, is_true, is_command, command_number, is_free, has_room_for_move, with_named, move_between, move_item};
+ghost use Rattle.text_base.specs.Lexemes.{lexeme_of};
 ghost use Rattle.titan_top.specs.Sound.{IsPlain, IsSound};
 
 use crate::session::Session;
-use crate::stops::unsupported;
+use crate::stops::{NAME_UNKNOWN, UNSUPPORTED, refused};
 use cca_base::{
     Component, Formula, List, MAX_CHOICES, MAX_COMPONENTS, MAX_MOVES, Model, Move, Name, Stop,
 };
 use std::alloc::{AllocError, Global};
-use text_base::read_name;
+use text_base::{Kind, Token, is_lexeme, read_name};
 
 /// The place of a name in a list.
 fn place_of(names: &[Name], text: &[u8]) -> Option<usize>
@@ -51,6 +52,12 @@ pub fn mode_number(model: &Model, c: u16, text: &[u8]) -> Option<u8>
     let component = model.components().get(c as usize);
     let mode = place_of(component.modes.as_slice(), text)?;
     Some(mode as u8)
+}
+
+fn is_name(text: &[u8]) -> bool
+    ensures { result ≡ is_name text.now }
+{
+    read_name(text).is_some()
 }
 
 /// Whether the name is one of the names.
@@ -104,26 +111,25 @@ fn choices_of(alloc: Global, words: &[&[u8]]) -> Result<Option<List<Name>>, Allo
     Ok(Some(names))
 }
 
-/// The component that a line declares, if its words are fit.
-fn declared_component(
-    alloc: Global,
-    name: &[u8],
-    modes: &[&[u8]],
-    start: &[u8],
-) -> Result<Option<Component>, AllocError>
-    ensures { IfOk result (λ declared. declared ≡ declared_component name.now (map (λ w. w.now) modes.now) start.now) }
+/// The place of a word in a list.
+fn place_of_word(words: &[&[u8]], text: &[u8]) -> Option<usize>
+    ensures place { result ≡ position (λ w. bytes_eq w.now text.now) words.now }
+    ensures within { IfSome result (λ k. k < length words.now) }
 {
-    let Some(name) = read_name(name) else {
-        return Ok(None);
-    };
-    let Some(modes) = choices_of(alloc, modes)? else {
-        return Ok(None);
-    };
-    let Some(start) = place_of(modes.as_slice(), start) else {
-        return Ok(None);
-    };
-    let start = start as u8;
-    Ok(Some(Component { name, modes, start }))
+    words.iter().position(|word| *word == text)
+}
+
+/// The number of the start mode among the words.
+#[tactic(auto, using(crate::proofs::PositionLemmas::position_map))]
+fn start_mode(modes: &[&[u8]], start: &[u8]) -> Option<usize>
+    ensures start { result ≡ start_mode (map (λ w. w.now) modes.now) start.now }
+    ensures within { IfSome result (λ k. k < length modes.now) }
+{
+    if is_name(start) {
+        place_of_word(modes, start)
+    } else {
+        None
+    }
 }
 
 /// Whether the model has a component of this name.
@@ -134,12 +140,22 @@ fn is_component(model: &Model, name: &[u8]) -> bool
     components.iter().any(|c| c.name.bytes() == name)
 }
 
-/// Whether the model takes one more component of this name.
-fn has_room_for_component(model: &Model, name: &[u8]) -> bool
-    ensures value { result ≡ has_room_for_component model.now name.now }
+/// The modes of a component of this name, where the model takes one with these modes.
+fn new_modes(
+    alloc: Global,
+    model: &Model,
+    name: &[u8],
+    modes: &[&[u8]],
+) -> Result<Option<List<Name>>, AllocError>
+    ensures takes { IfOk result (λ taken. is_some taken ≡ takes_component model.now name.now (map (λ w. w.now) modes.now)) }
+    ensures modes { IfOk result (λ taken. IfSome taken (λ list. list ≡ map (λ w. w.now) modes.now)) }
     ensures well_formed { WellFormed model.now }
 {
-    model.components().len() < MAX_COMPONENTS && !is_component(model, name)
+    if model.components().len() < MAX_COMPONENTS && !is_component(model, name) && is_name(name) {
+        choices_of(alloc, modes)
+    } else {
+        Ok(None)
+    }
 }
 
 /// Reads a line that declares a component.
@@ -155,11 +171,16 @@ pub fn component_item(
     ensures sound { OnOk result (IsSound session.new) }
     ensures ticks { OnOk result (session.new.ticks ≡ session.old.ticks) }
 {
-    if !has_room_for_component(&session.model, name) {
-        return Err(unsupported());
-    }
-    let Some(component) = declared_component(alloc, name, modes, start)? else {
-        return Err(unsupported());
+    let Some(start) = start_mode(modes, start) else {
+        return Err(refused(NAME_UNKNOWN));
+    };
+    let Some(modes) = new_modes(alloc, &session.model, name, modes)? else {
+        return Err(refused(UNSUPPORTED));
+    };
+    let component = Component {
+        name: Name::of(name),
+        modes,
+        start: start as u8,
     };
     session.state.modes.push(component.start)?;
     session.model.add_component(component)?;
@@ -233,7 +254,7 @@ fn add_move(model: &mut Model, c: u16, source: u8, target: u8, command: &[u8]) -
 {
     let number = command_number(model, command);
     let Some(name) = free_command(model, number, c, source, command) else {
-        return Err(unsupported());
+        return Err(refused(UNSUPPORTED));
     };
     use_command(model, name)?;
     model.add_move(Move {
@@ -247,6 +268,28 @@ fn add_move(model: &mut Model, c: u16, source: u8, target: u8, command: &[u8]) -
     Ok(())
 }
 
+/// The component of a move, and the modes between which it leads.
+fn ends_of(model: &Model, name: &[u8], source: &[u8], target: &[u8]) -> Option<(u16, u8, u8)>
+    ensures ends { result ≡ ends_of model.now name.now source.now target.now }
+    ensures source { IfSome result (λ ends. HasMode model.now ends.0 ends.1) }
+    ensures target { IfSome result (λ ends. HasMode model.now ends.0 ends.2) }
+{
+    let c = component_number(model, name)?;
+    let source = mode_number(model, c, source)?;
+    let target = mode_number(model, c, target)?;
+    Some((c, source, target))
+}
+
+/// Whether the guard is the word `true`.
+fn is_true(guard: &[Token]) -> bool
+    ensures { result ≡ is_true (map lexeme_of guard.now) }
+{
+    match guard {
+        [one] => is_lexeme(one, Kind::Word, b"true"),
+        _ => false,
+    }
+}
+
 /// Reads a line that declares a move.
 pub fn move_item(
     session: &mut Session,
@@ -254,20 +297,18 @@ pub fn move_item(
     source: &[u8],
     target: &[u8],
     command: &[u8],
+    guard: &[Token],
 ) -> Result<(), Stop>
     requires { IsSound session.old }
-    ensures next { AnswersNext (λ _. []) result session.new (go_on (move_item session.old name.now source.now target.now command.now)) }
+    ensures next { AnswersNext (λ _. []) result session.new (go_on (move_item session.old name.now source.now target.now command.now (map lexeme_of guard.now))) }
     ensures sound { OnOk result (IsSound session.new) }
     ensures ticks { OnOk result (session.new.ticks ≡ session.old.ticks) }
 {
-    let Some(c) = component_number(&session.model, name) else {
-        return Err(unsupported());
+    let Some((c, source, target)) = ends_of(&session.model, name, source, target) else {
+        return Err(refused(NAME_UNKNOWN));
     };
-    let Some(source) = mode_number(&session.model, c, source) else {
-        return Err(unsupported());
-    };
-    let Some(target) = mode_number(&session.model, c, target) else {
-        return Err(unsupported());
-    };
+    if !is_true(guard) {
+        return Err(refused(UNSUPPORTED));
+    }
     add_move(&mut session.model, c, source, target, command)
 }

@@ -10,7 +10,7 @@ use crate::planner::{obey, reply_to};
 use crate::print::tick_text;
 use crate::reader::{component_number, mode_number};
 use crate::session::Session;
-use crate::stops::unsupported;
+use crate::stops::{NAME_UNKNOWN, UNSUPPORTED, refused};
 use cca_base::{Goal, List, Model, Pair, Reply, Stop};
 use std::alloc::{AllocError, Global};
 
@@ -89,10 +89,10 @@ pub fn goal_item(alloc: Global, session: &mut Session, named: &[NamedPair]) -> R
     ensures ticks { OnOk result (session.new.ticks ≡ session.old.ticks) }
 {
     let Some(pairs) = pairs_of(alloc, &session.model, named)? else {
-        return Err(unsupported());
+        return Err(refused(NAME_UNKNOWN));
     };
     if !no_component_twice(&pairs) {
-        return Err(unsupported());
+        return Err(refused(UNSUPPORTED));
     }
     let pairs = in_order(alloc, session.model.components().len(), &pairs)?;
     session.goal = Some(Goal { pairs });

@@ -1,17 +1,26 @@
 ghost use Rattle.std.specs.Prelude.{◌≡◌};
-ghost use Rattle.titan_top.specs.Session.{FailsNext, Refused, unsupported, stop_code};
+ghost use Rattle.titan_top.specs.Session.{FailsNext, Refused, stop_code};
 
 use cca_base::{Detail, Refusal, Stop};
 
-/// The code of a line that is not taken.
+/// A line has no form.
+pub const MALFORMED: u8 = 1;
+
+/// A line names what isn't declared.
+pub const NAME_UNKNOWN: u8 = 2;
+
+/// The input ends before the script.
+pub const ENDS_EARLY: u8 = 17;
+
+/// A line is not taken yet.
 pub const UNSUPPORTED: u8 = 20;
 
-/// The refusal of a line that is not taken.
-pub fn unsupported() -> Stop
-    ensures { FailsNext result (Refused unsupported) }
+/// The refusal of a line with this code.
+pub fn refused(code: u8) -> Stop
+    ensures { FailsNext result (Refused code) }
 {
     Stop::Refused(Refusal {
-        code: UNSUPPORTED,
+        code,
         detail: Detail::Nothing,
     })
 }

@@ -1,8 +1,6 @@
-use Rattle.std.proofs.Common.{◌≡◌, ◌+◌, ◌≤◌, length}
-use Rattle.titan_top.specs.Lines.{lines_of}
+use Rattle.std.proofs.Common.{◌+◌, ◌≤◌, length}
 use Rattle.titan_top.specs.Session.{start}
 use Rattle.titan_top.specs.Sound.{IsSound}
-use Rattle.titan_top.specs.Text.{outcome_from}
 use Rattle.titan_top.proofs.Sending.{IsPrinting, left_of}
 use Rattle.titan_top.proofs.output.print_all.Given as goal
 
