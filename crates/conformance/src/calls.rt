@@ -45,6 +45,23 @@ fn a_model_grows_by_its_parts(rt: HostRuntime) -> Result<(), Fail> {
         start: 0,
     })?;
     assert_eq!(rt; model.components().len(), 1);
+    let mut values = List::new(alloc);
+    values.push(Name::of(b"none"))?;
+    model.add_variable(Variable {
+        name: Name::of(b"flow"),
+        values,
+        sensed: true,
+    })?;
+    assert_eq!(rt; model.variables().len(), 1);
+    model.add_rule(Formula::True)?;
+    assert_eq!(rt; model.rules().len(), 1);
+    model.add_failure(Failure {
+        component: 0,
+        source: 1,
+        target: 0,
+        cost: 4,
+    })?;
+    assert_eq!(rt; model.failures().len(), 1);
     Ok(())
 }
 

@@ -1,12 +1,9 @@
-use crate::row::{assert_faulty_row, assert_row};
+use crate::row::{LAMP_LINES, assert_faulty_row, assert_row};
 use std::test::Fail;
 use titan_top::Status;
 
 const LAMP: &str =
     "titan 1\ncomponent lamp = off, on start off\nmove lamp off -> on by lamp_on when true\nmove lamp on -> off by lamp_off when true\nscript\ngoal lamp = on\ntick\ntick\n";
-
-const LAMP_LINES: &str =
-    "tick 1 cost 0 modes lamp=off send lamp_on\ntick 2 cost 0 modes lamp=on achieved\n";
 
 const USAGE: &str = "usage: see the forms of titan\n";
 
@@ -54,6 +51,15 @@ fn two_components_come_in_the_order_of_numbers(rt: HostRuntime) -> Result<(), Fa
         "titan 1\ncomponent a = off, on start off\ncomponent b = off, on start off\nmove a off -> on by a_on when true\nmove a on -> off by a_off when true\nmove b off -> on by b_on when true\nmove b on -> off by b_off when true\nscript\ngoal b = on, a = on\ntick\ntick\ntick\n";
     let text =
         "tick 1 cost 0 modes a=off b=off send a_on\ntick 2 cost 0 modes a=on b=off send b_on\ntick 3 cost 0 modes a=on b=on achieved\n";
+    assert_row(&rt, rt.alloc(), &["run"], input, Status::Ended, text)
+}
+
+#[test]
+fn a_ring_is_walked_one_way(rt: HostRuntime) -> Result<(), Fail> {
+    let input =
+        "titan 1\ncomponent r = a, b, c start b\nmove r a -> b by ab when true\nmove r b -> c by bc when true\nmove r c -> a by ca when true\nscript\ngoal r = a\ntick\ntick\ntick\n";
+    let text =
+        "tick 1 cost 0 modes r=b send bc\ntick 2 cost 0 modes r=c send ca\ntick 3 cost 0 modes r=a achieved\n";
     assert_row(&rt, rt.alloc(), &["run"], input, Status::Ended, text)
 }
 

@@ -7,4 +7,6 @@ mod calls;
 #[cfg(test)]
 mod first_path;
 #[cfg(test)]
+mod refusals;
+#[cfg(test)]
 mod row;

@@ -4,6 +4,12 @@ use std::test::*;
 use titan_top::{Status, titan};
 use titan_wire::*;
 
+pub const LAMP_MODEL: &str =
+    "titan 1\ncomponent lamp = off, on start off\nmove lamp off -> on by lamp_on when true\nmove lamp on -> off by lamp_off when true\nscript\n";
+
+pub const LAMP_LINES: &str =
+    "tick 1 cost 0 modes lamp=off send lamp_on\ntick 2 cost 0 modes lamp=on achieved\n";
+
 fn words_of(alloc: Global, words: &[&str]) -> Result<Vec<String>, Fail> {
     let mut list = Vec::new(alloc);
     for word in words {
@@ -49,4 +55,38 @@ pub fn assert_faulty_row(
     assert_eq!(rt; ended, status, "how it ends");
     assert_eq!(rt; sink.bytes(), text.as_bytes(), "what is written");
     Ok(())
+}
+
+/// Runs `run` over these bytes, and asserts how it ends and what it writes.
+pub fn assert_bytes_row(
+    rt: &impl Abort,
+    alloc: Global,
+    input: Vec<u8>,
+    status: Status,
+    text: &str,
+) -> Result<(), Fail> {
+    let mut source = SteadySource::new(input);
+    let mut sink = MemorySink::new(alloc, 4096, Vec::new(alloc))?;
+    let ended = titan(alloc, &words_of(alloc, &["run"])?, &mut source, &mut sink);
+    assert_eq!(rt; ended, status, "how it ends");
+    assert_eq!(rt; sink.bytes(), text.as_bytes(), "what is written");
+    Ok(())
+}
+
+/// What `run` writes for these bytes.
+pub fn written(alloc: Global, input: Vec<u8>) -> Result<Vec<u8>, Fail> {
+    let mut source = SteadySource::new(input);
+    let mut sink = MemorySink::new(alloc, 4096, Vec::new(alloc))?;
+    let _ = titan(alloc, &words_of(alloc, &["run"])?, &mut source, &mut sink);
+    Ok(Vec::from_slice(alloc, sink.bytes())?)
+}
+
+/// The text before the line of a refusal.
+pub fn before_refusal(text: &[u8]) -> &[u8] {
+    for i in 0..text.len() {
+        if text[i..].starts_with(b"refused".as_slice()) {
+            return &text[..i];
+        }
+    }
+    text
 }

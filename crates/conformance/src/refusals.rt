@@ -1,0 +1,208 @@
+use crate::row::{LAMP_LINES, LAMP_MODEL, assert_bytes_row, assert_row};
+use std::alloc::Global;
+use std::process::Abort;
+use std::test::Fail;
+use titan_top::Status;
+
+const START: &str = "titan 1\ncomponent lamp = off, on start off\n";
+
+fn assert_refused(rt: &impl Abort, alloc: Global, input: &str, text: &str) -> Result<(), Fail> {
+    assert_row(rt, alloc, &["run"], input, Status::Refused, text)
+}
+
+/// The same for lines behind that of the lamp.
+fn assert_refused_after(
+    rt: &impl Abort,
+    alloc: Global,
+    lines: &str,
+    text: &str,
+) -> Result<(), Fail> {
+    let mut input = String::from_str(alloc, START)?;
+    input.push_str(lines)?;
+    assert_refused(rt, alloc, input.as_str(), text)
+}
+
+/// The same for lines behind the script's beginning.
+fn assert_refused_in_script(
+    rt: &impl Abort,
+    alloc: Global,
+    lines: &str,
+    text: &str,
+) -> Result<(), Fail> {
+    let mut input = String::from_str(alloc, LAMP_MODEL)?;
+    input.push_str(lines)?;
+    assert_refused(rt, alloc, input.as_str(), text)
+}
+
+#[test]
+fn the_first_line_opens_the_model(rt: HostRuntime) -> Result<(), Fail> {
+    let alloc = rt.alloc();
+    let malformed = "refused 1 1 malformed\n";
+    assert_refused(&rt, alloc, "titan 01\n", malformed)?;
+    assert_refused(&rt, alloc, "titan 1\r\n", malformed)?;
+    assert_refused(&rt, alloc, "script\n", malformed)?;
+    assert_refused(&rt, alloc, "var x = a\n", malformed)?;
+    assert_refused(&rt, alloc, "titan 1\ntitan 1\n", "refused 2 1 malformed\n")
+}
+
+#[test]
+fn an_input_ends_behind_its_script(rt: HostRuntime) -> Result<(), Fail> {
+    let alloc = rt.alloc();
+    assert_refused(&rt, alloc, "", "refused 0 17 ends_early\n")?;
+    assert_refused(&rt, alloc, "titan 1", "refused 1 17 ends_early\n")?;
+    assert_refused(&rt, alloc, START, "refused 2 17 ends_early\n")?;
+    assert_refused(&rt, alloc, "\n\n# nothing\n", "refused 3 17 ends_early\n")
+}
+
+#[test]
+fn lines_of_no_form_are_malformed(rt: HostRuntime) -> Result<(), Fail> {
+    let alloc = rt.alloc();
+    let malformed = "refused 3 1 malformed\n";
+    assert_refused_after(&rt, alloc, "# \u{7f}\n", malformed)?;
+    assert_refused_after(
+        &rt,
+        alloc,
+        "move lamp off -> on by lamp_on when\n",
+        malformed,
+    )?;
+    assert_refused_after(
+        &rt,
+        alloc,
+        "move lamp off -> on by lamp_on when true;\n",
+        malformed,
+    )?;
+    assert_refused_after(
+        &rt,
+        alloc,
+        "move lamp off -> on by when when true\n",
+        malformed,
+    )?;
+    assert_refused_after(&rt, alloc, "component when = a start a\n", malformed)?;
+    assert_refused_after(&rt, alloc, "component x = a, start a\n", malformed)?;
+    assert_refused_after(&rt, alloc, "component x = a start a b\n", malformed)?;
+    assert_refused_after(&rt, alloc, "tick\n", malformed)?;
+    assert_refused_after(&rt, alloc, "var x = a;\n", malformed)?;
+    assert_refused_in_script(&rt, alloc, "script\n", "refused 6 1 malformed\n")?;
+    assert_refused_in_script(&rt, alloc, "goal lamp = on,\n", "refused 6 1 malformed\n")?;
+    assert_refused_in_script(&rt, alloc, "tick 007\n", "refused 6 1 malformed\n")
+}
+
+#[test]
+fn names_are_declared_before_they_are_used(rt: HostRuntime) -> Result<(), Fail> {
+    let alloc = rt.alloc();
+    let unknown = "refused 3 2 name_unknown\n";
+    assert_refused_after(&rt, alloc, "component x = a start b\n", unknown)?;
+    assert_refused_after(&rt, alloc, "move lump off -> on by x when true\n", unknown)?;
+    assert_refused_after(
+        &rt,
+        alloc,
+        "move lamp dim -> on by x when lamp = on\n",
+        unknown,
+    )?;
+    assert_refused_after(&rt, alloc, "move lamp off -> dim by x when 007\n", unknown)?;
+    assert_refused_in_script(
+        &rt,
+        alloc,
+        "goal lamp = dim\n",
+        "refused 6 2 name_unknown\n",
+    )?;
+    assert_refused_in_script(&rt, alloc, "goal lump = on\n", "refused 6 2 name_unknown\n")
+}
+
+#[test]
+fn what_is_not_built_is_unsupported(rt: HostRuntime) -> Result<(), Fail> {
+    let alloc = rt.alloc();
+    let unsupported = "refused 3 20 unsupported\n";
+    assert_refused_after(&rt, alloc, "var 007 = = x\n", unsupported)?;
+    assert_refused_after(&rt, alloc, "observe nothing\n", unsupported)?;
+    assert_refused_after(
+        &rt,
+        alloc,
+        "move lamp off -> on by x when lamp = on\n",
+        unsupported,
+    )?;
+    assert_refused_after(&rt, alloc, "component lamp = a start a\n", unsupported)?;
+    assert_refused_after(&rt, alloc, "component x = a, a start a\n", unsupported)?;
+    let goal = "goal lamp = on, lamp = off\n";
+    assert_refused_in_script(&rt, alloc, goal, "refused 6 20 unsupported\n")?;
+    assert_refused_in_script(&rt, alloc, "rule true\n", "refused 6 20 unsupported\n")
+}
+
+#[test]
+fn long_names_are_unknown_or_unsupported(rt: HostRuntime) -> Result<(), Fail> {
+    let alloc = rt.alloc();
+    let unsupported = "refused 3 20 unsupported\n";
+    let line = "component a23456789012345678901234567890123 = a start a\n";
+    assert_refused_after(&rt, alloc, line, unsupported)?;
+    let line = "component x = a, a23456789012345678901234567890123 start a\n";
+    assert_refused_after(&rt, alloc, line, unsupported)?;
+    let line =
+        "component x = a23456789012345678901234567890123 start a23456789012345678901234567890123\n";
+    assert_refused_after(&rt, alloc, line, "refused 3 2 name_unknown\n")?;
+    let line = "component a2345678901234567890123456789012 = a start a\nscript\ntick\n";
+    let text = "tick 1 cost 0 modes lamp=off a2345678901234567890123456789012=a idle\n";
+    let mut input = String::from_str(alloc, START)?;
+    input.push_str(line)?;
+    assert_row(&rt, alloc, &["run"], input.as_str(), Status::Ended, text)
+}
+
+/// A document of a header, a script and so many bytes behind them.
+fn padded(alloc: Global, byte: u8, count: usize) -> Result<Vec<u8>, Fail> {
+    let mut input = Vec::from_slice(alloc, b"titan 1\nscript\n".as_slice())?;
+    for _ in 0..count {
+        input.push(byte)?;
+    }
+    Ok(input)
+}
+
+#[test]
+fn an_input_has_its_limit(rt: HostRuntime) -> Result<(), Fail> {
+    let alloc = rt.alloc();
+    let most = padded(alloc, b'\n', 65_536 - 15)?;
+    assert_bytes_row(&rt, alloc, most, Status::Ended, "")?;
+    let one_more = padded(alloc, b'\n', 65_537 - 15)?;
+    assert_bytes_row(
+        &rt,
+        alloc,
+        one_more,
+        Status::Refused,
+        "refused 0 20 unsupported\n",
+    )
+}
+
+#[test]
+fn a_line_has_its_limit(rt: HostRuntime) -> Result<(), Fail> {
+    let alloc = rt.alloc();
+    let most = padded(alloc, b' ', 4096)?;
+    assert_bytes_row(&rt, alloc, most, Status::Ended, "")?;
+    let one_more = padded(alloc, b' ', 4097)?;
+    assert_bytes_row(
+        &rt,
+        alloc,
+        one_more,
+        Status::Refused,
+        "refused 3 20 unsupported\n",
+    )?;
+    let bad = padded(alloc, b'\r', 4097)?;
+    assert_bytes_row(&rt, alloc, bad, Status::Refused, "refused 3 1 malformed\n")
+}
+
+#[test]
+fn a_prefix_prints_a_prefix(rt: HostRuntime) -> Result<(), Fail> {
+    let alloc = rt.alloc();
+    let tick = "tick 1 cost 0 modes lamp=off send lamp_on\n";
+    let script = "goal lamp = on\ntick\ntick\n";
+    let mut input = String::from_str(alloc, LAMP_MODEL)?;
+    input.push_str(script)?;
+    for end in 0..=input.len() {
+        let part = input.as_bytes().get(..end).ok_or("no such prefix")?;
+        let part = Vec::from_slice(alloc, part)?;
+        let written = crate::row::written(alloc, part)?;
+        let ticks = crate::row::before_refusal(&written);
+        let is_prefix = ticks.is_empty()
+            || ticks == tick.as_bytes()
+            || ticks == LAMP_LINES.as_bytes();
+        assert!(rt; is_prefix, "a prefix of the lamp's ticks");
+    }
+    Ok(())
+}
