@@ -17,6 +17,7 @@ pub mod Plans
 pub mod Repairs
 pub mod Runs
 pub mod Sets
+pub mod Shown
 pub mod State
 pub mod Steps
 pub mod Successors

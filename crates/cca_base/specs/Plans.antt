@@ -6,7 +6,7 @@ use Rattle.cca_base.specs.declared.events.PlanEnd.TheVariants.{Plan, Long}
 use Rattle.cca_base.specs.declared.events.Route.{Route}
 use Rattle.cca_base.specs.declared.limits.TheConstants.{MAX_PLAN}
 use Rattle.cca_base.specs.Automata.{Automata}
-use Rattle.cca_base.specs.Accepted.{CompiledParts}
+use Rattle.cca_base.specs.Accepted.{CompiledParts, IsCompiled}
 use Rattle.cca_base.specs.Model.{is_broken, IsMended}
 use Rattle.cca_base.specs.State.{Extends, IsWorld}
 use Rattle.cca_base.specs.Steps.{Step, Reach}
@@ -51,6 +51,7 @@ ShowsBack Long back ks = back ≡ Long
 
 -- the whole plan from the state to the goal, and the way back from its end to the state
 pub record IsRoute (b : CompiledParts) (s : List ℕ) (goal : List Pair) (route : Route) : Type 0 where
+  pub compiled : IsCompiled b
   pub plan : List ℕ
   pub there : List ℕ
   pub whole : Whole b goal s plan there

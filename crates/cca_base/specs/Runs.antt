@@ -9,7 +9,7 @@ use Rattle.cca_base.specs.declared.events.Shown.{Shown}
 use Rattle.cca_base.specs.declared.events.Shown.TheVariants.{Estimated, Unexplained, Holding}
 use Rattle.cca_base.specs.declared.events.TickReport.{TickReport}
 use Rattle.cca_base.specs.Automata.{Automata}
-use Rattle.cca_base.specs.Accepted.{CompiledParts}
+use Rattle.cca_base.specs.Accepted.{CompiledParts, IsCompiled}
 use Rattle.cca_base.specs.State.{IsWorld, Extends}
 use Rattle.cca_base.specs.Orders.{IsSorted}
 use Rattle.cca_base.specs.Bounds.{stated_number}
@@ -141,8 +141,9 @@ abbrev pub StaysRight : CompiledParts → List Moment → Type 0
 StaysRight b ticks = (i : ℕ) (t : Moment) → slice_get ticks i ≡ Some t → (StartsAnew i t.since ⊎ ComesAfterRight ticks i t.since)
     → CanBeSeen b.model t → IsRight t × CostsNothing t.report.shown
 
--- a trace in which goals are served within their stated numbers, and right estimates stay right
+-- a trace of a compiled model in which goals are served within their stated numbers, and right estimates stay right
 pub record KeepsPromises (b : CompiledParts) (answers : Answers) (events : List Event) (reports : List TickReport) : Type 0 where
+  pub compiled : IsCompiled b
   pub trace : Trace b answers events reports
   pub within : Within b trace.ticks
   pub stays_right : StaysRight b trace.ticks

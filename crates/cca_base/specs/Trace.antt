@@ -1,5 +1,5 @@
 -- Where an executive stands, what each event changes, and what a tick shows.
-use Rattle.std.specs.Prelude.{◌≡◌, ◌<◌, ℕ, ◌+◌, Bool, true, false, IsTrue, List, [], length, Option, Some, None, slice_get, slice_set, All, Contains}
+use Rattle.std.specs.Prelude.{◌≡◌, ◌<◌, ℕ, ◌+◌, Bool, true, false, IsTrue, List, [], ◌∷◌, length, Option, Some, None, slice_get, slice_set, All, Contains}
 use Rattle.cca_base.specs.declared.cube.Pair.{Pair}
 use Rattle.cca_base.specs.declared.model.Variable.{Variable}
 use Rattle.cca_base.specs.declared.events.Event.{Event}
@@ -87,6 +87,13 @@ Changes m keeping x (event.Fault p) y = y ≡ record x { plant = slice_set x.pla
 Changes m keeping x (event.Mirror v) y = y ≡ record x { mirrored = with_number x.mirrored v }
 Changes m keeping x event.Reset y = y ≡ start m x.ticks
 Changes m keeping x event.Tick y = ⊥
+
+-- the events may come one after the other; a tick leaves no pending observations
+abbrev pub AllMayCome : Automata → Keeping → Situation → List Event → Type 0
+AllMayCome m keeping x [] = Unit {0}
+AllMayCome m keeping x (event.Tick ∷ events) = AllMayCome m keeping (record x { pending = [] }) events
+AllMayCome m keeping x (e ∷ events) =
+    MayCome m x.pending x.mirrored e × (y : Situation) × Changes m keeping x e y × AllMayCome m keeping y events
 
 -- ---- ticks
 
