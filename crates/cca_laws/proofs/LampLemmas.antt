@@ -25,7 +25,7 @@ less_greater h = cc
 equal_greater : ◌≡◌ {A = Ordering} Equal Greater → ⊥
 equal_greater h = cc
 
-always : (s w : List ℕ) → truth s w always_true ≡ true
+pub always : (s w : List ℕ) → truth s w always_true ≡ true
 always s w = fold-roll-Formula Bool (truth_step s w) Formula-F.True
 
 follows : (pairs : List Pair) → Follows lamp pairs always_true

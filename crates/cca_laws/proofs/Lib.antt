@@ -8,3 +8,12 @@ pub mod TraceLemmas
 pub mod CompiledLemmas
 pub mod EmptyLemmas
 pub mod LampLemmas
+pub mod Tiny
+pub mod FormulaExamples
+pub mod ValveExamples
+pub mod ValveWellFormed
+pub mod CostExamples
+pub mod EdgeExamples
+pub mod OrderExamples
+pub mod ObservedExamples
+pub mod RightExamples

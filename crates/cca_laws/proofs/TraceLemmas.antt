@@ -1,6 +1,8 @@
 -- A trace is determined by its events.
-use Rattle.std.proofs.Common.{◌≡◌, ◌≢◌, ◌<◌, ◌+◌, ℕ, Bool, false, List, [], ◌∷◌, ◌++◌, length, map, Option, Some, None, Contains, slice_get, slice_set, slice_index_or, IsTrue, inl, inr, refl, sym, ap, subst, ◌∙◌}
+use Rattle.std.proofs.Common.{◌≡◌, ◌≢◌, ◌<◌, ◌+◌, ℕ, Bool, false, List, [], ◌∷◌, ◌++◌, length, map, count_by, cond, Option, Some, None, Contains, slice_get, slice_set, slice_index_or, IsTrue, inl, inr, refl, sym, ap, subst, ◌∙◌, arith}
 use Rattle.std.proofs.lemmas.Bool.{false≢true, cases_order}
+use Rattle.std.proofs.lemmas.List.{length-map}
+use Rattle.std.proofs.lemmas.List.Sums.{sum_by-cons}
 use Rattle.std.proofs.lemmas.Option.{slice_get-get_or, slice_get_within, get_or_from_slice_get}
 use Rattle.cca_base.specs.declared.cube.Pair.{Pair}
 use Rattle.cca_base.specs.declared.model.Move.{Move}
@@ -24,6 +26,7 @@ use Rattle.cca_base.proofs.Members.{some_inj}
 use Rattle.cca_laws.proofs.OrderLemmas.{one_union, none_twice, one_sorted}
 use Rattle.cca_laws.proofs.EstimatesLemmas.{one_estimate, never_both}
 use Rattle.cca_laws.proofs.PickLemmas.{one_reply}
+use Rattle.cca_laws.specs.Laws.{is_tick}
 
 -- ---- nominal successors
 
@@ -152,3 +155,24 @@ one_fixed_trace b events reports others h t u =
     let once = none_twice b.model (numbers_below (length b.model.components)) b.order h.order in
     let same : t.ticks ≡ u.ticks = one_run b (Chosen b) h.accepted.well_formed.commands (λ s. one_reply b s once) (λ pairs x y. one_sorted b.order pairs x y once) events (start b.model 0) [] t.ticks u.ticks t.made u.made in
     t.reported ∙ ap (map (λ z. z.report)) same ∙ sym u.reported
+
+-- ---- how many ticks
+
+-- one event more counts, if it is a tick
+counted : (e : Event) (events : List Event) → count_by is_tick (e ∷ events) ≡ cond (is_tick e) 1 0 + count_by is_tick events
+counted e events = sum_by-cons (λ x. cond (is_tick x) 1 0) e events
+
+module _ (b : CompiledParts) (answers : Answers) where
+  many : (events : List Event) (x : Situation) (since : List Event) (ts : List Moment) → Ticks b answers x since events ts → length ts ≡ count_by is_tick events
+  many [] x since ts h = ap length h
+  many (event.Tick ∷ events) x since [] h = absurd h
+  many (event.Tick ∷ events) x since (t ∷ ts) (a, c, n, y, shows, rest) = omega (arith, counted event.Tick events, many events y [] ts rest)
+  many (event.Goal pairs ∷ events) x since ts (y, h, rest) = omega (arith, counted (event.Goal pairs) events, many events y (since ++ event.Goal pairs ∷ []) ts rest)
+  many (event.Clear ∷ events) x since ts (y, h, rest) = omega (arith, counted event.Clear events, many events y (since ++ event.Clear ∷ []) ts rest)
+  many (event.Observe pairs ∷ events) x since ts (y, h, rest) = omega (arith, counted (event.Observe pairs) events, many events y (since ++ event.Observe pairs ∷ []) ts rest)
+  many (event.Fault p ∷ events) x since ts (y, h, rest) = omega (arith, counted (event.Fault p) events, many events y (since ++ event.Fault p ∷ []) ts rest)
+  many (event.Mirror v ∷ events) x since ts (y, h, rest) = omega (arith, counted (event.Mirror v) events, many events y (since ++ event.Mirror v ∷ []) ts rest)
+  many (event.Reset ∷ events) x since ts (y, h, rest) = omega (arith, counted event.Reset events, many events y (since ++ event.Reset ∷ []) ts rest)
+
+pub as_many_as_ticks : (b : CompiledParts) (events : List Event) (reports : List TickReport) → Trace b (Chosen b) events reports → length reports ≡ count_by is_tick events
+as_many_as_ticks b events reports t = ap length t.reported ∙ length-map t.ticks (λ z. z.report) ∙ many b (Chosen b) events (start b.model 0) [] t.ticks t.made

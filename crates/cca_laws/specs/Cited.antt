@@ -12,14 +12,15 @@ use Rattle.cca_base.specs.Cube.{AreInCubeOrder}
 use Rattle.cca_base.specs.Estimates.{Estimate, Unexplained}
 use Rattle.cca_base.specs.Goals.{Good}
 use Rattle.cca_base.specs.Implicants.{PrimeImplicant, IsAcyclic}
-use Rattle.cca_base.specs.Orders.{IsEffectsFirst, IsNextOf}
+use Rattle.cca_base.specs.Orders.{IsEffectsFirst, IsNextOf, IsSorted}
 use Rattle.cca_base.specs.Plans.{IsRoute, IsFirstWorld}
 use Rattle.cca_base.specs.Repairs.{Mending}
 use Rattle.cca_base.specs.Runs.{Trace, KeepsPromises}
 use Rattle.cca_base.specs.State.{Follows}
 use Rattle.cca_base.specs.Steps.{AllowedPlan, Reach}
 use Rattle.cca_base.specs.Successors.{Costs}
-use Rattle.cca_base.specs.Trace.{MayCome}
+use Rattle.cca_base.specs.Trace.{MayCome, AllMayCome, start}
+use Rattle.cca_base.specs.Shown.{IsShownCycle, IsShownClash}
 
 -- a product of one definition of each file
 abbrev pub Cited : Type 0
@@ -30,3 +31,4 @@ Cited =
     × PrimeImplicant b.model move pairs × IsAcyclic b.model × IsEffectsFirst b.model b.order × IsNextOf b.order s pairs p × IsRoute b s pairs route
     × IsFirstWorld b.model s pairs t × Mending b.model s t × Trace b (Good b.model) events reports × KeepsPromises b (Chosen b) events reports
     × Follows b.model pairs move.guard × AllowedPlan b.model s t s × Reach b.model s k n × Costs b.model s o t n × MayCome b.model pairs n e
+    × AllMayCome b.model (IsSorted b.order) (start b.model n) events × IsShownCycle b.model s × IsShownClash b.model pairs

@@ -1,11 +1,11 @@
 -- Laws that test the definitions.
-use Rattle.std.specs.Prelude.{◌≡◌, ◌↔◌, ◌<◌, AllPairs, ℕ, false, ◌++◌, List, [], ◌∷◌, Option, Some, IsTrue, Contains, All, slice_get, slice_set}
+use Rattle.std.specs.Prelude.{◌≡◌, ◌↔◌, ◌<◌, AllPairs, ℕ, Bool, true, false, ◌++◌, List, [], ◌∷◌, length, count_by, Option, Some, IsTrue, Contains, All, slice_get, slice_set}
 use Rattle.cca_base.specs.declared.cube.Pair.{Pair}
 use Rattle.cca_base.specs.declared.model.Move.{Move}
-use Rattle.cca_base.specs.declared.events.Reply.TheVariants.{Send, Unreachable}
+use Rattle.cca_base.specs.declared.events.Reply.TheVariants.{Idle, Send, Unreachable}
 use Rattle.cca_base.specs.Automata.{Automata}
-use Rattle.cca_base.specs.Accepted.{CompiledParts, IsCompiled}
-use Rattle.cca_base.specs.Model.{WellFormed, is_broken}
+use Rattle.cca_base.specs.Accepted.{Accepted, CompiledParts, IsCompiled}
+use Rattle.cca_base.specs.Model.{WellFormed, IsComplete, is_broken}
 use Rattle.cca_base.specs.State.{IsState, Extends}
 use Rattle.cca_base.specs.Repairs.{Mending}
 use Rattle.cca_base.specs.Steps.{Step, Run, Allowed, AllowedPlan, Reach}
@@ -18,6 +18,7 @@ use Rattle.cca_base.specs.Plans.{Whole}
 use Rattle.cca_base.specs.Choice.{Chosen}
 use Rattle.cca_base.specs.Trace.{Situation, Observed}
 use Rattle.cca_base.specs.declared.events.Event.{Event}
+use Rattle.cca_base.specs.declared.events.Event.TheVariants as event
 use Rattle.cca_base.specs.declared.events.TickReport.{TickReport}
 use Rattle.cca_base.specs.Runs.{Trace, Moment, StaysRight, CanBeSeen, IsRight, LeavesPlantAlone}
 
@@ -113,3 +114,28 @@ InOrderIsPairwise = (order : List ℕ) (pairs : List Pair) → NoneTwice order
 -- the order of a compiled model has no component twice
 abbrev pub OrdersHaveNoneTwice : Type 0
 OrdersHaveNoneTwice = (b : CompiledParts) → IsCompiled b → NoneTwice b.order
+
+-- in a well-formed model the nominal successor is a state that costs nothing
+abbrev pub NominalIsFree : Type 0
+NominalIsFree = (m : Automata) (s t : List ℕ) (k : Option ℕ) → WellFormed m → IsState m s → Nominal m s k t → Costs m s k t 0
+
+-- in a well-formed model a successor has one cost at most
+abbrev pub OneCost : Type 0
+OneCost = (m : Automata) (s t : List ℕ) (k : Option ℕ) (a b : ℕ) → WellFormed m → Costs m s k t a → Costs m s k t b → a ≡ b
+
+-- an accepted model has no unused command
+abbrev pub CommandsAreUsed : Type 0
+CommandsAreUsed = (m : Automata) → Accepted m → IsComplete m
+
+-- while there is a goal, no good reply is idle
+abbrev pub NeverIdle : Type 0
+NeverIdle = (m : Automata) (s : List ℕ) (goal : List Pair) → Good m s goal Idle → ⊥
+
+-- the event is a tick
+abbrev pub is_tick : Event → Bool
+is_tick event.Tick = true
+is_tick e = false
+
+-- a fixed trace has as many reports as its events have ticks
+abbrev pub AsManyAsTicks : Type 0
+AsManyAsTicks = (b : CompiledParts) (events : List Event) (reports : List TickReport) → Trace b (Chosen b) events reports → length reports ≡ count_by is_tick events

@@ -1,3 +1,10 @@
 pub mod Cited
 pub mod Examples
 pub mod Laws
+pub mod FormulaExamples
+pub mod ValveExamples
+pub mod CostExamples
+pub mod EdgeExamples
+pub mod OrderExamples
+pub mod ObservedExamples
+pub mod RightExamples

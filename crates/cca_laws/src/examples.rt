@@ -1,4 +1,11 @@
 ghost use Rattle.cca_laws.specs.Examples.{EmptyTicks, LampIsLit};
+ghost use Rattle.cca_laws.specs.FormulaExamples.{DepthIsSeven, ChoicesOfTwo, OnePartDoesNotFit, NoneAmongDoesNotFit};
+ghost use Rattle.cca_laws.specs.ValveExamples.{ValveIsWellFormed, DriverComesOn, StuckMends, OpeningNeedsDriver, StuckIsNotLeanedOn, ClosedIsLeanedOn, OpeningForGood, OpeningIsAllowed};
+ghost use Rattle.cca_laws.specs.CostExamples.{OpeningIsFree, StayingShutCosts, StandingIsFree, TwoForOne};
+ghost use Rattle.cca_laws.specs.EdgeExamples.{WhichAreNames, ForeignFailure, CostsAtTheEdge, OutOfFirstUse, WhichAreChoices, SixteenAreChoices, SeventeenAreTooMany};
+ghost use Rattle.cca_laws.specs.OrderExamples.{OneImplicant, OneNeed, CauseComesLast};
+ghost use Rattle.cca_laws.specs.ObservedExamples.{PendingRises, NothingMirrored, GoalIsTurned};
+ghost use Rattle.cca_laws.specs.RightExamples.{WrongIsNotRight, FaultsExcuse, ResetsEndExcuses, ResetKeepsTicks};
 
 /// The empty model.
 pub fn empty()
@@ -8,4 +15,65 @@ pub fn empty()
 /// The lamp.
 pub fn lamp()
     ensures { LampIsLit }
+{}
+
+/// Small formulas.
+pub fn formulas()
+    ensures depth { DepthIsSeven }
+    ensures choices { ChoicesOfTwo }
+    ensures one_part { OnePartDoesNotFit }
+    ensures none_among { NoneAmongDoesNotFit }
+{}
+
+/// The valve.
+pub fn valve()
+    ensures well_formed { ValveIsWellFormed }
+    ensures driver { DriverComesOn }
+    ensures stuck { StuckMends }
+    ensures opening { OpeningNeedsDriver }
+    ensures stuck_engine { StuckIsNotLeanedOn }
+    ensures closed_engine { ClosedIsLeanedOn }
+    ensures for_good { OpeningForGood }
+    ensures allowed { OpeningIsAllowed }
+{}
+
+/// Costs of successors, and an estimate.
+pub fn successors()
+    ensures opening { OpeningIsFree }
+    ensures shut { StayingShutCosts }
+    ensures standing { StandingIsFree }
+    ensures two_for_one { TwoForOne }
+{}
+
+/// The edges of what is well formed.
+pub fn edges()
+    ensures names { WhichAreNames }
+    ensures foreign { ForeignFailure }
+    ensures costs { CostsAtTheEdge }
+    ensures first_use { OutOfFirstUse }
+    ensures choices { WhichAreChoices }
+    ensures sixteen { SixteenAreChoices }
+    ensures seventeen { SeventeenAreTooMany }
+{}
+
+/// Right and wrong estimates.
+pub fn right()
+    ensures wrong { WrongIsNotRight }
+    ensures faults { FaultsExcuse }
+    ensures resets { ResetsEndExcuses }
+    ensures reset { ResetKeepsTicks }
+{}
+
+/// Implicants, needs and their order.
+pub fn implicants()
+    ensures one { OneImplicant }
+    ensures need { OneNeed }
+    ensures order { CauseComesLast }
+{}
+
+/// What is observed, and how a goal is kept.
+pub fn observed()
+    ensures pending { PendingRises }
+    ensures mirrored { NothingMirrored }
+    ensures goal { GoalIsTurned }
 {}

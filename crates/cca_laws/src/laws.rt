@@ -1,4 +1,4 @@
-ghost use Rattle.cca_laws.specs.Laws.{RunsJoin, AllowedPlansRun, MendsItself, RepairsAreAllowed, ImplicantsGiveSteps, OneEstimate, NeverBoth, OneObserved, OneFixedTrace, OneFirstMissing, NoneUnderNoOrder, SendsServe, StandingIsReached, StandingGivesNoCommands, FreeIsNominal, FirstIsRight, OneCompiled, InOrderIsPairwise, OrdersHaveNoneTwice};
+ghost use Rattle.cca_laws.specs.Laws.{RunsJoin, AllowedPlansRun, MendsItself, RepairsAreAllowed, ImplicantsGiveSteps, OneEstimate, NeverBoth, OneObserved, OneFixedTrace, OneFirstMissing, NoneUnderNoOrder, SendsServe, StandingIsReached, StandingGivesNoCommands, FreeIsNominal, FirstIsRight, OneCompiled, InOrderIsPairwise, OrdersHaveNoneTwice, NominalIsFree, OneCost, CommandsAreUsed, NeverIdle, AsManyAsTicks};
 
 /// Runs and plans.
 pub fn plans()
@@ -18,7 +18,9 @@ pub fn estimates()
 
 /// Costs.
 pub fn costs()
-    ensures { FreeIsNominal }
+    ensures free { FreeIsNominal }
+    ensures nominal { NominalIsFree }
+    ensures one { OneCost }
 {}
 
 /// Goals.
@@ -28,17 +30,20 @@ pub fn goals()
     ensures serve { SendsServe }
     ensures reached { StandingIsReached }
     ensures commands { StandingGivesNoCommands }
+    ensures idle { NeverIdle }
 {}
 
 /// Traces.
 pub fn traces()
     ensures observed { OneObserved }
     ensures fixed { OneFixedTrace }
+    ensures many { AsManyAsTicks }
 {}
 
 /// What is compiled.
 pub fn compiled()
-    ensures { OneCompiled }
+    ensures one { OneCompiled }
+    ensures used { CommandsAreUsed }
 {}
 
 /// Orders.

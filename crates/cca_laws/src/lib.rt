@@ -6,7 +6,7 @@ ghost use Rattle.cca_laws.specs.Cited.{Cited};
 mod examples;
 mod laws;
 
-pub use examples::{empty, lamp};
+pub use examples::{edges, empty, formulas, implicants, lamp, observed, right, successors, valve};
 pub use laws::{compiled, costs, estimates, goals, orders, plans, traces};
 
 /// The definitions are cited.

@@ -1,5 +1,11 @@
-use Rattle.cca_laws.proofs.CostsLemmas.{free_is_nominal}
+use Rattle.cca_laws.proofs.CostsLemmas.{free_is_nominal, nominal_is_free, one_cost}
 use Rattle.cca_laws.proofs.laws.costs.Goals as goal
 
-pub returns : goal.returns
-returns c = free_is_nominal
+pub returns-clause-free : goal.returns-clause-free
+returns-clause-free c = free_is_nominal
+
+pub returns-clause-nominal : goal.returns-clause-nominal
+returns-clause-nominal c = nominal_is_free
+
+pub returns-clause-one : goal.returns-clause-one
+returns-clause-one c = one_cost

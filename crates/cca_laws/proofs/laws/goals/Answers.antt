@@ -15,3 +15,6 @@ returns-clause-reached c = standing_is_reached
 
 pub returns-clause-commands : goal.returns-clause-commands
 returns-clause-commands c = standing_gives_no_commands
+
+pub returns-clause-idle : goal.returns-clause-idle
+returns-clause-idle c = λ m s goal h. h

@@ -1,0 +1,268 @@
+-- Costs of small models.
+use Rattle.std.proofs.Common.{◌≡◌, ◌≢◌, ◌<◌, ◌≤◌, ◌⊎◌, ℕ, ◌+◌, ◌*◌, zero, suc, Bool, inl, inr, true, not, List, [], ◌∷◌, length, sum, Some, None, refl, sym, ap, subst, ◌∙◌, arith}
+use Rattle.std.specs.Prelude.{slice_get, slice_index, slice_set, IsTrue, if◌then◌else◌}
+use Rattle.std.specs.List.{list_all, list_any}
+use Rattle.std.proofs.lemmas.Bool.{false≢true}
+use Rattle.cca_base.specs.declared.cube.Pair.{Pair}
+use Rattle.cca_base.specs.declared.model.Move.{Move}
+use Rattle.cca_base.specs.declared.model.Failure.{Failure}
+use Rattle.cca_base.specs.Automata.{Automata}
+use Rattle.cca_base.specs.Formula.{truth}
+use Rattle.cca_base.specs.Sets.{has}
+use Rattle.cca_base.specs.Model.{HasMode}
+use Rattle.cca_base.specs.State.{IsState, HasValue}
+use Rattle.cca_base.specs.Successors.{Costs, Nominal, IsCommanded, ChangeCosts, HasFailure}
+use Rattle.cca_base.specs.Estimates.{Consistent, IsEarlier}
+use Rattle.cca_base.proofs.Members.{some_inj, none_some}
+use Rattle.cca_laws.proofs.Tiny.{one_at, below_one, below_two, below_three}
+use Rattle.cca_laws.proofs.FormulaExamples.{truth_mode, truth_iff, truth_both, truth_either}
+use Rattle.cca_laws.proofs.ValveExamples.{truth_flow, open_is_the_one, index_of}
+use Rattle.cca_laws.specs.FormulaExamples.{mode_in, both, either}
+use Rattle.cca_laws.specs.ValveExamples.{flow_in, valve_model, open_move}
+use Rattle.cca_laws.specs.CostExamples.{falling_open, staying_shut, poor_rule, three, OpeningIsFree, StayingShutCosts, StandingIsFree, TwoForOne}
+
+sum_two : (parts : List ℕ) → length parts ≡ 2 → sum parts ≡ slice_index parts 0 + slice_index parts 1
+sum_two [] e = absurd (omega arith)
+sum_two (x ∷ []) e = absurd (omega arith)
+sum_two (x ∷ y ∷ []) e = omega arith
+sum_two (x ∷ y ∷ z ∷ parts) e = absurd (omega arith)
+
+sum_three : (parts : List ℕ) → length parts ≡ 3 → sum parts ≡ slice_index parts 0 + slice_index parts 1 + slice_index parts 2
+sum_three [] e = absurd (omega arith)
+sum_three (x ∷ []) e = absurd (omega arith)
+sum_three (x ∷ y ∷ []) e = absurd (omega arith)
+sum_three (x ∷ y ∷ z ∷ []) e = omega arith
+sum_three (x ∷ y ∷ z ∷ u ∷ parts) e = absurd (omega arith)
+
+-- to go to the nominal mode is free
+free : (m : Automata) (c from to cost : ℕ) → ChangeCosts m c from to to cost → cost ≡ 0
+free m c from to cost h = elim h [ inl x ↦ x.1 | inr x ↦ absurd (x.0 refl) ]
+
+module _ (failure : Failure) where
+  abbrev failing : Automata
+  failing = record valve_model { failures = record { component = 1; source = 0; target = 2; cost = 4 } ∷ record { component = 1; source = 1; target = 2; cost = 6 } ∷ failure ∷ [] }
+
+  two_modes : (mode : ℕ) → mode < 3 → IsState failing (1 ∷ mode ∷ [])
+  two_modes mode h = record { full = refl; modes = below_two (λ c. HasMode failing c (slice_index (1 ∷ mode ∷ []) c)) (omega arith) h }
+
+  commanded : IsCommanded failing (1 ∷ 0 ∷ []) (Some 2) open_move
+  commanded = record { of_model = (2, omega arith, refl); command = refl; source = refl; guard = λ w world. truth_mode (1 ∷ 0 ∷ []) w 0 2 }
+
+  opened : (nominal : List ℕ) → Nominal failing (1 ∷ 0 ∷ []) (Some 2) nominal → nominal ≡ 1 ∷ 1 ∷ []
+  opened nominal h = elim h [
+    | inl x ↦ x.2 ∙ ap (λ (y : Move). slice_set (1 ∷ 0 ∷ []) y.component y.target) (sym (open_is_the_one x.0 (sym (some_inj 2 x.0.command x.1.command)) x.1.of_model))
+    | inr x ↦ absurd (x.0 open_move commanded)
+  ]
+
+-- without a command nothing moves
+unmoved : (m : Automata) (s nominal : List ℕ) → Nominal m s None nominal → nominal ≡ s
+unmoved m s nominal h = elim h [ inl x ↦ absurd (none_some x.0.command x.1.command) | inr x ↦ x.1 ]
+
+opening_costs : Costs falling_open (1 ∷ 0 ∷ []) (Some 2) (1 ∷ 1 ∷ []) 0
+opening_costs = record {
+  state = two_modes (record { component = 1; source = 0; target = 1; cost = 3 }) 1 (omega arith);
+  nominal = 1 ∷ 1 ∷ [];
+  is_nominal = inl (open_move, commanded (record { component = 1; source = 0; target = 1; cost = 3 }), refl);
+  parts = 0 ∷ 0 ∷ [];
+  full = refl;
+  each = below_two (λ c. ChangeCosts falling_open c (slice_index (1 ∷ 0 ∷ []) c) (slice_index (1 ∷ 1 ∷ []) c) (slice_index (1 ∷ 1 ∷ []) c) (slice_index (0 ∷ 0 ∷ []) c))
+      (inl (refl, refl)) (inl (refl, refl));
+  total = refl;
+}
+
+pub opening_is_free : OpeningIsFree
+opening_is_free cost = (
+  λ h.
+      let e : h.nominal ≡ 1 ∷ 1 ∷ [] = opened (record { component = 1; source = 0; target = 1; cost = 3 }) h.nominal h.is_nominal in
+      let a : slice_index h.parts 0 ≡ 0 =
+      free falling_open 0 1 1 (slice_index h.parts 0) (subst (λ (n : List ℕ). ChangeCosts falling_open 0 1 (slice_index n 0) 1 (slice_index h.parts 0)) e (h.each 0 (omega arith))) in
+      let b : slice_index h.parts 1 ≡ 0 =
+      free falling_open 1 0 1 (slice_index h.parts 1) (subst (λ (n : List ℕ). ChangeCosts falling_open 1 0 (slice_index n 1) 1 (slice_index h.parts 1)) e (h.each 1 (omega arith))) in
+      h.total ∙ sum_two h.parts h.full ∙ omega arith,
+  λ e. subst (Costs falling_open (1 ∷ 0 ∷ []) (Some 2) (1 ∷ 1 ∷ [])) (sym e) opening_costs,
+)
+
+shut_cost : (cost : ℕ) → HasFailure staying_shut 1 0 0 cost → 3 ≡ cost
+shut_cost cost (zero, h, e) = absurd (omega (arith, ap (λ (f : Failure). f.target) e))
+shut_cost cost (suc zero, h, e) = absurd (omega (arith, ap (λ (f : Failure). f.target) e))
+shut_cost cost (suc (suc zero), h, e) = ap (λ (f : Failure). f.cost) e
+shut_cost cost (suc (suc (suc k)), h, e) = absurd (omega arith)
+
+not_nominal : (cost : ℕ) → ChangeCosts staying_shut 1 0 1 0 cost → cost ≡ 3
+not_nominal cost h = elim h [ inl x ↦ absurd (omega (arith, x.0)) | inr x ↦ sym (shut_cost cost x.1) ]
+
+zero_is_not_one : ◌≢◌ {A = ℕ} 0 1
+zero_is_not_one e = absurd (omega arith)
+
+shut_costs : Costs staying_shut (1 ∷ 0 ∷ []) (Some 2) (1 ∷ 0 ∷ []) 3
+shut_costs = record {
+  state = two_modes (record { component = 1; source = 0; target = 0; cost = 3 }) 0 (omega arith);
+  nominal = 1 ∷ 1 ∷ [];
+  is_nominal = inl (open_move, commanded (record { component = 1; source = 0; target = 0; cost = 3 }), refl);
+  parts = 0 ∷ 3 ∷ [];
+  full = refl;
+  each = below_two (λ c. ChangeCosts staying_shut c (slice_index (1 ∷ 0 ∷ []) c) (slice_index (1 ∷ 1 ∷ []) c) (slice_index (1 ∷ 0 ∷ []) c) (slice_index (0 ∷ 3 ∷ []) c))
+      (inl (refl, refl)) (inr (zero_is_not_one, (2, omega arith, refl), λ other h. omega (arith, shut_cost other h)));
+  total = refl;
+}
+
+pub staying_shut_costs : StayingShutCosts
+staying_shut_costs cost = (
+  λ h.
+      let e : h.nominal ≡ 1 ∷ 1 ∷ [] = opened (record { component = 1; source = 0; target = 0; cost = 3 }) h.nominal h.is_nominal in
+      let a : slice_index h.parts 0 ≡ 0 =
+      free staying_shut 0 1 1 (slice_index h.parts 0) (subst (λ (n : List ℕ). ChangeCosts staying_shut 0 1 (slice_index n 0) 1 (slice_index h.parts 0)) e (h.each 0 (omega arith))) in
+      let b : slice_index h.parts 1 ≡ 3 =
+      not_nominal (slice_index h.parts 1) (subst (λ (n : List ℕ). ChangeCosts staying_shut 1 0 (slice_index n 1) 0 (slice_index h.parts 1)) e (h.each 1 (omega arith))) in
+      h.total ∙ sum_two h.parts h.full ∙ omega arith,
+  λ e. subst (Costs staying_shut (1 ∷ 0 ∷ []) (Some 2) (1 ∷ 0 ∷ [])) (sym e) shut_costs,
+)
+
+standing_costs : Costs staying_shut (1 ∷ 0 ∷ []) None (1 ∷ 0 ∷ []) 0
+standing_costs = record {
+  state = two_modes (record { component = 1; source = 0; target = 0; cost = 3 }) 0 (omega arith);
+  nominal = 1 ∷ 0 ∷ [];
+  is_nominal = inr (λ move h. none_some move.command h.command, refl);
+  parts = 0 ∷ 0 ∷ [];
+  full = refl;
+  each = below_two (λ c. ChangeCosts staying_shut c (slice_index (1 ∷ 0 ∷ []) c) (slice_index (1 ∷ 0 ∷ []) c) (slice_index (1 ∷ 0 ∷ []) c) (slice_index (0 ∷ 0 ∷ []) c))
+      (inl (refl, refl)) (inl (refl, refl));
+  total = refl;
+}
+
+pub standing_is_free : StandingIsFree
+standing_is_free cost = (
+  λ h.
+      let e : h.nominal ≡ 1 ∷ 0 ∷ [] = unmoved staying_shut (1 ∷ 0 ∷ []) h.nominal h.is_nominal in
+      let a : slice_index h.parts 0 ≡ 0 =
+      free staying_shut 0 1 1 (slice_index h.parts 0) (subst (λ (n : List ℕ). ChangeCosts staying_shut 0 1 (slice_index n 0) 1 (slice_index h.parts 0)) e (h.each 0 (omega arith))) in
+      let b : slice_index h.parts 1 ≡ 0 =
+      free staying_shut 1 0 0 (slice_index h.parts 1) (subst (λ (n : List ℕ). ChangeCosts staying_shut 1 0 (slice_index n 1) 0 (slice_index h.parts 1)) e (h.each 1 (omega arith))) in
+      h.total ∙ sum_two h.parts h.full ∙ omega arith,
+  λ e. subst (Costs staying_shut (1 ∷ 0 ∷ []) None (1 ∷ 0 ∷ [])) (sym e) standing_costs,
+)
+
+-- ---- the estimate
+
+abbrev is_poor : ℕ → ℕ → ℕ → Bool
+is_poor a b c = list_any (λ x. x) (list_all (λ x. x) (has 2 a ∷ has 2 b ∷ []) ∷ has 2 c ∷ [])
+
+poor_is : (s w : List ℕ) → truth s w poor_rule ≡ (if has 2 (slice_index w 0) then is_poor (slice_index s 0) (slice_index s 1) (slice_index s 2) else not (is_poor (slice_index s 0) (slice_index s 1) (slice_index s 2)))
+poor_is s w =
+    truth_iff s w (flow_in 2) (either (both (mode_in 0 2) (mode_in 1 2)) (mode_in 2 2)) _ _ (truth_flow s w 2)
+    (truth_either s w (both (mode_in 0 2) (mode_in 1 2)) (mode_in 2 2) _ _
+    (truth_both s w (mode_in 0 2) (mode_in 1 2) _ _ (truth_mode s w 0 2) (truth_mode s w 1 2)) (truth_mode s w 2 2))
+
+-- who is to blame
+culprits : (a b c : ℕ) → a < 2 → is_poor a b c ≡ true → ((0 < a) × (0 < b)) ⊎ (0 < c)
+culprits (suc a) (suc b) c h e = inl (omega arith, omega arith)
+culprits (suc zero) zero zero h e = absurd (false≢true e)
+culprits (suc (suc a)) zero zero h e = absurd (omega arith)
+culprits (suc a) zero (suc c) h e = inr (omega arith)
+culprits zero b zero h e = absurd (false≢true e)
+culprits zero b (suc c) h e = inr (omega arith)
+
+-- nothing is cheaper than p and q
+weigh : (a b c more : ℕ) → a < 2 → b < 2 → c < 2 → more ≡ 4 * a + 6 * b + 11 * c → ((0 < a) × (0 < b)) ⊎ (0 < c)
+    → ((more ≡ 10) × (a ≡ 1) × (b ≡ 1) × (c ≡ 0)) ⊎ (11 ≤ more)
+weigh a b zero more h k l e (inl x) = inl (omega (arith, x.0, x.1), omega (arith, x.0), omega (arith, x.1), refl)
+weigh a b zero more h k l e (inr x) = absurd (omega arith)
+weigh a b (suc c) more h k l e x = inr (omega arith)
+
+-- each change from ok costs its failure
+change : (c to cost n : ℕ) → to < 2 → ((k : ℕ) → HasFailure three c 0 1 k → k ≡ n) → ChangeCosts three c 0 0 to cost → cost ≡ n * to
+change c zero cost n h only x = elim x [ inl y ↦ omega (arith, y.1) | inr y ↦ absurd (y.0 refl) ]
+change c (suc zero) cost n h only x = elim x [ inl y ↦ absurd (omega (arith, y.0)) | inr y ↦ only cost y.1 ∙ omega arith ]
+change c (suc (suc to)) cost n h only x = absurd (omega arith)
+
+p_cost : (k : ℕ) → HasFailure three 0 0 1 k → k ≡ 4
+p_cost k (zero, h, e) = sym (ap (λ (f : Failure). f.cost) e)
+p_cost k (suc zero, h, e) = absurd (omega (arith, ap (λ (f : Failure). f.component) e))
+p_cost k (suc (suc zero), h, e) = absurd (omega (arith, ap (λ (f : Failure). f.component) e))
+p_cost k (suc (suc (suc i)), h, e) = absurd (omega arith)
+
+q_cost : (k : ℕ) → HasFailure three 1 0 1 k → k ≡ 6
+q_cost k (zero, h, e) = absurd (omega (arith, ap (λ (f : Failure). f.component) e))
+q_cost k (suc zero, h, e) = sym (ap (λ (f : Failure). f.cost) e)
+q_cost k (suc (suc zero), h, e) = absurd (omega (arith, ap (λ (f : Failure). f.component) e))
+q_cost k (suc (suc (suc i)), h, e) = absurd (omega arith)
+
+r_cost : (k : ℕ) → HasFailure three 2 0 1 k → k ≡ 11
+r_cost k (zero, h, e) = absurd (omega (arith, ap (λ (f : Failure). f.component) e))
+r_cost k (suc zero, h, e) = absurd (omega (arith, ap (λ (f : Failure). f.component) e))
+r_cost k (suc (suc zero), h, e) = sym (ap (λ (f : Failure). f.cost) e)
+r_cost k (suc (suc (suc i)), h, e) = absurd (omega arith)
+
+three_of : (s : List ℕ) → length s ≡ 3 → s ≡ slice_index s 0 ∷ slice_index s 1 ∷ slice_index s 2 ∷ []
+three_of [] e = absurd (omega arith)
+three_of (x ∷ []) e = absurd (omega arith)
+three_of (x ∷ y ∷ []) e = absurd (omega arith)
+three_of (x ∷ y ∷ z ∷ []) e = refl
+three_of (x ∷ y ∷ z ∷ u ∷ s) e = absurd (omega arith)
+
+abbrev Guessed : List ℕ → ℕ → Type 0
+Guessed other more = ((more ≡ 10) × (other ≡ 1 ∷ 1 ∷ 0 ∷ [])) ⊎ (11 ≤ more)
+
+guessed : (other : List ℕ) (more : ℕ) → Consistent three (0 ∷ 0 ∷ 0 ∷ []) None (record { item = 0; value = 1 } ∷ []) other more → Guessed other more
+guessed other more h =
+    let x : ℕ = slice_index other 0 in
+    let y : ℕ = slice_index other 1 in
+    let z : ℕ = slice_index other 2 in
+    let stays : h.costs.nominal ≡ 0 ∷ 0 ∷ 0 ∷ [] = unmoved three (0 ∷ 0 ∷ 0 ∷ []) h.costs.nominal h.costs.is_nominal in
+    let full : length other ≡ 3 = h.costs.state.full in
+    let lx : x < 2 = h.costs.state.modes 0 (omega arith) in
+    let ly : y < 2 = h.costs.state.modes 1 (omega arith) in
+    let lz : z < 2 = h.costs.state.modes 2 (omega arith) in
+    let px : slice_index h.costs.parts 0 ≡ 4 * x =
+    change 0 x (slice_index h.costs.parts 0) 4 lx p_cost (subst (λ (n : List ℕ). ChangeCosts three 0 0 (slice_index n 0) x (slice_index h.costs.parts 0)) stays (h.costs.each 0 (omega arith))) in
+    let py : slice_index h.costs.parts 1 ≡ 6 * y =
+    change 1 y (slice_index h.costs.parts 1) 6 ly q_cost (subst (λ (n : List ℕ). ChangeCosts three 1 0 (slice_index n 1) y (slice_index h.costs.parts 1)) stays (h.costs.each 1 (omega arith))) in
+    let pz : slice_index h.costs.parts 2 ≡ 11 * z =
+    change 2 z (slice_index h.costs.parts 2) 11 lz r_cost (subst (λ (n : List ℕ). ChangeCosts three 2 0 (slice_index n 2) z (slice_index h.costs.parts 2)) stays (h.costs.each 2 (omega arith))) in
+    let total : more ≡ 4 * x + 6 * y + 11 * z =
+    h.costs.total ∙ sum_three h.costs.parts (h.costs.full ∙ full) ∙ omega arith in
+    let seen : slice_index h.world 0 ≡ 1 = index_of h.world 0 1 (h.agrees 0 (record { item = 0; value = 0 }) (omega arith)) in
+    let poor : is_poor x y z ≡ true =
+    subst (λ (v : ℕ). (if has 2 v then is_poor x y z else not (is_poor x y z)) ≡ true) seen (sym (poor_is other h.world) ∙ h.is_world.rules 0 poor_rule (omega arith)) in
+    elim (weigh x y z more lx ly lz total (culprits x y z lx poor)) [
+      | inl (e, ex, ey, ez) ↦ inl (e, three_of other full ∙ cc)
+      | inr large ↦ inr large
+    ]
+
+not_before_itself : IsEarlier (1 ∷ 1 ∷ 0 ∷ []) (1 ∷ 1 ∷ 0 ∷ []) → ⊥
+not_before_itself h = absurd cc
+
+least : (other : List ℕ) (more : ℕ) → Guessed other more → 10 ≤ more
+least other more (inl x) = omega (arith, x.0)
+least other more (inr x) = omega arith
+
+first : (other : List ℕ) → Guessed other 10 → IsEarlier other (1 ∷ 1 ∷ 0 ∷ []) → ⊥
+first other (inl x) before = not_before_itself (subst (λ (s : List ℕ). IsEarlier s (1 ∷ 1 ∷ 0 ∷ [])) x.1 before)
+first other (inr x) before = absurd (omega arith)
+
+pub two_for_one : TwoForOne
+two_for_one = record {
+  consistent = record {
+    costs = record {
+      state = record { full = refl; modes = below_three (λ c. HasMode three c (slice_index (1 ∷ 1 ∷ 0 ∷ []) c)) (omega arith) (omega arith) (omega arith) };
+      nominal = 0 ∷ 0 ∷ 0 ∷ [];
+      is_nominal = inr (λ move h. none_some move.command h.command, refl);
+      parts = 4 ∷ 6 ∷ 0 ∷ [];
+      full = refl;
+      each = below_three (λ c. ChangeCosts three c (slice_index (0 ∷ 0 ∷ 0 ∷ []) c) (slice_index (0 ∷ 0 ∷ 0 ∷ []) c) (slice_index (1 ∷ 1 ∷ 0 ∷ []) c) (slice_index (4 ∷ 6 ∷ 0 ∷ []) c))
+          (inr (λ e. absurd (omega (arith, e)), (0, omega arith, refl), λ other h. omega (arith, p_cost other h)))
+          (inr (λ e. absurd (omega (arith, e)), (1, omega arith, refl), λ other h. omega (arith, q_cost other h)))
+          (inl (refl, refl));
+      total = refl;
+    };
+    world = 1 ∷ [];
+    is_world = record {
+      full = refl;
+      values = below_one (λ v. HasValue three v (slice_index (1 ∷ []) v)) (omega arith);
+      rules = one_at (λ rule. IsTrue (truth (1 ∷ 1 ∷ 0 ∷ []) (1 ∷ []) rule)) poor_rule (poor_is (1 ∷ 1 ∷ 0 ∷ []) (1 ∷ []));
+    };
+    agrees = one_at (λ (p : Pair). slice_get (1 ∷ []) p.item ≡ Some p.value) (record { item = 0; value = 1 }) refl;
+  };
+  least = λ other more h. least other more (guessed other more h);
+  first = λ other h. first other (guessed other 10 h);
+}

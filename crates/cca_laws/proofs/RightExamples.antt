@@ -1,0 +1,59 @@
+-- Right and wrong estimates.
+use Rattle.std.proofs.Common.{◌≡◌, ℕ, zero, suc, inl, inr, List, [], ◌∷◌, ◌++◌, All, Some, refl, sym, ap, subst, ◌∙◌, arith}
+use Rattle.std.specs.Prelude.{slice_get}
+use Rattle.std.proofs.lemmas.List.Elements.{All-get_or}
+use Rattle.std.proofs.lemmas.Bool.{false≢true}
+use Rattle.cca_base.specs.declared.cube.Pair.{Pair}
+use Rattle.cca_base.specs.declared.events.Event.{Event}
+use Rattle.cca_base.specs.declared.events.Event.TheVariants as event
+use Rattle.cca_base.specs.Trace.{Situation, Observed, start}
+use Rattle.cca_base.specs.Runs.{Moment, CanBeSeen, StartsAnew, LeavesPlantAlone}
+use Rattle.cca_base.proofs.SetLemmas.{has-empty}
+use Rattle.cca_base.proofs.Members.{some_inj, none_some}
+use Rattle.cca_laws.proofs.Tiny.{one_at}
+use Rattle.cca_laws.proofs.ValveExamples.{start_world}
+use Rattle.cca_laws.specs.ValveExamples.{valve_model}
+use Rattle.cca_laws.specs.RightExamples.{no_flow, wrong_moment, faulty_moment, reset_moment, WrongIsNotRight, FaultsExcuse, ResetsEndExcuses, ResetKeepsTicks}
+
+observed : Observed valve_model (record (start valve_model 0) { pending = no_flow }) no_flow
+observed = record {
+  rising = λ i j d lt h. absurd (omega arith);
+  each = λ p. (λ among. inl among, λ h. elim h [ inl among ↦ among | inr shown ↦ absurd (false≢true (sym (has-empty p.item) ∙ shown.0)) ]);
+}
+
+can_be_seen : CanBeSeen valve_model wrong_moment
+can_be_seen = (no_flow, 0 ∷ [], observed, start_world, one_at (λ (p : Pair). slice_get (0 ∷ []) p.item ≡ Some p.value) (record { item = 0; value = 0 }) refl)
+
+wrong : ◌≡◌ {A = List ℕ} (1 ∷ 0 ∷ []) (0 ∷ 0 ∷ []) → ⊥
+wrong e = absurd cc
+
+pub wrong_is_not_right : WrongIsNotRight
+wrong_is_not_right ways order bounds h =
+    wrong (h 0 wrong_moment refl (inl (inl (refl, one_at LeavesPlantAlone (event.Observe no_flow) tt))) can_be_seen).0
+
+-- neither does the tick start anew
+fault_stays : (before after : List Event) → faulty_moment.since ≡ before ++ event.Reset ∷ after → ⊥
+fault_stays [] after e = absurd cc
+fault_stays (x ∷ []) after e = absurd cc
+fault_stays (x ∷ y ∷ []) after e = absurd cc
+fault_stays (x ∷ y ∷ z ∷ before) after e = absurd cc
+
+faulty : (t : Moment) → faulty_moment ≡ t → StartsAnew 0 t.since → ⊥
+faulty t e (inl x) = All-get_or LeavesPlantAlone faulty_moment.since 0 event.Reset (omega arith) (subst (λ (u : Moment). All LeavesPlantAlone u.since) (sym e) x.1)
+faulty t e (inr x) = fault_stays x.0 x.1 (ap (λ (u : Moment). u.since) e ∙ x.2)
+
+pub faults_excuse : FaultsExcuse
+faults_excuse b zero t e (inl x) seen = absurd (faulty t (some_inj faulty_moment t e) x)
+faults_excuse b zero t e (inr x) seen = absurd (omega (arith, x.2))
+faults_excuse b (suc i) t e x seen = absurd (none_some t e)
+
+pub resets_end_excuses : ResetsEndExcuses
+resets_end_excuses ways order bounds h =
+    wrong (
+    h 0 reset_moment refl
+    (inl (inr (event.Fault (record { item = 0; value = 0 }) ∷ [], event.Observe no_flow ∷ [], refl, one_at LeavesPlantAlone (event.Observe no_flow) tt)))
+    can_be_seen
+    ).0
+
+pub reset_keeps_ticks : ResetKeepsTicks
+reset_keeps_ticks m order x y e = ap (λ (z : Situation). z.ticks) e

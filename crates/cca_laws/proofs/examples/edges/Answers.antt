@@ -1,0 +1,23 @@
+use Rattle.cca_laws.proofs.EdgeExamples.{which_are_names, foreign_failure, costs_at_the_edge, out_of_first_use, which_are_choices, sixteen_are_choices, seventeen_are_too_many}
+use Rattle.cca_laws.proofs.examples.edges.Goals as goal
+
+pub returns-clause-names : goal.returns-clause-names
+returns-clause-names c = which_are_names
+
+pub returns-clause-foreign : goal.returns-clause-foreign
+returns-clause-foreign c = foreign_failure
+
+pub returns-clause-costs : goal.returns-clause-costs
+returns-clause-costs c = costs_at_the_edge
+
+pub returns-clause-first_use : goal.returns-clause-first_use
+returns-clause-first_use c = out_of_first_use
+
+pub returns-clause-choices : goal.returns-clause-choices
+returns-clause-choices c = which_are_choices
+
+pub returns-clause-seventeen : goal.returns-clause-seventeen
+returns-clause-seventeen c = seventeen_are_too_many
+
+pub returns-clause-sixteen : goal.returns-clause-sixteen
+returns-clause-sixteen c = sixteen_are_choices

@@ -1,0 +1,40 @@
+-- What is observed, and how a goal is kept.
+use Rattle.std.specs.Prelude.{true, [], ◌∷◌, codes}
+use Rattle.cca_base.specs.declared.cube.Pair.{Pair}
+use Rattle.cca_base.specs.declared.events.Event.TheVariants as event
+use Rattle.cca_base.specs.Automata.{Automata}
+use Rattle.cca_base.specs.Orders.{IsSorted}
+use Rattle.cca_base.specs.Trace.{start, Changes, Observed}
+
+-- two sensed variables that nothing ties
+abbrev pub loose : Automata
+loose = record {
+  components = [];
+  variables =
+      record { name = codes "x"; values = codes "low" ∷ codes "high" ∷ []; sensed = true } ∷ record { name = codes "y"; values = codes "low" ∷ codes "high" ∷ []; sensed = true }
+      ∷ [];
+  rules = [];
+  commands = [];
+  moves = [];
+  failures = [];
+}
+
+-- x is low
+abbrev pub x_low : Pair
+x_low = record { item = 0; value = 0 }
+
+-- y is high
+abbrev pub y_high : Pair
+y_high = record { item = 1; value = 1 }
+
+-- what is observed as y, x is pending as x, y
+abbrev pub PendingRises : Type 0
+PendingRises = Changes loose (IsSorted []) (start loose 0) (event.Observe (y_high ∷ x_low ∷ [])) (record (start loose 0) { pending = x_low ∷ y_high ∷ [] })
+
+-- a mirrored variable that may have either value gives no pair
+abbrev pub NothingMirrored : Type 0
+NothingMirrored = Observed loose (record (start loose 0) { mirrored = 1 }) []
+
+-- a goal for drv and then valve is kept as valve, drv, where that is the order
+abbrev pub GoalIsTurned : Type 0
+GoalIsTurned = IsSorted (1 ∷ 0 ∷ []) (record { item = 0; value = 0 } ∷ record { item = 1; value = 1 } ∷ []) (record { item = 1; value = 1 } ∷ record { item = 0; value = 0 } ∷ [])

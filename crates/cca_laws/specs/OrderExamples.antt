@@ -1,0 +1,46 @@
+-- A guard that names more than it needs, and the order of its components.
+use Rattle.std.specs.Prelude.{◌≡◌, ◌↔◌, ℕ, false, List, [], ◌∷◌, codes}
+use Rattle.cca_base.specs.declared.cube.Pair.{Pair}
+use Rattle.cca_base.specs.declared.formula.Formula.{Formula}
+use Rattle.cca_base.specs.declared.model.Move.{Move}
+use Rattle.cca_base.specs.Automata.{Automata}
+use Rattle.cca_base.specs.Implicants.{PrimeImplicant, Needs}
+use Rattle.cca_base.specs.Orders.{IsEffectsFirst}
+use Rattle.cca_laws.specs.FormulaExamples.{mode_in, both, either}
+
+-- (a = p and b = q) or (a = r and b = q)
+abbrev pub wordy_guard : Formula
+wordy_guard = either (both (mode_in 0 1) (mode_in 1 2)) (both (mode_in 0 2) (mode_in 1 2))
+
+-- the move that has the guard
+abbrev pub wordy_move : Move
+wordy_move = record { component = 2; source = 0; target = 1; command = 0; repair = false; guard = wordy_guard }
+
+-- a is p or r, b is n or q, and c is off or on
+abbrev pub wordy : Automata
+wordy = record {
+  components =
+      record { name = codes "a"; modes = codes "p" ∷ codes "r" ∷ []; start = 0 } ∷ record { name = codes "b"; modes = codes "n" ∷ codes "q" ∷ []; start = 0 }
+      ∷ record { name = codes "c"; modes = codes "off" ∷ codes "on" ∷ []; start = 0 } ∷ [];
+  variables = [];
+  rules = [];
+  commands = codes "c_on" ∷ [];
+  moves = wordy_move ∷ [];
+  failures = [];
+}
+
+-- b = q
+abbrev pub b_is_q : Pair
+b_is_q = record { item = 1; value = 1 }
+
+-- the only prime implicant is b = q, though the guard names a
+abbrev pub OneImplicant : Type 0
+OneImplicant = (cube : List Pair) → PrimeImplicant wordy wordy_move cube ↔ (cube ≡ b_is_q ∷ [])
+
+-- so c needs b, and nothing else is needed
+abbrev pub OneNeed : Type 0
+OneNeed = (c u : ℕ) → Needs wordy c u ↔ ((c ≡ 2) × (u ≡ 1))
+
+-- effects first the components are a, c, b
+abbrev pub CauseComesLast : Type 0
+CauseComesLast = IsEffectsFirst wordy (0 ∷ 2 ∷ 1 ∷ [])
