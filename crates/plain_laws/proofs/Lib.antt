@@ -1,0 +1,6 @@
+pub mod PlainCompiled
+pub mod PlainEstimates
+pub mod PlainGoals
+pub mod PlainSteps
+pub mod Reply
+pub mod Walks

@@ -1,0 +1,23 @@
+//! Laws of the models of the first forms, over the definitions alone: what is compiled from them, what a tick estimates,
+//! and that each reply of the plain planner is good. No code of its own.
+#![tactic(auto)]
+
+ghost use Rattle.plain_laws.specs.Plain.{RepliesAreGood, PlainIsCompiled};
+ghost use Rattle.plain_laws.specs.PlainTicks.{NominalIsEstimate, RepliesAreObeyed, GoalsAreSorted};
+
+/// In a plain model each reply of the plain planner is good.
+pub fn replies_are_good()
+    ensures { RepliesAreGood }
+{}
+
+/// A plain model that uses each command is accepted.
+pub fn plain_is_compiled()
+    ensures { PlainIsCompiled }
+{}
+
+/// What a tick of a plain model shows, and how a goal is kept.
+pub fn plain_ticks()
+    ensures estimate { NominalIsEstimate }
+    ensures obeyed { RepliesAreObeyed }
+    ensures sorted { GoalsAreSorted }
+{}
