@@ -1,4 +1,6 @@
-use crate::row::{LAMP_LINES, LAMP_MODEL, assert_bytes_row, assert_row};
+use crate::row::{
+    FIRST_TICK, LAMP_LINES, LAMP_MODEL, assert_bytes_row, assert_row, refusal_in, written,
+};
 use std::alloc::Global;
 use std::process::Abort;
 use std::test::Fail;
@@ -146,6 +148,23 @@ fn long_names_are_unknown_or_unsupported(rt: HostRuntime) -> Result<(), Fail> {
     assert_row(&rt, alloc, &["run"], input.as_str(), Status::Ended, text)
 }
 
+#[test]
+fn a_command_is_of_one_component_and_one_move(rt: HostRuntime) -> Result<(), Fail> {
+    let alloc = rt.alloc();
+    let lines = "move lamp off -> on by x when true\nmove lamp off -> off by x when true\n";
+    assert_refused_after(&rt, alloc, lines, "refused 4 20 unsupported\n")?;
+    let lines =
+        "component b = p, q start p\nmove lamp off -> on by x when true\nmove b q -> p by x when true\n";
+    assert_refused_after(&rt, alloc, lines, "refused 5 20 unsupported\n")?;
+    let lines = "move lamp off -> on by a23456789012345678901234567890123 when true\n";
+    assert_refused_after(&rt, alloc, lines, "refused 3 20 unsupported\n")?;
+    let lines = "goal lamp = dim, lamp = off\n";
+    assert_refused_in_script(&rt, alloc, lines, "refused 6 2 name_unknown\n")?;
+    let lines = "move lamp off -> on by x when true\n";
+    assert_refused_in_script(&rt, alloc, lines, "refused 6 1 malformed\n")?;
+    assert_refused_in_script(&rt, alloc, "tick tick", "refused 6 1 malformed\n")
+}
+
 /// A document of a header, a script and so many bytes behind them.
 fn padded(alloc: Global, byte: u8, count: usize) -> Result<Vec<u8>, Fail> {
     let mut input = Vec::from_slice(alloc, b"titan 1\nscript\n".as_slice())?;
@@ -188,21 +207,33 @@ fn a_line_has_its_limit(rt: HostRuntime) -> Result<(), Fail> {
 }
 
 #[test]
-fn a_prefix_prints_a_prefix(rt: HostRuntime) -> Result<(), Fail> {
+fn a_prefix_prints_the_ticks_that_it_has(rt: HostRuntime) -> Result<(), Fail> {
     let alloc = rt.alloc();
-    let tick = "tick 1 cost 0 modes lamp=off send lamp_on\n";
-    let script = "goal lamp = on\ntick\ntick\n";
     let mut input = String::from_str(alloc, LAMP_MODEL)?;
-    input.push_str(script)?;
+    input.push_str("goal lamp = on\n")?;
+    let first = input.len() + 4;
+    input.push_str("tick\ntick\n")?;
     for end in 0..=input.len() {
         let part = input.as_bytes().get(..end).ok_or("no such prefix")?;
-        let part = Vec::from_slice(alloc, part)?;
-        let written = crate::row::written(alloc, part)?;
-        let ticks = crate::row::before_refusal(&written);
-        let is_prefix = ticks.is_empty()
-            || ticks == tick.as_bytes()
-            || ticks == LAMP_LINES.as_bytes();
-        assert!(rt; is_prefix, "a prefix of the lamp's ticks");
+        let (status, written) = written(alloc, Vec::from_slice(alloc, part)?)?;
+        let refusal = refusal_in(&written);
+        let is_whole = status == Status::Ended && refusal.is_none();
+        let is_refused = status == Status::Refused && refusal.is_some();
+        assert!(rt;
+            is_whole || is_refused,
+            "it ends, or it is refused in one line"
+        );
+        let ticks = written
+            .get(..refusal.unwrap_or(written.len()))
+            .ok_or("no ticks")?;
+        let expected = if end < first {
+            ""
+        } else if end < first + 5 {
+            FIRST_TICK
+        } else {
+            LAMP_LINES
+        };
+        assert_eq!(rt; ticks, expected.as_bytes(), "the ticks of the prefix");
     }
     Ok(())
 }

@@ -7,6 +7,8 @@ use titan_wire::*;
 pub const LAMP_MODEL: &str =
     "titan 1\ncomponent lamp = off, on start off\nmove lamp off -> on by lamp_on when true\nmove lamp on -> off by lamp_off when true\nscript\n";
 
+pub const FIRST_TICK: &str = "tick 1 cost 0 modes lamp=off send lamp_on\n";
+
 pub const LAMP_LINES: &str =
     "tick 1 cost 0 modes lamp=off send lamp_on\ntick 2 cost 0 modes lamp=on achieved\n";
 
@@ -73,20 +75,20 @@ pub fn assert_bytes_row(
     Ok(())
 }
 
-/// What `run` writes for these bytes.
-pub fn written(alloc: Global, input: Vec<u8>) -> Result<Vec<u8>, Fail> {
+/// How `run` ends for these bytes, and what it writes.
+pub fn written(alloc: Global, input: Vec<u8>) -> Result<(Status, Vec<u8>), Fail> {
     let mut source = SteadySource::new(input);
     let mut sink = MemorySink::new(alloc, 4096, Vec::new(alloc))?;
-    let _ = titan(alloc, &words_of(alloc, &["run"])?, &mut source, &mut sink);
-    Ok(Vec::from_slice(alloc, sink.bytes())?)
+    let status = titan(alloc, &words_of(alloc, &["run"])?, &mut source, &mut sink);
+    Ok((status, Vec::from_slice(alloc, sink.bytes())?))
 }
 
-/// The text before the line of a refusal.
-pub fn before_refusal(text: &[u8]) -> &[u8] {
+/// Where the line of a refusal begins, if there is one.
+pub fn refusal_in(text: &[u8]) -> Option<usize> {
     for i in 0..text.len() {
         if text[i..].starts_with(b"refused".as_slice()) {
-            return &text[..i];
+            return Some(i);
         }
     }
-    text
+    None
 }
