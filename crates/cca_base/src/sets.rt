@@ -1,4 +1,4 @@
-ghost use Rattle.std.specs.Prelude.{◌≡◌, ℕ, ◌==◌, ◌||◌, ◌<◌, ◌^◌, false};
+ghost use Rattle.std.specs.Prelude.{◌≡◌, ℕ, ◌==◌, ◌||◌, ◌&&◌, ◌<◌, ◌≤◌, ◌^◌, ◌-◌, false, nat_lt, bit_or, bit_and};
 ghost use Rattle.cca_base.specs.Sets.{has, with_number};
 
 use std::marker::Model;
@@ -48,6 +48,52 @@ impl ValueSet {
         ensures { result ≡ has self n }
     {
         n < 16 && (self.bits >> n) & 1 == 1
+    }
+
+    /// The set of all numbers below `n`.
+    pub fn full(n: u8) -> ValueSet
+        requires { n ≤ 16 }
+        ensures value { result ≡ 2 ^ n - 1 }
+        ensures members { (m : ℕ) → has result m ≡ nat_lt m n }
+    {
+        let ones = (1u32 << n) - 1;
+        ValueSet { bits: ones as u16 }
+    }
+
+    /// Whether nothing is in the set.
+    pub fn is_empty(self) -> bool
+        ensures { result ≡ (self == 0) }
+    {
+        self.bits == 0
+    }
+
+    /// What is in one of the sets.
+    #[tactic(auto, using(crate::proofs::SetLemmas::members))]
+    pub fn union(self, other: ValueSet) -> ValueSet
+        ensures value { result ≡ bit_or self other }
+        ensures members { (m : ℕ) → has result m ≡ (has self m || has other m) }
+    {
+        ValueSet {
+            bits: self.bits | other.bits,
+        }
+    }
+
+    /// What is in both sets.
+    #[tactic(auto, using(crate::proofs::SetLemmas::members))]
+    pub fn common(self, other: ValueSet) -> ValueSet
+        ensures value { result ≡ bit_and self other }
+        ensures members { (m : ℕ) → has result m ≡ (has self m && has other m) }
+    {
+        ValueSet {
+            bits: self.bits & other.bits,
+        }
+    }
+
+    /// Whether all that is in this set is in the other.
+    pub fn is_within(self, other: ValueSet) -> bool
+        ensures { result ≡ (bit_or self other == other) }
+    {
+        self.bits | other.bits == other.bits
     }
 }
 

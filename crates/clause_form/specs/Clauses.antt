@@ -1,0 +1,38 @@
+-- What clauses say of values, one for each subject.
+use Rattle.std.specs.Prelude.{◌≡◌, ◌<◌, ◌≤◌, ℕ, Bool, List, length, slice_index, All}
+use Rattle.std.specs.List.{list_any, list_all}
+use Rattle.cca_base.specs.Sets.{has}
+use Rattle.cca_base.specs.declared.limits.TheConstants.{MAX_CHOICES}
+use Rattle.clause_form.specs.declared.clause.Literal.{Literal}
+use Rattle.clause_form.specs.declared.clause.Clause.{Clause}
+use Rattle.clause_form.specs.declared.clause.Clauses.{Clauses}
+
+-- a value for each subject
+pub record AreValues (sizes xs : List ℕ) : Type 0 where
+  pub full : length xs ≡ length sizes
+  pub values : (i : ℕ) → i < length sizes → slice_index xs i < slice_index sizes i
+
+-- the subject has one of the literal's values
+abbrev pub is_true : List ℕ → Literal → Bool
+is_true xs literal = has literal.values (slice_index xs literal.subject)
+
+-- some literal is true
+abbrev pub is_met : List ℕ → List Literal → Bool
+is_met xs literals = list_any (is_true xs) literals
+
+-- the clause is true
+abbrev pub meets : List ℕ → Clause → Bool
+meets xs clause = is_met xs clause.literals
+
+-- every clause is true
+abbrev pub all_met : List ℕ → List Clause → Bool
+all_met xs clauses = list_all (meets xs) clauses
+
+-- the clause speaks of the subjects alone
+abbrev pub IsOfSubjects : List ℕ → Clause → Type 0
+IsOfSubjects sizes clause = All (λ literal. literal.subject < length sizes) clause.literals
+
+-- each subject has no more values than a set can hold, and each clause speaks of the subjects alone
+pub record AreClauses (c : Clauses) : Type 0 where
+  pub few : All (λ n. n ≤ MAX_CHOICES) c.sizes
+  pub subjects : All (IsOfSubjects c.sizes) c.clauses
