@@ -12,6 +12,9 @@ pub const FIRST_TICK: &str = "tick 1 cost 0 modes lamp=off send lamp_on\n";
 pub const LAMP_LINES: &str =
     "tick 1 cost 0 modes lamp=off send lamp_on\ntick 2 cost 0 modes lamp=on achieved\n";
 
+/// More bytes than any row writes.
+const CAPACITY: usize = 65_536;
+
 fn words_of(alloc: Global, words: &[&str]) -> Result<Vec<String>, Fail> {
     let mut list = Vec::new(alloc);
     for word in words {
@@ -30,7 +33,7 @@ pub fn assert_row(
     text: &str,
 ) -> Result<(), Fail> {
     let mut source = MemorySource::new(Vec::from_slice(alloc, input.as_bytes())?, Vec::new(alloc));
-    let mut sink = MemorySink::new(alloc, 4096, Vec::new(alloc))?;
+    let mut sink = MemorySink::new(alloc, CAPACITY, Vec::new(alloc))?;
     let ended = titan(alloc, &words_of(alloc, words)?, &mut source, &mut sink);
     assert_eq!(rt; ended, status, "how it ends");
     assert_eq!(rt; sink.bytes(), text.as_bytes(), "what is written");
@@ -52,7 +55,7 @@ pub fn assert_faulty_row(
     let mut puts = Vec::new(alloc);
     puts.push(failing_put)?;
     let mut source = MemorySource::new(Vec::from_slice(alloc, input.as_bytes())?, takes);
-    let mut sink = MemorySink::new(alloc, 4096, puts)?;
+    let mut sink = MemorySink::new(alloc, CAPACITY, puts)?;
     let ended = titan(alloc, &words_of(alloc, &["run"])?, &mut source, &mut sink);
     assert_eq!(rt; ended, status, "how it ends");
     assert_eq!(rt; sink.bytes(), text.as_bytes(), "what is written");
@@ -68,7 +71,7 @@ pub fn assert_bytes_row(
     text: &str,
 ) -> Result<(), Fail> {
     let mut source = SteadySource::new(input);
-    let mut sink = MemorySink::new(alloc, 4096, Vec::new(alloc))?;
+    let mut sink = MemorySink::new(alloc, CAPACITY, Vec::new(alloc))?;
     let ended = titan(alloc, &words_of(alloc, &["run"])?, &mut source, &mut sink);
     assert_eq!(rt; ended, status, "how it ends");
     assert_eq!(rt; sink.bytes(), text.as_bytes(), "what is written");
@@ -78,7 +81,7 @@ pub fn assert_bytes_row(
 /// How `run` ends for these bytes, and what it writes.
 pub fn written(alloc: Global, input: Vec<u8>) -> Result<(Status, Vec<u8>), Fail> {
     let mut source = SteadySource::new(input);
-    let mut sink = MemorySink::new(alloc, 4096, Vec::new(alloc))?;
+    let mut sink = MemorySink::new(alloc, CAPACITY, Vec::new(alloc))?;
     let status = titan(alloc, &words_of(alloc, &["run"])?, &mut source, &mut sink);
     Ok((status, Vec::from_slice(alloc, sink.bytes())?))
 }

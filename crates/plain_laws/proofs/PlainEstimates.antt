@@ -24,7 +24,7 @@ use Rattle.cca_base.specs.Estimates.{IsEarlier}
 use Rattle.cca_base.proofs.Members.{some_inj, none_some}
 use Rattle.plain_laws.specs.Plain.{IsPlain}
 use Rattle.plain_laws.specs.PlainTicks.{NominalIsEstimate, RepliesAreObeyed}
-use Rattle.titan_top.specs.Planner.{is_sent, arrive}
+use Rattle.plain_laws.specs.Planner.{is_sent, arrive}
 use Rattle.plain_laws.proofs.Walks.{Split, find_split, split_contains, find_none}
 use Rattle.plain_laws.proofs.PlainSteps.{mode_in_state, at_get, get_at, true_follows}
 
@@ -165,7 +165,7 @@ arrives m s k (Some move) good plain state found =
     inl (move, sent_is_commanded m s k move good plain state (split_contains (is_sent s k) m.moves move first) first.passes, refl)
 
 -- without a command nothing moves
-stays : (m : Automata) (s : List ℕ) → Nominal m s None s
+pub stays : (m : Automata) (s : List ℕ) → Nominal m s None s
 stays m s = inr ((λ move h. none_some move.command h.command), refl)
 
 pub replies_are_obeyed : RepliesAreObeyed

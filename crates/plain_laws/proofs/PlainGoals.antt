@@ -12,7 +12,7 @@ use Rattle.cca_base.specs.Orders.{numbers_below, AreInOrder}
 use Rattle.cca_base.proofs.Members.{all_from}
 use Rattle.cca_base.proofs.Pairwise.{AllPairs-head, AllPairs-tail}
 use Rattle.plain_laws.specs.PlainTicks.{GoalsAreSorted}
-use Rattle.titan_top.specs.Session.{in_order}
+use Rattle.plain_laws.specs.Executive.{in_order}
 use Rattle.plain_laws.proofs.Walks.{Split, find_split}
 
 -- the first pair of a component, if there is one

@@ -11,7 +11,7 @@ use Rattle.cca_base.specs.State.{IsState, Extends}
 use Rattle.cca_base.specs.Steps.{Reach, Allowed}
 use Rattle.cca_base.specs.Goals.{Good, IsFirstUnreached}
 use Rattle.cca_base.proofs.Members.{all_from}
-use Rattle.titan_top.specs.Planner.{leads, is_reached, has_pair, move_toward, reply_by, reply_among}
+use Rattle.plain_laws.specs.Planner.{leads, is_reached, has_pair, move_toward, reply_by, reply_among}
 use Rattle.plain_laws.specs.Plain.{IsPlain, RepliesAreGood}
 use Rattle.plain_laws.proofs.Walks.{Walk, join, stay, go_on, Toward, toward, walk_from_leads, leads_from_walk, Split, find_split, split_contains, find_none}
 use Rattle.plain_laws.proofs.PlainSteps.{Moved, set_moved, CanTurn, PlanFor, step_by, step_own, allowed_by, plan_for, reach_from, turns_from_reach, turns_after, mode_in_state, sources_are_small, at_get, get_at}

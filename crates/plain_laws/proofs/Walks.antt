@@ -8,7 +8,7 @@ use Rattle.cca_base.specs.declared.model.Move.{Move}
 use Rattle.cca_base.specs.declared.limits.TheConstants.{MAX_CHOICES}
 use Rattle.cca_base.specs.Orders.{numbers_below}
 use Rattle.cca_base.proofs.Members.{some_inj, none_some, contains_cases, contains_here, contains_none, to_filter}
-use Rattle.titan_top.specs.Planner.{leaves, leads_within, or_else, nearer_move, move_toward, leads}
+use Rattle.plain_laws.specs.Planner.{leaves, leads_within, or_else, nearer_move, move_toward, leads}
 
 -- ---- the first element that passes a test
 

@@ -1,2 +1,5 @@
+pub mod Executive
 pub mod Plain
 pub mod PlainTicks
+pub mod PlainTrace
+pub mod Planner

@@ -10,7 +10,7 @@ use Rattle.cca_base.specs.Model.{WellFormed, HasMode}
 use Rattle.cca_base.specs.Cube.{IsCube}
 use Rattle.cca_base.specs.State.{IsState}
 use Rattle.cca_base.specs.Goals.{Good}
-use Rattle.titan_top.specs.Planner.{reply_to}
+use Rattle.plain_laws.specs.Planner.{reply_to}
 
 -- no variables, rules, repairs or failures, and moves that are always allowed
 pub record IsPlain (m : Automata) : Type 0 where

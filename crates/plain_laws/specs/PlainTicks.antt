@@ -1,5 +1,5 @@
 -- What a tick of a plain model shows, and how a goal is kept.
-use Rattle.std.specs.Prelude.{◌<◌, ℕ, zero, suc, List, [], ◌++◌, Option, All, find, option_to_list, ◌==◌}
+use Rattle.std.specs.Prelude.{◌<◌, ℕ, List, [], Option, All}
 use Rattle.cca_base.specs.declared.cube.Pair.{Pair}
 use Rattle.cca_base.specs.Automata.{Automata}
 use Rattle.cca_base.specs.Model.{WellFormed}
@@ -9,8 +9,8 @@ use Rattle.cca_base.specs.Orders.{IsSorted, numbers_below}
 use Rattle.cca_base.specs.Successors.{Nominal}
 use Rattle.cca_base.specs.Estimates.{Estimate}
 use Rattle.plain_laws.specs.Plain.{IsPlain}
-use Rattle.titan_top.specs.Session.{in_order}
-use Rattle.titan_top.specs.Planner.{after_reply}
+use Rattle.plain_laws.specs.Executive.{in_order}
+use Rattle.plain_laws.specs.Planner.{after_reply}
 use Rattle.cca_base.specs.declared.events.Reply.{Reply}
 use Rattle.cca_base.specs.Trace.{command_of}
 

@@ -4,6 +4,7 @@
 
 ghost use Rattle.plain_laws.specs.Plain.{RepliesAreGood, PlainIsCompiled};
 ghost use Rattle.plain_laws.specs.PlainTicks.{NominalIsEstimate, RepliesAreObeyed, GoalsAreSorted};
+ghost use Rattle.plain_laws.specs.PlainTrace.{ReportsAreTrace};
 
 /// In a plain model each reply of the plain planner is good.
 pub fn replies_are_good()
@@ -20,4 +21,9 @@ pub fn plain_ticks()
     ensures estimate { NominalIsEstimate }
     ensures obeyed { RepliesAreObeyed }
     ensures sorted { GoalsAreSorted }
+{}
+
+/// The plain executive's reports are the trace of its events, with good replies.
+pub fn reports_are_trace()
+    ensures { ReportsAreTrace }
 {}

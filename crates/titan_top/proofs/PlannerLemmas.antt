@@ -14,7 +14,7 @@ use Rattle.cca_base.specs.Sets.{has}
 use Rattle.cca_base.specs.declared.cube.Pair.{Pair}
 use Rattle.cca_base.specs.declared.model.Component.{Component}
 use Rattle.cca_base.specs.declared.model.Move.{Move}
-use Rattle.titan_top.specs.Planner.{leaves, leads_within, or_else, nearer_move}
+use Rattle.plain_laws.specs.Planner.{leaves, leads_within, or_else, nearer_move}
 
 -- ---- modes
 

@@ -4,7 +4,7 @@ use Rattle.cca_base.specs.declared.cube.Pair.{Pair}
 use Rattle.cca_base.specs.Automata.{Automata}
 use Rattle.titan_top.specs.declared.item.NamedPair.{NamedPair as NamedPairOfCode}
 use Rattle.titan_top.specs.Items.{NamedPair, ◌>>=◌, shown_pair}
-use Rattle.titan_top.specs.Session.{pair_of, pairs_of}
+use Rattle.titan_top.specs.EventLines.{pair_of, pairs_of}
 
 -- what was read before, and what is still read
 abbrev pub with_front : List Pair → Option (List Pair) → Option (List Pair)

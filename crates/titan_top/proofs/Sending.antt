@@ -1,18 +1,26 @@
 -- A text that is sent in pieces: what was sent, and what is left to send, are the whole text.
-use Rattle.std.proofs.Common.{◌≡◌, ℕ, ◌+◌, ◌-◌, ◌≤◌, List, [], ◌∷◌, ◌++◌, length, take, drop, Option, Some, None, refl, sym, ap, subst, ◌∙◌, append_assoc, arith, length-append}
+use Rattle.std.proofs.Common.{◌≡◌, ℕ, ◌+◌, ◌-◌, ◌≤◌, List, [], ◌∷◌, ◌++◌, length, take, drop, Option, Some, None, Result, Ok, Err, refl, sym, ap, subst, ◌∙◌, append_assoc, arith, length-append}
 use Rattle.std.specs.Io.KnownBytes.{append_known}
 use Rattle.std.proofs.lemmas.List.{append-nil, take_all, take-append-drop, nil_from_length}
+use Rattle.std.proofs.lemmas.Grind.{flat_map-append}
 use Rattle.titan_wire.specs.Wire.{HasRoom, less_space}
-use Rattle.titan_top.specs.declared.session.Session.{Session}
 use Rattle.titan_top.specs.declared.status.Status.{Status}
 use Rattle.titan_top.specs.declared.status.Status.TheVariants.{Ended, Rejected, Usage, Refused, ReadFault, WriteFault, Memory}
 use Rattle.titan_top.specs.Lines.{lines_of}
 use Rattle.cca_base.specs.declared.events.Stop.{Stop}
 use Rattle.cca_base.specs.declared.events.Stop.TheVariants as stops
-use Rattle.titan_top.specs.Session.{Next, Goes, FailsNext, stop_code, after_line}
-use Rattle.titan_top.specs.Session as session
-use Rattle.titan_top.specs.Text.{Outcome, with_text, outcome_after, outcome_at_end, outcome_from, refusal}
+use Rattle.cca_base.specs.declared.events.Event.{Event}
+use Rattle.cca_base.specs.declared.events.TickReport.{TickReport}
+use Rattle.cca_base.specs.Automata.{Automata}
+use Rattle.plain_laws.specs.Executive.{Standing, after_event, reports_at, reports_from}
+use Rattle.titan_top.specs.EventLines.{event_line}
+use Rattle.titan_top.specs.Reading.{Reading, with_event, after_event_line, script_lines}
+use Rattle.titan_top.specs.ReportLine.{report_line, trace_text}
+use Rattle.titan_top.specs.Standing.{acted, line_acted}
+use Rattle.titan_top.specs.Stops.{StopsAs, refusal_code, stop_code}
+use Rattle.titan_top.specs.Text.{Outcome, with_text, ending, printed_from, refusal}
 use Rattle.titan_top.specs.Wire.{WritesFront, Answers}
+use Rattle.titan_top.proofs.LineLemmas.{ok_is}
 
 append_twice : (o : Option (List ℕ)) (a b : List ℕ) → append_known (append_known o a) b ≡ append_known o (a ++ b)
 append_twice None a b = refl
@@ -80,21 +88,56 @@ room_piece old now first space text left total h s =
     let e : s.front ++ (text ++ left.text) ≡ total.text = ap (λ (o : Outcome). o.text) s.whole in
     room_for first space (length s.front) (length text) (length total.text) h s.room (omega (arith, length-append s.front (text ++ left.text), length-append text left.text, ap length e))
 
--- the outcome of what is left, by what the next line leads to
-abbrev pub left_of : Session → ℕ → List ℕ → Outcome
-left_of w n rest = outcome_from w n (lines_of rest)
+-- the outcome of the lines of a script that are left
+abbrev pub left_of : Automata → Standing → ℕ → List ℕ → Outcome
+left_of m x n rest = printed_from m x (script_lines m n (lines_of rest))
 
-pub next_line : (w v : Session) (n : ℕ) (rest line after text : List ℕ) → lines_of rest ≡ line ∷ lines_of after → after_line w line ≡ Goes v text → left_of w n rest ≡ with_text text (left_of v (n + 1) after)
-unfolding outcome_from
-next_line w v n rest line after text e f = ap (outcome_from w n) e ∙ ap (λ x. outcome_after x (n + 1) (λ u. outcome_from u (n + 1) (lines_of after))) f
+-- the lines of two lists of reports
+trace_joined : (m : Automata) (before after : List TickReport) → trace_text m (before ++ after) ≡ trace_text m before ++ trace_text m after
+trace_joined m before after = flat_map-append (report_line m) before after
 
-pub refused_line : (w : Session) (n code : ℕ) (rest line after : List ℕ) → lines_of rest ≡ line ∷ lines_of after → after_line w line ≡ session.Refused code → left_of w n rest ≡ refusal (n + 1) code
-unfolding outcome_from
-refused_line w n code rest line after e f = ap (outcome_from w n) e ∙ ap (λ x. outcome_after x (n + 1) (λ u. outcome_from u (n + 1) (lines_of after))) f
+-- the reports of an event come before those of the later ones
+event_first : (m : Automata) (x : Standing) (e : Event) (r : Reading) → printed_from m x (with_event e r) ≡ with_text (trace_text m (reports_at m x e)) (printed_from m (after_event m x e) r)
+unfolding printed_from
+event_first m x e r =
+    let first : List ℕ = trace_text m (reports_at m x e) in
+    let rest : List ℕ = trace_text m (reports_from m (after_event m x e) r.events) in
+    ap (λ (l : List ℕ). with_text l (ending r.ending)) (trace_joined m (reports_at m x e) (reports_from m (after_event m x e) r.events))
+    ∙ ap (λ (l : List ℕ). record { text = l; status = (ending r.ending).status }) (append_assoc first rest (ending r.ending).text)
 
-no_line : (w : Session) (n : ℕ) → left_of w n [] ≡ outcome_at_end w.stage n
-unfolding outcome_from
-no_line w n = refl
+by_event : (m : Automata) (x y : Standing) (n : ℕ) (v : Result (Option Event) ℕ) (text : List ℕ) (r : Reading) → acted m x v ≡ Ok (y, text) → printed_from m x (after_event_line v m n r) ≡ with_text text (printed_from m y r)
+by_event m x y n (Err code) text r e = absurd cc
+by_event m x y n (Ok None) text r e = ap (λ (p : Standing × List ℕ). with_text p.1 (printed_from m p.0 r)) (ok_is (x, []) (y, text) e)
+by_event m x y n (Ok (Some v)) text r e =
+    event_first m x v r ∙ ap (λ (p : Standing × List ℕ). with_text p.1 (printed_from m p.0 r)) (ok_is (after_event m x v, trace_text m (reports_at m x v)) (y, text) e)
+
+pub next_line : (m : Automata) (x y : Standing) (n : ℕ) (rest line after text : List ℕ) → lines_of rest ≡ line ∷ lines_of after → line_acted m x line ≡ Ok (y, text) → left_of m x n rest ≡ with_text text (left_of m y (n + 1) after)
+unfolding script_lines
+next_line m x y n rest line after text e f =
+    ap (λ ls. printed_from m x (script_lines m n ls)) e ∙ by_event m x y (n + 1) (event_line m line) text (script_lines m (n + 1) (lines_of after)) f
+
+abbrev code_or : Option ℕ → ℕ
+code_or None = 0
+code_or (Some code) = code
+
+by_refusal : (m : Automata) (x : Standing) (n code : ℕ) (v : Result (Option Event) ℕ) (r : Reading) → refusal_code (acted m x v) ≡ Some code → printed_from m x (after_event_line v m n r) ≡ refusal n code
+unfolding printed_from
+by_refusal m x n code (Err other) r e = ap (λ (o : Option ℕ). refusal n (code_or o)) e
+by_refusal m x n code (Ok None) r e = absurd cc
+by_refusal m x n code (Ok (Some v)) r e = absurd cc
+
+pub refused_line : (m : Automata) (x : Standing) (n code : ℕ) (rest line after : List ℕ) → lines_of rest ≡ line ∷ lines_of after → refusal_code (line_acted m x line) ≡ Some code → left_of m x n rest ≡ refusal (n + 1) code
+unfolding script_lines
+refused_line m x n code rest line after e f =
+    ap (λ ls. printed_from m x (script_lines m n ls)) e ∙ by_refusal m x (n + 1) code (event_line m line) (script_lines m (n + 1) (lines_of after)) f
+
+-- nothing is left
+abbrev pub nothing_left : Outcome
+nothing_left = record { text = []; status = Ended }
+
+no_line : (m : Automata) (x : Standing) (n : ℕ) → left_of m x n [] ≡ nothing_left
+unfolding script_lines printed_from
+no_line m x n = refl
 
 front_all : (old now new : Option (List ℕ)) (first space : Option ℕ) (left total : Outcome) → IsSending old now first space left total → WritesFront now new left.text → WritesFront old new total.text
 front_all old now new first space left total s w =
@@ -124,35 +167,35 @@ answers_all Refused old now new first space left total s h = whole_all Refused o
 -- ---- the loop's exits and its next turn, by the loop's own facts
 
 -- the loop's invariant, with n lines behind it and these bytes before it
-pub record IsPrinting (old now : Option (List ℕ)) (first space : Option ℕ) (w : Session) (n : ℕ) (rest : List ℕ) (total : Outcome) : Type 0 where
-  pub so_far : IsSending old now first space (left_of w n rest) total
+pub record IsPrinting (old now : Option (List ℕ)) (first space : Option ℕ) (m : Automata) (x : Standing) (n : ℕ) (rest : List ℕ) (total : Outcome) : Type 0 where
+  pub so_far : IsSending old now first space (left_of m x n rest) total
 
-pub starts : (old : Option (List ℕ)) (first : Option ℕ) (w : Session) (rest : List ℕ) → IsPrinting old old first first w 0 rest (left_of w 0 rest)
-starts old first w rest = record { so_far = sends_nothing old first (left_of w 0 rest) }
+pub starts : (old : Option (List ℕ)) (first : Option ℕ) (m : Automata) (x y : Standing) (n : ℕ) (rest : List ℕ) → x ≡ y → IsPrinting old old first first m x n rest (left_of m y n rest)
+starts old first m x y n rest e = subst (λ (z : Standing). IsPrinting old old first first m x n rest (left_of m z n rest)) e (record { so_far = sends_nothing old first (left_of m x n rest) })
 
 on_left : (old now : Option (List ℕ)) (first space : Option ℕ) (left other total : Outcome) → left ≡ other → IsSending old now first space left total → IsSending old now first space other total
 on_left old now first space left other total e s = subst (λ (o : Outcome). IsSending old now first space o total) e s
 
-module _ {w : Session} {n : ℕ} {rest : List ℕ} {old now : Option (List ℕ)} {first space : Option ℕ} {total : Outcome} (s : IsPrinting old now first space w n rest total) where
+module _ {m : Automata} {x : Standing} {n : ℕ} {rest : List ℕ} {old now : Option (List ℕ)} {first space : Option ℕ} {total : Outcome} (s : IsPrinting old now first space m x n rest total) where
   pub printed_front : WritesFront old now total.text
-  printed_front = sent_so_far old now first space (left_of w n rest) total s.so_far
+  printed_front = sent_so_far old now first space (left_of m x n rest) total s.so_far
 
-  module _ (v : Session) (line after text : List ℕ) (e : lines_of rest ≡ line ∷ lines_of after) (f : after_line w line ≡ Goes v text) where
-    moved : IsSending old now first space (with_text text (left_of v (n + 1) after)) total
-    moved = on_left old now first space _ _ total (next_line w v n rest line after text e f) s.so_far
+  module _ (y : Standing) (line after text : List ℕ) (e : lines_of rest ≡ line ∷ lines_of after) (f : line_acted m x line ≡ Ok (y, text)) where
+    moved : IsSending old now first space (with_text text (left_of m y (n + 1) after)) total
+    moved = on_left old now first space _ _ total (next_line m x y n rest line after text e f) s.so_far
 
-    pub turn_done : (new : Option (List ℕ)) (less : Option ℕ) → new ≡ append_known now (take (length text) text) → less ≡ less_space space (length text) → IsPrinting old new first less v (n + 1) after total
-    turn_done new less g h = record { so_far = sent_piece old now new first space less text (left_of v (n + 1) after) total moved g h }
+    pub turn_done : (new : Option (List ℕ)) (less : Option ℕ) → new ≡ append_known now (take (length text) text) → less ≡ less_space space (length text) → IsPrinting old new first less m y (n + 1) after total
+    turn_done new less g h = record { so_far = sent_piece old now new first space less text (left_of m y (n + 1) after) total moved g h }
 
     pub turn_cut : (new : Option (List ℕ)) (k : ℕ) → new ≡ append_known now (take k text) → WritesFront old new total.text
-    turn_cut new k g = sent_part old now new first space text k (left_of v (n + 1) after) total moved g
+    turn_cut new k g = sent_part old now new first space text k (left_of m y (n + 1) after) total moved g
 
     pub turn_room : HasRoom first (length total.text) → HasRoom space (length text)
-    turn_room h = room_piece old now first space text (left_of v (n + 1) after) total h moved
+    turn_room h = room_piece old now first space text (left_of m y (n + 1) after) total h moved
 
-  module _ (line after : List ℕ) (code : ℕ) (e : lines_of rest ≡ line ∷ lines_of after) (f : after_line w line ≡ session.Refused code) where
+  module _ (line after : List ℕ) (code : ℕ) (e : lines_of rest ≡ line ∷ lines_of after) (f : refusal_code (line_acted m x line) ≡ Some code) where
     refused : IsSending old now first space (refusal (n + 1) code) total
-    refused = on_left old now first space _ _ total (refused_line w n code rest line after e f) s.so_far
+    refused = on_left old now first space _ _ total (refused_line m x n code rest line after e f) s.so_far
 
     pub turn_refused : (t : Status) (new : Option (List ℕ)) → Answers t now new (refusal (n + 1) code) → Answers t old new total
     turn_refused t new a = answers_all t old now new first space (refusal (n + 1) code) total refused a
@@ -161,19 +204,16 @@ module _ {w : Session} {n : ℕ} {rest : List ℕ} {old now : Option (List ℕ)}
     refused_room h = room_left old now first space (refusal (n + 1) code) total h refused
 
   module _ (e : length rest ≡ 0) where
-    ended : IsSending old now first space (outcome_at_end w.stage n) total
-    ended = on_left old now first space _ _ total (ap (left_of w n) (nil_from_length rest e) ∙ no_line w n) s.so_far
+    ended : IsSending old now first space nothing_left total
+    ended = on_left old now first space _ _ total (ap (left_of m x n) (nil_from_length rest e) ∙ no_line m x n) s.so_far
 
-    pub end_answers : (t : Status) (new : Option (List ℕ)) → Answers t now new (outcome_at_end w.stage n) → Answers t old new total
-    end_answers t new a = answers_all t old now new first space (outcome_at_end w.stage n) total ended a
-
-    pub end_room : HasRoom first (length total.text) → HasRoom space (length (outcome_at_end w.stage n).text)
-    end_room h = room_left old now first space (outcome_at_end w.stage n) total h ended
+    pub end_answers : Answers Ended old now total
+    end_answers = answers_all Ended old now now first space nothing_left total ended (refl, append_nothing now)
 
 -- a refusal by its code
-pub fails_code : (stop : Stop) (code : ℕ) (next : Next) → FailsNext stop next → Some code ≡ stop_code stop → next ≡ session.Refused code
-fails_code stops.Memory code next f e = absurd cc
-fails_code (stops.Refused refusal) code next f e = let same : refusal.code ≡ code = cc in f ∙ ap (λ (n : ℕ). session.Refused n) same
+pub stops_code : (stop : Stop) (code : ℕ) (said : Option ℕ) → StopsAs stop said → Some code ≡ stop_code stop → said ≡ Some code
+stops_code stops.Memory code said f e = absurd cc
+stops_code (stops.Refused refusal) code said f e = f ∙ sym e
 
 -- nothing was sent yet
 pub nothing_sent : (old : Option (List ℕ)) (text : List ℕ) → WritesFront old old text

@@ -1,20 +1,17 @@
 -- The whole text and the status for words and an input.
-use Rattle.std.specs.Prelude.{◌==◌, ◌≡◌, ℕ, ◌+◌, List, [], ◌∷◌, ◌++◌, length, Option, Some, None, codes, if◌then◌else◌, nat_lt, String}
+use Rattle.std.specs.Prelude.{◌==◌, ◌≡◌, ℕ, List, [], ◌∷◌, ◌++◌, Option, Some, None, codes, if◌then◌else◌, String}
 use Rattle.std.specs.Global.{Global}
 use Rattle.std.specs.Fmt.{decimal}
-use Rattle.titan_top.specs.Lines.{lines_of}
+use Rattle.cca_base.specs.Automata.{Automata}
+use Rattle.plain_laws.specs.Executive.{Standing, begin, reports_from}
+use Rattle.titan_top.specs.Reading.{Reading, Ending, Whole, RefusedAt, reading_of}
+use Rattle.titan_top.specs.ReportLine.{trace_text}
 use Rattle.titan_top.specs.Words.{form_of, texts}
-use Rattle.titan_top.specs.declared.session.Session.{Session}
-use Rattle.titan_top.specs.declared.session.Stage.{Stage}
-use Rattle.titan_top.specs.declared.session.Stage.TheVariants as stage
 use Rattle.titan_top.specs.declared.status.Status.{Status}
 use Rattle.titan_top.specs.declared.status.Status.TheVariants.{Ended, Rejected, Usage, Refused, ReadFault, WriteFault, Memory}
 use Rattle.titan_top.specs.declared.words.Form.{Form}
 use Rattle.titan_top.specs.declared.words.Form.TheVariants.{Run}
-use Rattle.titan_top.specs.declared.input.TheConstants.{MAX_INPUT}
 use Rattle.titan_top.specs.declared.stops.TheConstants.{MALFORMED, NAME_UNKNOWN, ENDS_EARLY, UNSUPPORTED}
-use Rattle.titan_top.specs.Session.{Next, Goes, start, after_line}
-use Rattle.titan_top.specs.Session as session
 
 -- what is printed and the status that it ends with, where no fault comes
 pub record Outcome : Type 0 where
@@ -31,36 +28,33 @@ code_name code =
     else [])))
 
 -- the line of a refusal
-unfoldable pub refusal_text : ℕ → ℕ → List ℕ
-refusal_text line code = codes "refused " ++ decimal line ++ 32 ∷ decimal code ++ 32 ∷ code_name code ++ 10 ∷ []
+unfoldable pub refusal_line : ℕ → ℕ → List ℕ
+refusal_line line code = codes "refused " ++ decimal line ++ 32 ∷ decimal code ++ 32 ∷ code_name code ++ 10 ∷ []
 
 -- the outcome of a refusal
 abbrev pub refusal : ℕ → ℕ → Outcome
-refusal line code = record { text = refusal_text line code; status = Refused }
+refusal line code = record { text = refusal_line line code; status = Refused }
 
 -- a text that is printed before the rest
 abbrev pub with_text : List ℕ → Outcome → Outcome
 with_text text o = record { text = text ++ o.text; status = o.status }
 
--- the outcome after a line; rest is the outcome of the lines behind it
-abbrev pub outcome_after : Next → ℕ → (Session → Outcome) → Outcome
-outcome_after (Goes s text) line rest = with_text text (rest s)
-outcome_after (session.Refused code) line rest = refusal line code
+-- what is printed for the end of an input, and its status
+abbrev pub ending : Ending → Outcome
+ending Whole = record { text = []; status = Ended }
+ending (RefusedAt line code) = refusal line code
 
--- the outcome where no line is left after n lines: the input is to end behind the line `script`
-abbrev pub outcome_at_end : Stage → ℕ → Outcome
-outcome_at_end stage.Running n = record { text = []; status = Ended }
-outcome_at_end stage.Opening n = refusal n ENDS_EARLY
-outcome_at_end stage.Modelling n = refusal n ENDS_EARLY
+-- the lines of the reports of a reading's events, from a standing on, and then its ending
+unfoldable pub printed_from : Automata → Standing → Reading → Outcome
+printed_from m x r = with_text (trace_text m (reports_from m x r.events)) (ending r.ending)
 
--- the outcome of the lines that are left after n lines
-unfoldable pub outcome_from : Session → ℕ → List (List ℕ) → Outcome
-outcome_from s n [] = outcome_at_end s.stage n
-outcome_from s n (l ∷ ls) = outcome_after (after_line s l) (n + 1) (λ t. outcome_from t (n + 1) ls)
+-- what is printed of a reading: the executive makes its events one after the other
+unfoldable pub printed : Reading → Outcome
+printed r = printed_from r.model (begin r.model) r
 
--- the outcome of a run; an input past the limit is refused before its first line
+-- the outcome of a run
 abbrev pub run_outcome : List ℕ → Outcome
-run_outcome input = if nat_lt MAX_INPUT (length input) then refusal 0 UNSUPPORTED else outcome_from start 0 (lines_of input)
+run_outcome input = printed (reading_of input)
 
 -- the line for words of no form
 abbrev pub usage_text : List ℕ

@@ -2,17 +2,20 @@
 //! input lead to, or after a fault or want of memory a front of that text.
 #![tactic(auto)]
 
+mod component;
+mod events;
+mod executive;
 mod input;
 mod item;
+mod line;
 mod lines;
+mod moves;
+mod names;
 mod output;
 mod planner;
 mod print;
 mod reader;
-mod script;
-mod session;
 mod status;
-mod step;
 mod stops;
 mod top;
 mod words;

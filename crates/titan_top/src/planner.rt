@@ -5,7 +5,7 @@ ghost use Rattle.cca_base.specs.declared.limits.TheConstants.{MAX_CHOICES};
 ghost use Rattle.cca_base.specs.Sets.{has};
 ghost use Rattle.cca_base.specs.Model.{HasMode};
 ghost use Rattle.cca_base.specs.State.{IsState};
-ghost use Rattle.titan_top.specs.Planner.{leaves, leads_within, nearer_move, move_toward, leads, is_joined, has_pair, is_reached, is_sent, reply_to, after_reply};
+ghost use Rattle.plain_laws.specs.Planner.{leaves, leads_within, nearer_move, move_toward, leads, is_joined, has_pair, is_reached, is_sent, reply_to, after_reply};
 
 use cca_base::{Goal, MAX_CHOICES, Model, Move, Pair, Reply, State, ValueSet};
 

@@ -1,10 +1,10 @@
 ghost use Rattle.std.specs.Prelude.{◌≡◌, ◌+◌, ◌<◌, ◌^◌, ◌++◌, ◌∷◌, [], codes, IfOk, OnOk, slice_get};
 ghost use Rattle.std.specs.Fmt.{decimal};
-ghost use Rattle.titan_top.specs.TickLine.{text_or_nothing, name_at, pair_text, pair_text_at, modes_text, reply_text, tick_text};
-ghost use Rattle.titan_top.specs.Text.{code_name, refusal_text};
+ghost use Rattle.titan_top.specs.ReportLine.{text_or_nothing, name_at, pair_text, pair_text_at, modes_text, reply_text, shown_text, report_line};
+ghost use Rattle.titan_top.specs.Text.{code_name, refusal_line};
 
 use crate::stops::{ENDS_EARLY, MALFORMED, NAME_UNKNOWN, UNSUPPORTED};
-use cca_base::{Component, Model, Name, Reply, State};
+use cca_base::{Component, Model, Name, Reply, Shown, TickReport};
 use std::alloc::{AllocError, Global};
 
 fn push_number(alloc: Global, out: &mut Vec<u8>, n: u64) -> Result<(), AllocError>
@@ -78,27 +78,40 @@ fn push_reply(out: &mut Vec<u8>, model: &Model, reply: Reply) -> Result<(), Allo
     Ok(())
 }
 
-/// The line of a tick, with its LF.
-pub fn tick_text(
+/// What a tick shows, behind its number.
+fn push_shown(
     alloc: Global,
+    out: &mut Vec<u8>,
     model: &Model,
-    tick: u64,
-    state: &State,
-    reply: Reply,
-) -> Result<Vec<u8>, AllocError>
-    ensures { IfOk result (λ text. text.items ≡ tick_text model.now tick state.now.modes reply) }
+    shown: &Shown,
+) -> Result<(), AllocError>
+    ensures { OnOk result (out.new.items ≡ out.old.items ++ shown_text model.now shown.now) }
+{
+    match shown {
+        Shown::Estimated { cost, state, reply } => {
+            out.extend_from_slice(b" cost ")?;
+            push_number(alloc, out, *cost)?;
+            out.extend_from_slice(b" modes")?;
+            let components = model.components().as_slice();
+            push_modes(out, components, state.modes.as_slice())?;
+            out.push(b' ')?;
+            push_reply(out, model, *reply)?;
+        }
+        Shown::Unexplained => out.extend_from_slice(b" unexplained")?,
+        Shown::Holding => out.extend_from_slice(b" holding")?,
+    }
+    Ok(())
+}
+
+/// The line of a tick's report, with its LF.
+#[tactic(auto, unfolding(crate::specs::ReportLine::report_line))]
+pub fn report_line(alloc: Global, model: &Model, report: &TickReport) -> Result<Vec<u8>, AllocError>
+    ensures { IfOk result (λ text. text.items ≡ report_line model.now report.now) }
 {
     let mut out = Vec::new(alloc);
     out.extend_from_slice(b"tick ")?;
-    push_number(alloc, &mut out, tick)?;
-    out.extend_from_slice(b" cost 0 modes")?;
-    push_modes(
-        &mut out,
-        model.components().as_slice(),
-        state.modes.as_slice(),
-    )?;
-    out.push(b' ')?;
-    push_reply(&mut out, model, reply)?;
+    push_number(alloc, &mut out, report.tick)?;
+    push_shown(alloc, &mut out, model, &report.shown)?;
     out.push(b'\n')?;
     Ok(out)
 }
@@ -117,9 +130,9 @@ fn code_name(code: u8) -> &'static [u8]
 }
 
 /// The line of a refusal, with its LF.
-#[tactic(auto, unfolding(crate::specs::Text::refusal_text))]
-pub fn refusal_text(alloc: Global, line: u64, code: u8) -> Result<Vec<u8>, AllocError>
-    ensures { IfOk result (λ text. text.items ≡ refusal_text line code) }
+#[tactic(auto, unfolding(crate::specs::Text::refusal_line))]
+pub fn refusal_line(alloc: Global, line: u64, code: u8) -> Result<Vec<u8>, AllocError>
+    ensures { IfOk result (λ text. text.items ≡ refusal_line line code) }
 {
     let mut out = Vec::new(alloc);
     out.extend_from_slice(b"refused ")?;

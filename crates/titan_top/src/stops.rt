@@ -1,5 +1,5 @@
-ghost use Rattle.std.specs.Prelude.{◌≡◌};
-ghost use Rattle.titan_top.specs.Session.{FailsNext, Refused, stop_code};
+ghost use Rattle.std.specs.Prelude.{◌≡◌, Some};
+ghost use Rattle.titan_top.specs.Stops.{StopsAs, stop_code};
 
 use cca_base::{Detail, Refusal, Stop};
 
@@ -17,7 +17,7 @@ pub const UNSUPPORTED: u8 = 20;
 
 /// The refusal of a line with this code.
 pub fn refused(code: u8) -> Stop
-    ensures { FailsNext result (Refused code) }
+    ensures { StopsAs result (Some code) }
 {
     Stop::Refused(Refusal {
         code,

@@ -1,5 +1,5 @@
 use Rattle.std.proofs.Common.{refl, sym, ◌∙◌}
-use Rattle.titan_top.specs.Planner.{nearer_move}
+use Rattle.plain_laws.specs.Planner.{nearer_move}
 use Rattle.titan_top.proofs.PlannerLemmas.{first_set, set_grows, still_none, found_now}
 use Rattle.titan_top.proofs.planner.command_toward.Goals as goal
 

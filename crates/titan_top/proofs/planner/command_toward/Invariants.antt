@@ -1,7 +1,7 @@
 use Rattle.std.proofs.Common.{◌≡◌, ℕ}
 use Rattle.std.specs.Prelude.{None}
 use Rattle.cca_base.specs.Sets.{has}
-use Rattle.titan_top.specs.Planner.{leads_within, nearer_move}
+use Rattle.plain_laws.specs.Planner.{leads_within, nearer_move}
 use Rattle.titan_top.proofs.planner.command_toward.Given as goal
 
 -- the set has the modes from which at most as many moves lead there as turns are done, and no move leads into a smaller one

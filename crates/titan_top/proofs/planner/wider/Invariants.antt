@@ -1,7 +1,7 @@
 use Rattle.std.proofs.Common.{◌≡◌, ℕ, ◌||◌, ◌&&◌, take}
 use Rattle.std.specs.List.{list_any}
 use Rattle.cca_base.specs.Sets.{has}
-use Rattle.titan_top.specs.Planner.{leaves}
+use Rattle.plain_laws.specs.Planner.{leaves}
 use Rattle.titan_top.proofs.planner.wider.Given as goal
 
 -- a move that was seen leads from the mode into the set

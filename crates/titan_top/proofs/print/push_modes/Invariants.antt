@@ -1,5 +1,5 @@
 use Rattle.std.proofs.Common.{◌≡◌, ◌++◌, drop}
-use Rattle.titan_top.specs.TickLine.{modes_text}
+use Rattle.titan_top.specs.ReportLine.{modes_text}
 use Rattle.titan_top.proofs.print.push_modes.Given as goal
 
 -- with what is left, the text is whole

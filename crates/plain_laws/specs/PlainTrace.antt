@@ -1,0 +1,26 @@
+-- What the plain executive's reports are.
+use Rattle.std.specs.Prelude.{List, All}
+use Rattle.cca_base.specs.declared.events.Event.{Event}
+use Rattle.cca_base.specs.declared.events.Event.TheVariants as event
+use Rattle.cca_base.specs.Automata.{Automata}
+use Rattle.cca_base.specs.Model.{WellFormed}
+use Rattle.cca_base.specs.Trace.{MayBeGoal}
+use Rattle.cca_base.specs.Runs.{Trace}
+use Rattle.cca_base.specs.Goals.{Good}
+use Rattle.plain_laws.specs.Plain.{IsPlain, plainly_compiled}
+use Rattle.plain_laws.specs.Executive.{begin, reports_from}
+
+-- the events of the first forms: a goal that the model may have, and a tick
+abbrev pub IsPlainEvent : Automata → Event → Type 0
+IsPlainEvent m (event.Goal pairs) = MayBeGoal m pairs
+IsPlainEvent m event.Tick = Unit {0}
+IsPlainEvent m event.Clear = ⊥
+IsPlainEvent m (event.Observe pairs) = ⊥
+IsPlainEvent m (event.Fault p) = ⊥
+IsPlainEvent m (event.Mirror v) = ⊥
+IsPlainEvent m event.Reset = ⊥
+
+-- in a plain model the reports of such events are their trace with good replies
+abbrev pub ReportsAreTrace : Type 0
+ReportsAreTrace = (m : Automata) (events : List Event) → WellFormed m → IsPlain m → All (IsPlainEvent m) events
+    → Trace (plainly_compiled m) (Good m) events (reports_from m (begin m) events)

@@ -1,0 +1,16 @@
+use Rattle.std.proofs.Common.{◌≡◌, ◌+◌, ◌≤◌, length}
+use Rattle.titan_top.specs.Draft.{IsRead}
+use Rattle.titan_top.specs.Lines.{lines_of}
+use Rattle.titan_top.specs.Reading.{model_lines}
+use Rattle.titan_top.proofs.output.read_model.Given as goal
+
+-- what is left to read is what the whole input says
+abbrev pub invariant-each_line : goal.invariant-each_line
+invariant-each_line l = record {
+  same : model_lines l.fn.reader 0 (lines_of l.input) ≡ model_lines l.reader l.lines (lines_of l.rest);
+  counted : l.lines + length l.rest ≤ length l.input;
+  read : IsRead l.reader.model;
+}
+
+abbrev pub decreases-each_line : goal.decreases-each_line
+decreases-each_line l = length l.rest

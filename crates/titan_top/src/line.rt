@@ -1,0 +1,23 @@
+ghost use Rattle.std.specs.Prelude.{map};
+ghost use Rattle.text_base.specs.Tokens.{shown};
+ghost use Rattle.titan_top.specs.LineForms.{line_tokens};
+ghost use Rattle.titan_top.specs.Stops.{AnswersAs};
+
+use crate::stops::{MALFORMED, refused};
+use cca_base::Stop;
+use std::alloc::Global;
+use text_base::{Token, TokenFault, tokens};
+
+/// Bytes of the longest line that is taken, without its LF.
+pub const MAX_LINE: usize = 4096;
+
+/// The tokens of a line, which a bad byte makes malformed.
+pub fn line_tokens<'a>(alloc: Global, line: &'a [u8]) -> Result<Vec<Token<'a>>, Stop>
+    ensures { AnswersAs (λ v. map shown v.items) result (line_tokens line.now) }
+{
+    match tokens(alloc, line) {
+        Ok(tokens) => Ok(tokens),
+        Err(TokenFault::Bad(_)) => Err(refused(MALFORMED)),
+        Err(TokenFault::Memory) => Err(Stop::Memory),
+    }
+}
