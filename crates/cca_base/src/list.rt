@@ -30,6 +30,13 @@ impl<T> List<T> {
         }
     }
 
+    /// The list of these items, which takes no memory.
+    pub fn of(items: Vec<T, Global>) -> List<T>
+        ensures { result ≡ items.items }
+    {
+        List { items }
+    }
+
     /// How many items there are.
     pub fn len(&self) -> usize
         ensures { result ≡ length self.now }

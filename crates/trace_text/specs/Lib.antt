@@ -1,0 +1,4 @@
+pub mod Compiled
+pub mod Names
+pub mod Refusals
+pub mod Reports

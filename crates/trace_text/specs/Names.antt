@@ -1,0 +1,47 @@
+-- Names of a model's parts, as they are printed.
+use Rattle.std.specs.Prelude.{ℕ, List, [], ◌∷◌, ◌++◌, slice_get, flat_map}
+use Rattle.std.specs.Option.{option_map_or}
+use Rattle.cca_base.specs.declared.cube.Pair.{Pair}
+use Rattle.cca_base.specs.declared.model.Component.{Component}
+use Rattle.cca_base.specs.declared.model.Move.{Move}
+use Rattle.cca_base.specs.Automata.{Automata}
+
+-- the name at a place of a list
+abbrev pub name_at : List (List ℕ) → ℕ → List ℕ
+name_at names at = option_map_or (λ name. name) (slice_get names at) []
+
+-- NAME=MODE
+abbrev pub pair_text : Component → ℕ → List ℕ
+pair_text component mode = component.name ++ 61 ∷ name_at component.modes mode
+
+-- the pair of a component of the model
+abbrev pub pair_text_at : List Component → ℕ → ℕ → List ℕ
+pair_text_at components c mode = option_map_or (λ x. pair_text x mode) (slice_get components c) []
+
+-- some pairs, each behind a space
+abbrev pub pairs_text : List Component → List Pair → List ℕ
+pairs_text components pairs = flat_map (λ p. 32 ∷ pair_text_at components p.item p.value) pairs
+
+-- the name of a component of the model
+abbrev pub component_name : List Component → ℕ → List ℕ
+component_name components c = option_map_or (λ x. x.name) (slice_get components c) []
+
+-- some components' names, each behind a space
+abbrev pub components_text : List Component → List ℕ → List ℕ
+components_text components list = flat_map (λ c. 32 ∷ component_name components c) list
+
+-- a component with one of its modes, a space between them
+abbrev pub source_text : Component → ℕ → List ℕ
+source_text component mode = component.name ++ 32 ∷ name_at component.modes mode
+
+-- the same of a component of the model
+abbrev pub source_text_at : List Component → ℕ → ℕ → List ℕ
+source_text_at components c mode = option_map_or (λ x. source_text x mode) (slice_get components c) []
+
+-- COMPONENT SOURCE COMMAND
+abbrev pub move_text : Automata → Move → List ℕ
+move_text m move = source_text_at m.components move.component move.source ++ 32 ∷ name_at m.commands move.command
+
+-- the move at a place of a list, behind a space
+abbrev pub move_text_at : Automata → List Move → ℕ → List ℕ
+move_text_at m moves k = option_map_or (λ move. 32 ∷ move_text m move) (slice_get moves k) []

@@ -1,0 +1,12 @@
+//! The lines that are printed: reports of ticks, refusals, and what was compiled of a model. A caller gets exactly the
+//! texts of the definitions, by the names of the model that is passed.
+#![tactic(auto)]
+
+mod compiled;
+mod names;
+mod refusal;
+mod report;
+
+pub use compiled::push_compiled;
+pub use refusal::refusal_line;
+pub use report::line_of;

@@ -1,0 +1,132 @@
+ghost use Rattle.std.specs.Prelude.{◌≡◌, ◌++◌, ◌∷◌, OnOk};
+ghost use Rattle.std.specs.Fmt.{decimal};
+ghost use Rattle.trace_text.specs.Names.{name_at, pair_text, pair_text_at, pairs_text, component_name, components_text, source_text, source_text_at, move_text, move_text_at};
+
+use cca_base::{Component, Model, Move, Name, Pair};
+use std::alloc::{AllocError, Global};
+
+pub fn push_number(alloc: Global, out: &mut Vec<u8>, n: u64) -> Result<(), AllocError>
+    ensures { OnOk result (out.new.items ≡ out.old.items ++ decimal n) }
+{
+    let digits = n.to_string(alloc)?;
+    out.extend_from_slice(digits.as_bytes())?;
+    Ok(())
+}
+
+pub fn push_name(out: &mut Vec<u8>, names: &[Name], at: usize) -> Result<(), AllocError>
+    ensures { OnOk result (out.new.items ≡ out.old.items ++ name_at names.now at) }
+{
+    if let Some(name) = names.get(at) {
+        out.extend_from_slice(name.bytes())?;
+    }
+    Ok(())
+}
+
+pub fn push_pair(out: &mut Vec<u8>, component: &Component, mode: u8) -> Result<(), AllocError>
+    ensures { OnOk result (out.new.items ≡ out.old.items ++ pair_text component.now mode) }
+{
+    out.extend_from_slice(component.name.bytes())?;
+    out.push(b'=')?;
+    push_name(out, component.modes.as_slice(), mode as usize)
+}
+
+pub fn push_pair_at(
+    out: &mut Vec<u8>,
+    components: &[Component],
+    c: usize,
+    mode: u8,
+) -> Result<(), AllocError>
+    ensures { OnOk result (out.new.items ≡ out.old.items ++ pair_text_at components.now c mode) }
+{
+    if let Some(component) = components.get(c) {
+        push_pair(out, component, mode)?;
+    }
+    Ok(())
+}
+
+/// Each pair, behind a space.
+pub fn push_pairs(
+    out: &mut Vec<u8>,
+    components: &[Component],
+    pairs: &[Pair],
+) -> Result<(), AllocError>
+    ensures { OnOk result (out.new.items ≡ out.old.items ++ pairs_text components.now pairs.now) }
+{
+    for pair in pairs {
+        out.push(b' ')?;
+        push_pair_at(out, components, pair.item as usize, pair.value)?;
+    }
+    Ok(())
+}
+
+fn push_component(out: &mut Vec<u8>, components: &[Component], c: usize) -> Result<(), AllocError>
+    ensures { OnOk result (out.new.items ≡ out.old.items ++ component_name components.now c) }
+{
+    if let Some(component) = components.get(c) {
+        out.extend_from_slice(component.name.bytes())?;
+    }
+    Ok(())
+}
+
+/// Each component's name, behind a space.
+pub fn push_components(
+    out: &mut Vec<u8>,
+    components: &[Component],
+    list: &[u16],
+) -> Result<(), AllocError>
+    ensures { OnOk result (out.new.items ≡ out.old.items ++ components_text components.now list.now) }
+{
+    for c in list {
+        out.push(b' ')?;
+        push_component(out, components, *c as usize)?;
+    }
+    Ok(())
+}
+
+fn push_source(out: &mut Vec<u8>, component: &Component, mode: u8) -> Result<(), AllocError>
+    ensures { OnOk result (out.new.items ≡ out.old.items ++ source_text component.now mode) }
+{
+    out.extend_from_slice(component.name.bytes())?;
+    out.push(b' ')?;
+    push_name(out, component.modes.as_slice(), mode as usize)
+}
+
+fn push_source_at(
+    out: &mut Vec<u8>,
+    components: &[Component],
+    c: usize,
+    mode: u8,
+) -> Result<(), AllocError>
+    ensures { OnOk result (out.new.items ≡ out.old.items ++ source_text_at components.now c mode) }
+{
+    if let Some(component) = components.get(c) {
+        push_source(out, component, mode)?;
+    }
+    Ok(())
+}
+
+/// The component of a move, the mode that it leaves, and its command.
+pub fn push_move(out: &mut Vec<u8>, model: &Model, x: &Move) -> Result<(), AllocError>
+    ensures { OnOk result (out.new.items ≡ out.old.items ++ move_text model.now x.now) }
+{
+    let components = model.components().as_slice();
+    push_source_at(out, components, x.component as usize, x.source)?;
+    out.push(b' ')?;
+    push_name(out, model.commands().as_slice(), x.command as usize)
+}
+
+/// The move at a place of a list, behind a space.
+pub fn push_move_at(
+    out: &mut Vec<u8>,
+    model: &Model,
+    moves: &[Move],
+    k: usize,
+) -> Result<(), AllocError>
+    ensures { OnOk result (out.new.items ≡ out.old.items ++ move_text_at model.now moves.now k) }
+{
+    if let Some(x) = moves.get(k) {
+        out.push(b' ')?;
+        push_move(out, model, x)?;
+    }
+    Ok(())
+}

@@ -1,0 +1,76 @@
+ghost use Rattle.std.specs.Prelude.{◌≡◌, ◌++◌, ◌∷◌, [], codes, IfOk, OnOk};
+ghost use Rattle.std.specs.Fmt.{decimal};
+ghost use Rattle.trace_text.specs.Refusals.{code_name, detail_text, refusal_line};
+
+use crate::names::{push_components, push_move_at, push_number, push_pairs};
+use cca_base::{Detail, List, Model, Refusal};
+use std::alloc::{AllocError, Global};
+
+/// The name of a code.
+fn code_name(code: u8) -> &'static [u8]
+    ensures { result.now ≡ code_name code }
+{
+    match code {
+        1 => b"malformed",
+        2 => b"name_unknown",
+        3 => b"name_repeated",
+        4 => b"limit",
+        5 => b"ambiguous",
+        6 => b"into_broken",
+        7 => b"unmarked_exit",
+        8 => b"two_mends",
+        9 => b"clash",
+        10 => b"ways",
+        11 => b"cycle",
+        12 => b"deep",
+        13 => b"not_sensed",
+        14 => b"broken_goal",
+        15 => b"repeated_pair",
+        16 => b"mirrored",
+        17 => b"ends_early",
+        18 => b"long_line",
+        19 => b"too_many_lines",
+        20 => b"unsupported",
+        21 => b"repair_cycle",
+        22 => b"many",
+        23 => b"unmatched",
+        _ => b"",
+    }
+}
+
+/// What a refusal names besides its code, behind the code's name.
+fn push_detail(out: &mut Vec<u8>, model: &Model, detail: &Detail) -> Result<(), AllocError>
+    ensures { OnOk result (out.new.items ≡ out.old.items ++ detail_text model.now detail.now) }
+{
+    let components = model.components().as_slice();
+    match detail {
+        Detail::Nothing => {}
+        Detail::Pairs(cube) => push_pairs(out, components, cube.as_slice())?,
+        Detail::Components(list) => push_components(out, components, list.as_slice())?,
+        Detail::OfMove(k) => push_move_at(out, model, model.moves().as_slice(), *k as usize)?,
+    }
+    Ok(())
+}
+
+/// The line of a refusal at a line of the input, with its LF, by the names of the model that was read so far. The error
+/// is want of memory.
+#[tactic(auto, unfolding(crate::specs::Refusals::refusal_line))]
+pub fn refusal_line(
+    alloc: Global,
+    model: &Model,
+    line: u64,
+    refusal: &Refusal,
+) -> Result<List<u8>, AllocError>
+    ensures { IfOk result (λ text. text ≡ refusal_line model.now line refusal.now) }
+{
+    let mut out = Vec::new(alloc);
+    out.extend_from_slice(b"refused ")?;
+    push_number(alloc, &mut out, line)?;
+    out.push(b' ')?;
+    push_number(alloc, &mut out, u64::from(refusal.code))?;
+    out.push(b' ')?;
+    out.extend_from_slice(code_name(refusal.code))?;
+    push_detail(&mut out, model, &refusal.detail)?;
+    out.push(b'\n')?;
+    Ok(List::of(out))
+}
