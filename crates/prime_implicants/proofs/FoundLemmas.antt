@@ -137,7 +137,7 @@ pub each_stands : (sizes : List ℕ) (rows : List (List ℕ)) (keys : List (Vec 
 each_stands sizes rows keys sound k m =
     found sizes rows k.items (list_all_of (λ z. found_test sizes rows z.items) keys k (sound (found_test sizes rows) (passes sizes rows)) m)
 
-list_all_if : {X : Type 0} (t : X → Bool) (xs : List X) → ((x : X) → Contains xs x → t x ≡ true) → list_all t xs ≡ true
+pub list_all_if : {X : Type 0} (t : X → Bool) (xs : List X) → ((x : X) → Contains xs x → t x ≡ true) → list_all t xs ≡ true
 list_all_if t [] f = refl
 list_all_if t (x ∷ xs) f = rw (f x (contains_here x x xs refl), list_all_if t xs (λ y m. f y (contains_there x y xs m)))
 
