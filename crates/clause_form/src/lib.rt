@@ -2,6 +2,13 @@
 //! rules are, a given pair stands and a given formula is false.
 #![tactic(auto)]
 
+mod absorb;
 mod clause;
+mod convert;
+mod join;
+mod literals;
+mod sizes;
+mod whole;
 
 pub use clause::{Clause, Clauses, Literal};
+pub use whole::clauses_of;

@@ -1,0 +1,4 @@
+pub mod ProjectLemmas
+pub mod RowLemmas
+pub mod ValueLemmas
+pub mod Projected

@@ -1,0 +1,215 @@
+-- One subject projected away, and then several.
+use Rattle.std.proofs.Common.{◌≡◌, ℕ, zero, suc, ◌+◌, ◌<◌, ◌≤◌, ◌≢◌, Bool, true, false, not, cond, ◌&&◌, ◌||◌, eqb, List, [], ◌∷◌, length, Option, Some, None, refl, sym, ◌∙◌, ap, subst, arith, set, get_or, ◌⊎◌, inl, inr, add-one, length-set, get_or-set_other, get_or-set_same, eq-eqb}
+use Rattle.std.specs.Prelude.{IsSome, MatchOption}
+use Rattle.std.specs.List.{list_all, list_any, filter}
+use mathlib.Core.Bool.{or-true, and-false}
+use Rattle.cca_base.specs.Sets.{has}
+use Rattle.elimination.specs.Partial.{IsWithin, IsTotal, HasOutside, given}
+use Rattle.elimination.specs.Rows.{fits, row_open, all_open, is_wide, any_below, is_zero, fix_row, CanMeet, mentions}
+use Rattle.elimination.proofs.RowLemmas.{and_parts, eqb_same, fits_empty, list_all-filter, length-within, list_all_implies}
+
+-- ---- rows that name the subject, and the others
+
+pub row_open-unnamed : (q : List (Option ℕ)) (row : List ℕ) (x v : ℕ) → is_zero x row ≡ true → row_open (set q x (Some v)) row ≡ row_open q row
+row_open-unnamed [] row x v z = refl
+row_open-unnamed (o ∷ q) [] zero v z = refl
+row_open-unnamed (o ∷ q) [] (suc x) v z = refl
+row_open-unnamed (o ∷ q) (s ∷ row) zero v z =
+    let none : s ≡ 0 = eqb_same s 0 z in
+    ap (λ b. b || row_open q row) (ap (λ t. has t v) none ∙ fits_empty (Some v) ∙ sym (ap (λ t. fits o t) none ∙ fits_empty o))
+row_open-unnamed (o ∷ q) (s ∷ row) (suc x) v z = ap (λ b. fits o s || b) (row_open-unnamed q row x v z)
+
+turn : (x rest a b : Bool) → rest ≡ (a && b) → (x && rest) ≡ (a && (x && b))
+turn true rest a b e = e
+turn false rest a b e = sym (and-false a)
+
+join : (y x rest a b : Bool) → y ≡ x → rest ≡ (a && b) → (y && rest) ≡ ((x && a) && b)
+join true true rest a b s e = e
+join true false rest a b s e = cc
+join false true rest a b s e = cc
+join false false rest a b s e = refl
+
+split_step : (q p : List (Option ℕ)) (r : List ℕ) (f g : List (List ℕ)) (b c rest : Bool) → c ≡ not b → (c ≡ true → row_open p r ≡ row_open q r)
+    → rest ≡ (all_open q f && all_open p g) → (row_open p r && rest) ≡ (all_open q (cond c (r ∷ f) f) && all_open p (cond b (r ∷ g) g))
+split_step q p r f g true true rest e h k = cc
+split_step q p r f g true false rest e h k = turn (row_open p r) rest (all_open q f) (all_open p g) k
+split_step q p r f g false true rest e h k = join (row_open p r) (row_open q r) rest (all_open q f) (all_open p g) (h refl) k
+split_step q p r f g false false rest e h k = cc
+
+pub split : (q p : List (Option ℕ)) (t u : List ℕ → Bool) → ((r : List ℕ) → u r ≡ not (t r)) → ((r : List ℕ) → u r ≡ true → row_open p r ≡ row_open q r)
+    → (rows : List (List ℕ)) → all_open p rows ≡ (all_open q (filter u rows) && all_open p (filter t rows))
+split q p t u e h [] = refl
+split q p t u e h (r ∷ rows) = split_step q p r (filter u rows) (filter t rows) (t r) (u r) (all_open p rows) (e r) (h r) (split q p t u e h rows)
+
+pub any_same : (n : ℕ) (t s : ℕ → Bool) → ((v : ℕ) → t v ≡ s v) → any_below n t ≡ any_below n s
+any_same zero t s e = refl
+any_same (suc n) t s e = rw (any_same n t s e, e n)
+
+spread : (a b c : Bool) → ((a && b) || (a && c)) ≡ (a && (b || c))
+spread true b c = refl
+spread false b c = refl
+
+pub any_and : (n : ℕ) (a : Bool) (t : ℕ → Bool) → any_below n (λ v. a && t v) ≡ (a && any_below n t)
+any_and zero a t = sym (and-false a)
+any_and (suc n) a t = rw (any_and n a t) (spread a (any_below n t) (t n))
+
+pub zero_unfixed : (x y : ℕ) (row : List ℕ) → is_zero x row ≡ true → is_zero y (fix_row x row) ≡ true → is_zero y row ≡ true
+zero_unfixed x y [] z h = refl
+zero_unfixed zero zero (s ∷ row) z h = z
+zero_unfixed zero (suc y) (s ∷ row) z h = h
+zero_unfixed (suc x) zero (s ∷ row) z h = h
+zero_unfixed (suc x) (suc y) (s ∷ row) z h = zero_unfixed x y row z h
+
+filter_step : (p : List ℕ → Bool) (r : List ℕ) (f : List (List ℕ)) (b : Bool) → (b ≡ true → p r ≡ true) → list_all p f ≡ true → list_all p (cond b (r ∷ f) f) ≡ true
+filter_step p r f true h k = rw (h refl, k)
+filter_step p r f false h k = k
+
+pub filter_gives : (p t u : List ℕ → Bool) → ((r : List ℕ) → u r ≡ true → p r ≡ true → t r ≡ true) → (rows : List (List ℕ)) → list_all p rows ≡ true → list_all t (filter u rows) ≡ true
+filter_gives p t u h [] k = refl
+filter_gives p t u h (r ∷ rows) k =
+    let both = and_parts (p r) (list_all p rows) k in
+    filter_step t r (filter u rows) (u r) (λ e. h r e both.0) (filter_gives p t u h rows both.1)
+
+-- ---- some value
+
+any_case : (n : ℕ) (t : ℕ → Bool) (a b : Bool) → any_below n t ≡ a → t n ≡ b → (a || b) ≡ true → ((any_below n t ≡ true → (v : ℕ) × (v < n) × (t v ≡ true))) → (v : ℕ) × (v < suc n) × (t v ≡ true)
+any_case n t true b e f h ih = let r = ih e in (r.0, omega (arith, r.1), r.2)
+any_case n t false true e f h ih = (n, omega arith, f)
+any_case n t false false e f h ih = absurd (cc)
+
+pub any_true : (n : ℕ) (t : ℕ → Bool) → any_below n t ≡ true → (v : ℕ) × (v < n) × (t v ≡ true)
+any_true zero t e = absurd (cc)
+any_true (suc n) t e = any_case n t (any_below n t) (t n) refl refl e (any_true n t)
+
+pub some_below : (n : ℕ) (t : ℕ → Bool) (v : ℕ) → v < n → t v ≡ true → any_below n t ≡ true
+some_below zero t v h e = absurd (omega arith)
+some_below (suc n) t v h e =
+    let P : ℕ → Type 0 = λ z. t z ≡ true in
+    let cases : (v < n) ⊎ (v ≡ n) = grind arith in
+    elim cases [ inl l ↦ rw (some_below n t v l e) | inr same ↦ rw (subst P same e, or-true (any_below n t)) ]
+
+-- ---- total values
+
+pub within-set : (sizes : List ℕ) (q : List (Option ℕ)) (k v : ℕ) → IsWithin sizes q → v < get_or sizes k 0 → IsWithin sizes (set q k (Some v))
+within-set [] [] k v w h = tt
+within-set [] (o ∷ q) k v w h = absurd w
+within-set (n ∷ sizes) [] k v w h = absurd w
+within-set (n ∷ sizes) (o ∷ q) zero v w h = (h, w.1)
+within-set (n ∷ sizes) (o ∷ q) (suc k) v w h = (w.0, within-set sizes q k v w.1 h)
+
+pub value_at : (sizes : List ℕ) (b : List (Option ℕ)) (k : ℕ) → IsWithin sizes b → IsTotal b → k < length sizes → (v : ℕ) × (v < get_or sizes k 0) × (get_or b k None ≡ Some v)
+value_at [] b k w t h = absurd (omega arith)
+value_at (n ∷ sizes) [] k w t h = absurd w
+value_at (n ∷ sizes) (None ∷ b) zero w t h = absurd (cc)
+value_at (n ∷ sizes) (Some v ∷ b) zero w t h = (v, w.0, refl)
+value_at (n ∷ sizes) (o ∷ b) (suc k) w t h = let l : k < length sizes = omega arith in value_at sizes b k w.1 t.1 l
+
+-- ---- one more subject
+
+abbrev pub IsProjected : List ℕ → ℕ → List (List ℕ) → List (List ℕ) → Type 0
+IsProjected sizes x rows more = (q : List (Option ℕ)) → IsWithin sizes q → all_open q more ≡ any_below (get_or sizes x 0) (λ v. all_open (set q x (Some v)) rows)
+
+wider : (keep x i : ℕ) → (i < keep) ⊎ (x + 1 ≤ i) → (i < keep) ⊎ (x ≤ i)
+wider keep x i (inl l) = inl l
+wider keep x i (inr l) = inr (omega arith)
+
+apart : (keep x i : ℕ) → keep ≤ x → (i < keep) ⊎ (x + 1 ≤ i) → i ≢ x
+apart keep x i k (inl l) e = absurd (omega arith)
+apart keep x i k (inr l) e = absurd (omega arith)
+
+place : (keep x i : ℕ) → (i < keep) ⊎ (x ≤ i) → (i ≡ x) ⊎ ((i < keep) ⊎ (x + 1 ≤ i))
+place keep x i (inl l) = inr (inl l)
+place keep x i (inr l) = grind arith
+
+some_of : (o : Option ℕ) (v : ℕ) → o ≡ Some v → IsSome o
+some_of o v e = subst (λ z. IsSome z) (sym e) refl
+
+has_set : (a : List (Option ℕ)) (keep x v : ℕ) → keep ≤ x → HasOutside keep (x + 1) a → HasOutside keep x (set a x (Some v))
+has_set a keep x v k t i h e =
+    let inside : i < length a = omega (arith, length-set a x (Some v)) in
+    elim (place keep x i e) [
+      | inl s ↦ let P : ℕ → Type 0 = λ z. IsSome (get_or (set a x (Some v)) z None) in
+          subst P (sym s) (some_of _ v (get_or-set_same a x (Some v) None (subst (λ z. z < length a) s inside)))
+      | inr d ↦ subst (λ z. IsSome z) (sym (get_or-set_other a x i (Some v) None (apart keep x i k d))) (t i inside d)
+    ]
+
+pub sound_step : (sizes : List ℕ) (rows out more : List (List ℕ)) (keep x : ℕ) → keep ≤ x → x < length sizes → IsProjected sizes x out more
+    → ((a : List (Option ℕ)) → IsWithin sizes a → HasOutside keep x a → all_open a out ≡ true → CanMeet sizes rows keep x a)
+    → (a : List (Option ℕ)) → IsWithin sizes a → HasOutside keep (x + 1) a → all_open a more ≡ true → CanMeet sizes rows keep (x + 1) a
+sound_step sizes rows out more keep x k h projected was a w t o =
+    let r = any_true (get_or sizes x 0) (λ v. all_open (set a x (Some v)) out) (sym (projected a w) ∙ o) in
+    let m = was (set a x (Some r.0)) (within-set sizes a x r.0 w r.1) (has_set a keep x r.0 k t) r.2 in
+    (m.0, m.1, m.2, (λ i e. m.3 i (wider keep x i e) ∙ get_or-set_other a x i (Some r.0) None (apart keep x i k e)), m.4)
+
+pub complete_step : (sizes : List ℕ) (rows out more : List (List ℕ)) (keep x : ℕ) → keep ≤ x → x < length sizes → IsProjected sizes x out more
+    → ((a : List (Option ℕ)) → IsWithin sizes a → CanMeet sizes rows keep x a → all_open a out ≡ true)
+    → (a : List (Option ℕ)) → IsWithin sizes a → CanMeet sizes rows keep (x + 1) a → all_open a more ≡ true
+complete_step sizes rows out more keep x k h projected was a w m =
+    let r = value_at sizes m.0 x m.1 m.2 h in
+    let inside : x < length a = omega (arith, length-within sizes a w) in
+    projected a w ∙ some_below (get_or sizes x 0) (λ v. all_open (set a x (Some v)) out) r.0 r.1
+    (was (set a x (Some r.0)) (within-set sizes a x r.0 w r.1) (
+      m.0,
+      m.1,
+      m.2,
+      (λ i e. elim (place keep x i e) [
+        | inl s ↦ let P : ℕ → Type 0 = λ z. get_or m.0 z None ≡ get_or (set a x (Some r.0)) z None in
+            subst P (sym s) (r.2 ∙ sym (get_or-set_same a x (Some r.0) None inside))
+        | inr d ↦ m.3 i d ∙ sym (get_or-set_other a x i (Some r.0) None (apart keep x i k d))
+      ]),
+      m.4,
+    ))
+
+pub not_not : (b : Bool) → b ≡ not (not b)
+not_not true = refl
+not_not false = refl
+
+pub total_of : (q : List (Option ℕ)) → ((i : ℕ) → i < length q → IsSome (get_or q i None)) → IsTotal q
+total_of [] t = tt
+total_of (o ∷ q) t = (t 0 (omega arith), total_of q (λ i h. t (suc i) (omega arith)))
+
+pub same_lists : (p q : List (Option ℕ)) → length p ≡ length q → ((i : ℕ) → i < length p → get_or p i None ≡ get_or q i None) → p ≡ q
+same_lists [] [] e f = refl
+same_lists [] (o ∷ q) e f = absurd (omega arith)
+same_lists (o ∷ p) [] e f = absurd (omega arith)
+same_lists (o ∷ p) (s ∷ q) e f =
+    let l : length p ≡ length q = omega arith in
+    let first : o ≡ s = f 0 (omega arith) in
+    let rest : p ≡ q = same_lists p q l (λ i h. f (suc i) (omega arith)) in cc
+
+-- nothing projected yet
+pub start_sound : (sizes : List ℕ) (rows : List (List ℕ)) (keep : ℕ) (a : List (Option ℕ)) → IsWithin sizes a → HasOutside keep keep a → all_open a rows ≡ true → CanMeet sizes rows keep keep a
+start_sound sizes rows keep a w t o = (a, w, total_of a (λ i h. t i h (grind arith)), (λ i e. refl), o)
+
+pub start_complete : (sizes : List ℕ) (rows : List (List ℕ)) (keep : ℕ) (a : List (Option ℕ)) → IsWithin sizes a → CanMeet sizes rows keep keep a → all_open a rows ≡ true
+start_complete sizes rows keep a w m =
+    let same : m.0 ≡ a = same_lists m.0 a (length-within sizes m.0 m.1 ∙ sym (length-within sizes a w)) (λ i h. m.3 i (grind arith)) in
+    ap (λ z. all_open z rows) (sym same) ∙ m.4
+
+past_end : (y n : ℕ) (row : List ℕ) → length row ≤ y → is_zero y row ≡ true
+past_end y n [] h = refl
+past_end zero n (s ∷ row) h = absurd (omega arith)
+past_end (suc y) n (s ∷ row) h = let l : length row ≤ y = omega arith in past_end y n row l
+
+pub zeros_past_end : (n y : ℕ) (rows : List (List ℕ)) → n ≤ y → list_all (is_wide n) rows ≡ true → list_all (is_zero y) rows ≡ true
+zeros_past_end n y rows h = list_all_implies (is_wide n) (is_zero y) (λ r e. let long : length r ≡ n = eqb_same (length r) n e in past_end y n r (omega (arith, long))) rows
+
+-- a zero stays where a subject is projected away, and comes at that subject
+pub zero_stays : (x y : ℕ) (row : List ℕ) → is_zero y row ≡ true → is_zero y (fix_row x row) ≡ true
+zero_stays x y [] z = refl
+zero_stays zero zero (s ∷ row) z = refl
+zero_stays zero (suc y) (s ∷ row) z = z
+zero_stays (suc x) zero (s ∷ row) z = z
+zero_stays (suc x) (suc y) (s ∷ row) z = zero_stays x y row z
+
+pub zero_comes : (x : ℕ) (row : List ℕ) → is_zero x (fix_row x row) ≡ true
+zero_comes x [] = refl
+zero_comes zero (s ∷ row) = refl
+zero_comes (suc x) (s ∷ row) = zero_comes x row
+
+pub all_stay : (x y : ℕ) (rows : List (List ℕ)) → list_all (is_zero y) rows ≡ true → list_all (λ r. is_zero y (fix_row x r)) rows ≡ true
+all_stay x y = list_all_implies (is_zero y) (λ r. is_zero y (fix_row x r)) (zero_stays x y)
+
+pub all_come : (x : ℕ) (rows : List (List ℕ)) → list_all (λ r. is_zero x (fix_row x r)) rows ≡ true
+all_come x [] = refl
+all_come x (r ∷ rows) = rw (zero_comes x r, all_come x rows)

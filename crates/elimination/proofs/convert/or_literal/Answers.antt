@@ -1,0 +1,16 @@
+use Rattle.std.proofs.Common.{arith, ◌≡◌, ◌∙◌, ap, bit_or, length, get_or, set, sym, ◌||◌}
+use Rattle.std.proofs.lemmas.List.{get_or_read}
+use Rattle.cca_base.specs.Sets.{has}
+use Rattle.elimination.specs.Partial.{given}
+use Rattle.elimination.specs.Rows.{row_open}
+use Rattle.elimination.proofs.ValueLemmas.{row_open-widened}
+use Rattle.elimination.proofs.convert.or_literal.Goals as goal
+
+pub returns-clause-open : goal.returns-clause-open
+returns-clause-open c = λ xs e.
+    let row = c.args.row.now in
+    let i = c.args.literal.now.subject in
+    let s = c.args.literal.now.values in
+    let read = get_or_read row i c.get.result.now c.requires c.get.ensures.item 0 in
+    let both : c.union-both.result ≡ bit_or (get_or row i 0) s = c.union-both.ensures.value ∙ ap (λ z. bit_or z s) read in
+    ap (row_open (given xs)) (c.set.ensures ∙ ap (set row i) both) ∙ row_open-widened xs row i s e c.requires

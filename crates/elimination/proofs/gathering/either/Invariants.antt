@@ -1,0 +1,12 @@
+use Rattle.std.proofs.Common.{◌≡◌, true, Bool, ◌&&◌, ◌||◌, length, take}
+use Rattle.std.specs.List.{list_all}
+use Rattle.elimination.specs.Partial.{IsWithin, Partial}
+use Rattle.elimination.specs.Rows.{all_open, row_open, is_wide, union_rows, Sets}
+use Rattle.elimination.proofs.gathering.either.Given as goal
+
+abbrev pub invariant-loop-row : goal.invariant-loop-row
+invariant-loop-row l =
+    record {
+      open_at : (q : Partial) → IsWithin l.sizes q → all_open q l.out.items ≡ (all_open q (take l.row-index l.left) || all_open q l.right);
+      same : (p : Sets → Bool) → list_all (λ row. list_all (λ other. p (union_rows row other)) l.right) l.left ≡ true → list_all p l.out.items ≡ true;
+    }

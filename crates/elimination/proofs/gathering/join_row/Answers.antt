@@ -1,0 +1,7 @@
+use Rattle.std.proofs.Common.{rules, length}
+use Rattle.elimination.specs.Rows.{is_wide}
+use Rattle.elimination.proofs.RowLemmas.{wide-unions}
+use Rattle.elimination.proofs.gathering.join_row.Goals as goal
+
+pub join_one-requires-clause-out : goal.join_one-requires-clause-out
+join_one-requires-clause-out c = c.loop-other.invariant.same (is_wide (length c.args.sizes.now)) c.requires.out (wide-unions (length c.args.sizes.now) c.args.row.now c.args.others.now c.requires.wide c.requires.others)

@@ -1,0 +1,24 @@
+use Rattle.std.proofs.Common.{rules, arith, ◌≡◌, ◌≤◌, length, le-leb, subst, sym, true, ap, ◌∙◌}
+use Rattle.std.specs.List.{list_all}
+use Rattle.elimination.specs.Partial.{given}
+use Rattle.elimination.specs.Rows.{is_wide, all_open, is_zero}
+use Rattle.elimination.proofs.RowLemmas.{list_all_implies, widths-of}
+use Rattle.elimination.proofs.Projected.{exact}
+use Rattle.elimination.proofs.projection.project.Goals as goal
+
+pub clauses_of-requires : goal.clauses_of-requires
+clauses_of-requires c =
+    let n = length c.args.clauses.now.sizes in
+    let keep = c.args.keep in
+    let wide : list_all (is_wide n) c.as_slice-3.result.now ≡ true = rw c.as_slice-3.ensures.value (rw c.as_slice.ensures at c.in_ok-kept.ensures.wide) in
+    list_all_implies (is_wide n) _ (λ r w. let long = widths-of n r w in le-leb keep (length r) (omega (arith, long, c.requires.keep))) c.as_slice-3.result.now wide
+
+pub returns-clause-exact : goal.returns-clause-exact
+returns-clause-exact c = exact c.args.clauses.now c.in_ok-rows.rows.items c.in_ok-kept.kept.items c.args.keep (record { sizes = c.in_ok-sizes.sizes; clauses = c.in_ok-clauses.clauses }) (record {
+  fits = c.requires.keep;
+  first = c.in_ok-rows.ensures.«open»;
+  zero = c.in_ok-kept.ensures.zero;
+  sound = rw (c.as_slice.ensures, c.as_slice-2.ensures.value) at c.in_ok-kept.ensures.sound;
+  complete = rw (c.as_slice.ensures, c.as_slice-2.ensures.value) at c.in_ok-kept.ensures.complete;
+  last = rw c.as_slice-3.ensures.value at c.in_ok-clauses.ensures.met;
+})

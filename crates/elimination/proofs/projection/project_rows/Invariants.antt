@@ -1,0 +1,14 @@
+use Rattle.std.proofs.Common.{◌≡◌, ℕ, true, length, ◌≤◌, ◌<◌}
+use Rattle.std.specs.List.{list_all}
+use Rattle.elimination.specs.Partial.{IsWithin, Partial, HasOutside}
+use Rattle.elimination.specs.Rows.{all_open, is_wide, is_zero, CanMeet}
+use Rattle.elimination.proofs.projection.project_rows.Given as goal
+
+abbrev pub invariant-loop-x : goal.invariant-loop-x
+invariant-loop-x l =
+    record {
+      wide : list_all (is_wide (length l.sizes)) l.out.items ≡ true;
+      zero : (y : ℕ) → l.keep ≤ y → y < l.x → list_all (is_zero y) l.out.items ≡ true;
+      sound : (a : Partial) → IsWithin l.sizes a → HasOutside l.keep l.x a → all_open a l.out.items ≡ true → CanMeet l.sizes l.rows l.keep l.x a;
+      complete : (a : Partial) → IsWithin l.sizes a → CanMeet l.sizes l.rows l.keep l.x a → all_open a l.out.items ≡ true;
+    }

@@ -1,0 +1,105 @@
+ghost use Rattle.std.specs.Prelude.{◌≡◌, ℕ, true, ◌≤◌, ◌<◌, ◌||◌, All, IfOk, OnOk, length, nat_le, slice_index, take};
+ghost use Rattle.std.specs.List.{list_all};
+ghost use Rattle.clause_form.specs.Clauses.{AreClauses, IsOfSubjects, all_met, is_met, is_true, meets};
+ghost use Rattle.cca_base.specs.Sets.{has};
+ghost use Rattle.elimination.specs.Partial.{Values, given};
+ghost use Rattle.elimination.specs.Rows.{all_open, row_open, is_wide, is_zero};
+
+use crate::row::{Row, never};
+use crate::rows::add;
+use cca_base::{List, ValueSet};
+use clause_form::{Clause, Clauses, Literal};
+use std::alloc::{AllocError, Global};
+
+/// The rows of the clauses, without those that say no more than another.
+pub fn rows_of(alloc: Global, clauses: &Clauses) -> Result<Vec<Row>, AllocError>
+    requires { AreClauses clauses.now }
+    ensures wide { IfOk result (λ r. list_all (is_wide (length clauses.now.sizes)) r.items ≡ true) }
+    ensures open { IfOk result (λ r. (xs : Values) → length xs ≡ length clauses.now.sizes → all_open (given xs) r.items ≡ all_met xs clauses.now.clauses) }
+    ensures zero { IfOk result (λ r. (y : ℕ) → 65536 ≤ y → list_all (is_zero y) r.items ≡ true) }
+{
+    let mut rows = Vec::new(alloc);
+    for clause in clauses.clauses.as_slice() {
+        add(&mut rows, row_of(alloc, clauses.sizes.len(), clause)?)?;
+    }
+    Ok(rows)
+}
+
+// The row of a clause over `n` subjects.
+fn row_of(alloc: Global, n: usize, clause: &Clause) -> Result<Row, AllocError>
+    requires { All (λ literal. literal.subject < n) clause.now.literals }
+    ensures wide { IfOk result (λ r. is_wide n r ≡ true) }
+    ensures open { IfOk result (λ r. (xs : Values) → length xs ≡ n → row_open (given xs) r ≡ meets xs clause.now) }
+    ensures zero { IfOk result (λ r. (y : ℕ) → 65536 ≤ y → is_zero y r ≡ true) }
+{
+    let mut row = never(alloc, n)?;
+    for literal in clause.literals.as_slice() {
+        or_literal(&mut row, literal);
+    }
+    Ok(row)
+}
+
+// Lets the row be true with the literal too.
+fn or_literal(row: &mut Row, literal: &Literal)
+    requires { literal.now.subject < length row.old }
+    ensures wide { length row.new ≡ length row.old }
+    ensures open { (xs : Values) → length xs ≡ length row.old → row_open (given xs) row.new ≡ (row_open (given xs) row.old || is_true xs literal.now) }
+    ensures zero { (y : ℕ) → 65536 ≤ y → is_zero y row.old ≡ true → is_zero y row.new ≡ true }
+{
+    let subject = literal.subject as usize;
+    let both = row.get(subject).union(literal.values);
+    row.set(subject, both);
+}
+
+/// The clauses of rows over the subjects below `keep`.
+pub fn clauses_of(alloc: Global, rows: &[Row], keep: u16) -> Result<List<Clause>, AllocError>
+    requires { list_all (λ row. nat_le keep (length row)) rows.now ≡ true }
+    ensures subjects { IfOk result (All (λ clause. All (λ literal. literal.subject < keep) clause.literals)) }
+    ensures met { IfOk result (λ clauses. (xs : Values) → length xs ≡ keep → all_met xs clauses ≡ list_all (λ row. row_open (given xs) (take keep row)) rows.now) }
+{
+    let mut clauses = List::new(alloc);
+    for row in rows {
+        clauses.push(clause_of(alloc, row, keep)?)?;
+    }
+    Ok(clauses)
+}
+
+// The clause of a row over the subjects below `keep`.
+fn clause_of(alloc: Global, row: &Row, keep: u16) -> Result<Clause, AllocError>
+    requires { keep ≤ length row.now }
+    ensures subjects { IfOk result (λ clause. All (λ literal. literal.subject < keep) clause.literals) }
+    ensures met { IfOk result (λ clause. (xs : Values) → length xs ≡ keep → meets xs clause ≡ row_open (given xs) (take keep row.now)) }
+{
+    let mut literals = List::new(alloc);
+    for subject in 0..keep {
+        push_literal(&mut literals, subject, *row.get(subject as usize))?;
+    }
+    Ok(Clause { literals })
+}
+
+// Adds a literal, if it can be true.
+fn push_literal(
+    literals: &mut List<Literal>,
+    subject: u16,
+    values: ValueSet,
+) -> Result<(), AllocError>
+    ensures met { OnOk result ((xs : Values) → is_met xs literals.new ≡ (is_met xs literals.old || has values (slice_index xs subject))) }
+    ensures subjects { OnOk result ((n : ℕ) → subject < n → All (λ literal. literal.subject < n) literals.old → All (λ literal. literal.subject < n) literals.new) }
+{
+    if !values.is_empty() {
+        literals.push(Literal { subject, values })?;
+    }
+    Ok(())
+}
+
+/// The sizes of the subjects below `keep`.
+pub fn first_sizes(alloc: Global, sizes: &List<u8>, keep: u16) -> Result<List<u8>, AllocError>
+    requires { keep ≤ length sizes.now }
+    ensures { IfOk result (λ r. r ≡ take keep sizes.now) }
+{
+    let mut first = List::new(alloc);
+    for i in 0..keep {
+        first.push(*sizes.get(i as usize))?;
+    }
+    Ok(first)
+}

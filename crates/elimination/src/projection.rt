@@ -1,0 +1,73 @@
+ghost use Rattle.std.specs.Prelude.{◌≡◌, ℕ, true, ◌≤◌, ◌<◌, All, IfOk, Some, length, slice_index, slice_set, take};
+ghost use Rattle.std.specs.List.{list_all};
+ghost use Rattle.clause_form.specs.Clauses.{AreClauses};
+ghost use Rattle.elimination.specs.Partial.{Partial, IsWithin, HasOutside};
+ghost use Rattle.elimination.specs.Rows.{all_open, any_below, CanMeet, fix_row, is_wide, is_zero};
+ghost use Rattle.elimination.specs.Projection.{IsProjection};
+
+use crate::convert::{clauses_of, first_sizes, rows_of};
+use crate::gathering::gather;
+use crate::row::Row;
+use crate::rows::{add_all, naming, others};
+use clause_form::Clauses;
+use std::alloc::{AllocError, Global};
+
+/// Clauses over the subjects below `keep`, true exactly where some values of the other subjects make all of the given
+/// ones true. The error is want of memory.
+pub fn project(alloc: Global, clauses: &Clauses, keep: u16) -> Result<Clauses, AllocError>
+    requires clauses { AreClauses clauses.now }
+    requires keep { keep ≤ length clauses.now.sizes }
+    ensures clauses { IfOk result AreClauses }
+    ensures sizes { IfOk result (λ r. r.sizes ≡ take keep clauses.now.sizes) }
+    ensures exact { IfOk result (IsProjection clauses.now keep) }
+{
+    let rows = rows_of(alloc, clauses)?;
+    let kept = project_rows(
+        alloc,
+        clauses.sizes.as_slice(),
+        rows.as_slice(),
+        keep as usize,
+    )?;
+    let sizes = first_sizes(alloc, &clauses.sizes, keep)?;
+    let clauses = clauses_of(alloc, kept.as_slice(), keep)?;
+    Ok(Clauses { sizes, clauses })
+}
+
+/// The rows that may be true exactly where some values of the subjects from `keep` on make all rows true.
+fn project_rows(
+    alloc: Global,
+    sizes: &[u8],
+    rows: &[Row],
+    keep: usize,
+) -> Result<Vec<Row>, AllocError>
+    requires small { All (λ n. n ≤ 16) sizes.now }
+    requires subject { keep ≤ length sizes.now }
+    requires wide { list_all (is_wide (length sizes.now)) rows.now ≡ true }
+    ensures wide { IfOk result (λ r. list_all (is_wide (length sizes.now)) r.items ≡ true) }
+    ensures zero { IfOk result (λ r. (y : ℕ) → keep ≤ y → list_all (is_zero y) r.items ≡ true) }
+    ensures sound { IfOk result (λ r. (a : Partial) → IsWithin sizes.now a → HasOutside keep (length sizes.now) a → all_open a r.items ≡ true → CanMeet sizes.now rows.now keep (length sizes.now) a) }
+    ensures complete { IfOk result (λ r. (a : Partial) → IsWithin sizes.now a → CanMeet sizes.now rows.now keep (length sizes.now) a → all_open a r.items ≡ true) }
+{
+    let mut out = Vec::new(alloc);
+    add_all(alloc, sizes.len(), &mut out, rows)?;
+    for x in keep..sizes.len() {
+        out = project_one(alloc, sizes, out.as_slice(), x)?;
+    }
+    Ok(out)
+}
+
+// What the rows say of the other subjects.
+fn project_one(alloc: Global, sizes: &[u8], rows: &[Row], x: usize) -> Result<Vec<Row>, AllocError>
+    requires small { All (λ n. n ≤ 16) sizes.now }
+    requires subject { x < length sizes.now }
+    requires wide { list_all (is_wide (length sizes.now)) rows.now ≡ true }
+    ensures wide { IfOk result (λ r. list_all (is_wide (length sizes.now)) r.items ≡ true) }
+    ensures zero { IfOk result (λ r. (y : ℕ) → list_all (λ row. is_zero y (fix_row x row)) rows.now ≡ true → list_all (is_zero y) r.items ≡ true) }
+    ensures open { IfOk result (λ r. (q : Partial) → IsWithin sizes.now q → all_open q r.items ≡ any_below (slice_index sizes.now x) (λ v. all_open (slice_set q x (Some v)) rows.now)) }
+{
+    let with = naming(alloc, rows, x)?;
+    let mut out = others(alloc, rows, x)?;
+    let more = gather(alloc, sizes, with.as_slice(), x)?;
+    add_all(alloc, sizes.len(), &mut out, more.as_slice())?;
+    Ok(out)
+}

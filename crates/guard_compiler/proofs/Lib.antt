@@ -1,0 +1,2 @@
+pub mod FixedLemmas
+pub mod MeaningLemmas

@@ -1,0 +1,7 @@
+use Rattle.std.proofs.Common.{◌≡◌, take, not, eqb}
+use Rattle.std.specs.List.{filter}
+use Rattle.guard_compiler.proofs.FixedLemmas.{is_other}
+use Rattle.guard_compiler.proofs.fixed.without.Given as goal
+
+abbrev pub invariant-loop-literal : goal.invariant-loop-literal
+invariant-loop-literal l = l.literals ≡ filter (is_other l.subject) (take l.literal-index l.clause.literals)

@@ -1,0 +1,8 @@
+//! Guards as their prime implicants. A caller gets, for a move of a model, exactly the minimal conditions on the other
+//! components from which the guard follows, in cube order, or hears that there are too many.
+#![tactic(auto)]
+
+mod fixed;
+mod implicants;
+
+pub use implicants::ways;

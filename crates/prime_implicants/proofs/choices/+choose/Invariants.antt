@@ -1,0 +1,20 @@
+use Rattle.elimination.specs.Partial.{Partial}
+use Rattle.prime_implicants.specs.Found.{IsFoundable, AgreesTo, IsChoiceFrom, Key, key_of, all_keys}
+use Rattle.std.proofs.Common.{◌≡◌, ℕ, Bool, true, false, ◌<◌, ◌≤◌, ◌+◌, ◌-◌, length, Some, None, get_or}
+use Rattle.std.specs.List.{list_all}
+use Rattle.cca_base.specs.Sets.{has}
+use Rattle.std.specs.BTreeSet.{btree_set_len}
+use Rattle.prime_implicants.proofs.choices.+choose.Given as goal
+
+abbrev pub decreases-choose : goal.decreases-choose
+decreases-choose l = length l.q.now - l.at
+
+abbrev pub invariant-loop-v : goal.invariant-loop-v
+invariant-loop-v l =
+    record {
+      same : l.q ≡ l.initial.q;
+      sound : (t : Key → Bool) → all_keys t l.initial.found.keys ≡ true → ((p : Partial) → IsFoundable l.sizes l.rows p → t (key_of p) ≡ true) → all_keys t l.found.keys ≡ true;
+      grown : (t : Key → Bool) → all_keys t l.found.keys ≡ true → all_keys t l.initial.found.keys ≡ true;
+      so_far : btree_set_len l.found ≤ l.most → (v : ℕ) → v < l.v → has (get_or l.row l.at 0) v ≡ false → (p : Partial) → IsFoundable l.sizes l.rows p → AgreesTo l.at l.initial.q p
+          → get_or p l.at None ≡ Some v → IsChoiceFrom (l.at + 1) l.row p → (t : Key → Bool) → all_keys t l.found.keys ≡ true → t (key_of p) ≡ true;
+    }

@@ -1,0 +1,25 @@
+use Rattle.elimination.specs.Partial.{IsWithin, Partial, HasFrom, IsTotal}
+use Rattle.elimination.specs.Rows.{all_open}
+use Rattle.prime_implicants.specs.Found.{IsBlockedByRows}
+use Rattle.std.proofs.Common.{rules, refl, arith, length, ◌≡◌, ◌∙◌, ◌≤◌, ap, sym, add-one, ◌+◌, suc, false, true}
+use Rattle.elimination.proofs.RowLemmas.{length-within}
+use Rattle.prime_implicants.proofs.Completeness.{start, complete_step, same_step, from_end, IsClosed}
+use Rattle.prime_implicants.proofs.completion.complete.Goals as goal
+
+pub loop-x-init : goal.loop-x-init
+loop-x-init c = record { wide = c.requires.wide; zero = λ y h. h; same = λ a w t. refl; so_far = λ q w f b. start c.args.sizes.now c.args.rows.now.items q w f b }
+
+pub loop-x-preserved : goal.loop-x-preserved
+loop-x-preserved c =
+    let closed : IsClosed c.args.sizes.now c.loop-x.x c.loop-x.rows.items c.close.new.rows.items = λ q w. c.in_ok-close.ensures.«open» q w in
+    record {
+      wide = c.in_ok-close.ensures.wide;
+      zero = λ y h. c.in_ok-close.ensures.zero y (c.loop-x.invariant.zero y h);
+      same = λ a w t. same_step c.args.sizes.now c.loop-x.rows.items c.close.new.rows.items c.loop-x.x c.loop-x-test.true closed a w t ∙ c.loop-x.invariant.same a w t;
+      so_far = λ q w f b.
+          complete_step c.args.sizes.now c.args.rows.now.items c.loop-x.rows.items c.close.new.rows.items c.loop-x.x c.loop-x-test.true closed
+          (λ p v g d. c.loop-x.invariant.so_far p v g d) q w (rw add-one at f) b;
+    }
+
+pub returns-clause-complete : goal.returns-clause-complete
+returns-clause-complete c = λ q w b. c.loop-x.invariant.so_far q w (from_end q c.loop-x.x (omega (arith, length-within c.args.sizes.now q w))) b

@@ -1,0 +1,45 @@
+use Rattle.std.proofs.Common.{rules, arith, ◌≡◌, ◌≤◌, ◌∙◌, length, ap, sym, subst}
+use Rattle.prime_implicants.specs.Found.{all_keys, is_proper, AreMany, AreOrdered}
+use Rattle.prime_implicants.specs.Primes.{AreAllPrimes}
+use Rattle.prime_implicants.proofs.AnswerLemmas.{AreFinished, AreSound, HasEvery, all_primes, more_primes, proper_key}
+use Rattle.prime_implicants.proofs.ChoiceLemmas.{AreComplete}
+use Rattle.prime_implicants.proofs.implicants.primes.Goals.{In-Some, After-drop-rows-in-Some, After-drop-rows-2}
+use Rattle.prime_implicants.proofs.implicants.primes.Goals as goal
+
+pub cubes_of-requires : goal.cubes_of-requires
+cubes_of-requires c =
+    let sizes = c.args.clauses.now.sizes in
+    let rows = c.complete.new.rows.items in
+    let sound : AreSound sizes rows c.in-Some.found.keys = rw (c.as_slice-sizes.ensures, c.as_slice.ensures.value) at (rw c.in-Some.is at c.in_ok-found.ensures.sound) in
+    sound is_proper (λ p f. proper_key sizes rows p c.requires.few (λ y h. c.in_ok-complete.ensures.zero y (c.in_ok-rows.ensures.zero y h)) f)
+
+pub returns-in-Some : goal.returns-in-Some
+returns-in-Some c =
+    let sizes = c.args.clauses.now.sizes in
+    let rows = c.complete.new.rows.items in
+    let sound : AreSound sizes rows c.in-Some.found.keys = rw (c.as_slice-sizes.ensures, c.as_slice.ensures.value) at (rw c.in-Some.is at c.in_ok-found.ensures.sound) in
+    let every : HasEvery sizes rows c.in-Some.found.keys = rw (c.as_slice-sizes.ensures, c.as_slice.ensures.value) at (rw c.in-Some.is at c.in_ok-found.ensures.every) in
+    let few : length c.in-Some.found.keys ≤ c.args.most = rw c.in-Some.is at c.in_ok-found.ensures.few in
+    let ordered : AreOrdered c.in-Some.found.keys = rw c.in-Some.is at c.in_ok-found.ensures.ordered in
+    let finished : AreFinished c.args.clauses.now c.in_ok-rows.rows.items rows = record {
+      of = c.in_ok-rows.ensures.«open»;
+      complete = record {
+        same = rw c.as_slice-sizes.ensures at c.in_ok-complete.ensures.same;
+        complete = rw c.as_slice-sizes.ensures at c.in_ok-complete.ensures.complete;
+      };
+    } in
+    rw c.in_ok-cubes_of-in-Some.ensures (all_primes c.args.clauses.now c.in_ok-rows.rows.items rows c.args.most c.in-Some.found.keys finished sound every ordered few)
+
+pub returns : goal.returns
+returns c =
+    let sizes = c.args.clauses.now.sizes in
+    let rows = c.complete.new.rows.items in
+    let many : AreMany sizes rows c.args.most = rw (c.as_slice-sizes.ensures, c.as_slice.ensures.value) at (rw c.in-None.is at c.in_ok-found.ensures.more) in
+    let finished : AreFinished c.args.clauses.now c.in_ok-rows.rows.items rows = record {
+      of = c.in_ok-rows.ensures.«open»;
+      complete = record {
+        same = rw c.as_slice-sizes.ensures at c.in_ok-complete.ensures.same;
+        complete = rw c.as_slice-sizes.ensures at c.in_ok-complete.ensures.complete;
+      };
+    } in
+    more_primes c.args.clauses.now c.in_ok-rows.rows.items rows c.args.most finished many

@@ -1,0 +1,107 @@
+ghost use Rattle.std.specs.Prelude.{◌≡◌, ℕ, Bool, true, ◌<◌, ◌≤◌, length, OnOk, IfOk, IfSome, MatchOption, None, replicate, slice_index_or};
+ghost use Rattle.std.specs.List.{list_all};
+ghost use Rattle.std.specs.BTreeSet.{btree_set_len};
+ghost use Rattle.elimination.specs.Partial.{IsWithin, Partial};
+ghost use Rattle.elimination.specs.Rows.{is_wide};
+ghost use Rattle.prime_implicants.specs.Found.{AgreesTo, AreMany, AreOrdered, IsChoiceFrom, IsFoundable, Key, all_keys, key_of};
+
+use crate::found::Found;
+use crate::minimal::add_minimal;
+use elimination::{Row, is_open};
+use std::alloc::{AllocError, Global};
+use std::collections::BTreeSet;
+
+/// All minimal partial values that make a row false, or None where more than `most` turned up.
+pub fn all_minimal(
+    alloc: Global,
+    sizes: &[u8],
+    rows: &[Row],
+    most: usize,
+) -> Result<Option<Found>, AllocError>
+    requires { list_all (is_wide (length sizes.now)) rows.now ≡ true }
+    ensures sound { IfOk result (λ o. IfSome o (λ f. (t : Key → Bool) → ((p : Partial) → IsFoundable sizes.now rows.now p → t (key_of p) ≡ true) → all_keys t f.keys ≡ true)) }
+    ensures every { IfOk result (λ o. IfSome o (λ f. (p : Partial) → IsFoundable sizes.now rows.now p → (t : Key → Bool) → all_keys t f.keys ≡ true → t (key_of p) ≡ true)) }
+    ensures more { IfOk result (λ o. MatchOption o (AreMany sizes.now rows.now most) (λ f. Unit {0})) }
+    ensures few { IfOk result (λ o. IfSome o (λ f. btree_set_len f ≤ most)) }
+    ensures ordered { IfOk result (λ o. IfSome o (λ f. AreOrdered f.keys)) }
+{
+    let mut found = BTreeSet::new(alloc);
+    for row in rows {
+        if found.len() > most {
+            return Ok(None);
+        }
+        choose_row(alloc, sizes, rows, row, &mut found, most)?;
+    }
+    if found.len() > most {
+        return Ok(None);
+    }
+    Ok(Some(found))
+}
+
+// Adds the minimal ones that make the row false and no more.
+fn choose_row(
+    alloc: Global,
+    sizes: &[u8],
+    rows: &[Row],
+    row: &Row,
+    found: &mut Found,
+    most: usize,
+) -> Result<(), AllocError>
+    requires { length row.now ≡ length sizes.now }
+    ensures sound { OnOk result ((t : Key → Bool) → all_keys t found.old.keys ≡ true → ((p : Partial) → IsFoundable sizes.now rows.now p → t (key_of p) ≡ true) → all_keys t found.new.keys ≡ true) }
+    ensures grown { OnOk result ((t : Key → Bool) → all_keys t found.new.keys ≡ true → all_keys t found.old.keys ≡ true) }
+    ensures found { OnOk result (btree_set_len found.new ≤ most → (p : Partial) → IsFoundable sizes.now rows.now p → IsChoiceFrom 0 row.now p
+        → (t : Key → Bool) → all_keys t found.new.keys ≡ true → t (key_of p) ≡ true) }
+{
+    let mut q = nothing(alloc, sizes.len())?;
+    choose(alloc, sizes, rows, row, 0, q.as_mut_slice(), found, most)?;
+    Ok(())
+}
+
+fn nothing(alloc: Global, n: usize) -> Result<Vec<Option<u8>>, AllocError>
+    ensures { IfOk result (λ q. q.items ≡ replicate n None) }
+{
+    vec![in alloc; None; n]
+}
+
+// Adds the minimal ones that have the values of `q` and from `at` on make the row false and no more.
+fn choose(
+    alloc: Global,
+    sizes: &[u8],
+    rows: &[Row],
+    row: &Row,
+    at: usize,
+    q: &mut [Option<u8>],
+    found: &mut Found,
+    most: usize,
+) -> Result<(), AllocError>
+    requires at { at ≤ length q.old }
+    requires within { IsWithin sizes.now q.old }
+    requires wide { length row.now ≡ length q.old }
+    requires free { (i : ℕ) → at ≤ i → i < length q.old → slice_index_or q.old i None ≡ None }
+    ensures same { OnOk result (q.new ≡ q.old) }
+    ensures sound { OnOk result ((t : Key → Bool) → all_keys t found.old.keys ≡ true → ((p : Partial) → IsFoundable sizes.now rows.now p → t (key_of p) ≡ true) → all_keys t found.new.keys ≡ true) }
+    ensures grown { OnOk result ((t : Key → Bool) → all_keys t found.new.keys ≡ true → all_keys t found.old.keys ≡ true) }
+    ensures found { OnOk result (btree_set_len found.new ≤ most → (p : Partial) → IsFoundable sizes.now rows.now p → AgreesTo at q.old p → IsChoiceFrom at row.now p
+        → (t : Key → Bool) → all_keys t found.new.keys ≡ true → t (key_of p) ≡ true) }
+{
+    if !is_open(q, rows) {
+        add_minimal(alloc, rows, q, found)?;
+        return Ok(());
+    }
+    if at == q.len() {
+        return Ok(());
+    }
+    if row.get(at).is_empty() {
+        choose(alloc, sizes, rows, row, at + 1, q, found, most)?;
+        return Ok(());
+    }
+    for v in 0..sizes[at] {
+        if !row.get(at).has(v) && found.len() <= most {
+            q[at] = Some(v);
+            choose(alloc, sizes, rows, row, at + 1, q, found, most)?;
+            q[at] = None;
+        }
+    }
+    Ok(())
+}
