@@ -1,0 +1,2 @@
+pub mod FalsifiedLemmas
+pub mod WorldLemmas

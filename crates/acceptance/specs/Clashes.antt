@@ -1,0 +1,16 @@
+-- States that no world fits.
+use Rattle.std.specs.Prelude.{ℕ, List, Option, Some, None}
+use Rattle.cca_base.specs.Automata.{Automata}
+use Rattle.cca_base.specs.State.{IsState, HasWorld}
+use Rattle.cca_base.specs.Estimates.{IsEarlier}
+
+-- the first state in mode order that has no world
+pub record IsFirstWorldless (m : Automata) (s : List ℕ) : Type 0 where
+  pub state : IsState m s
+  pub worldless : HasWorld m s → ⊥
+  pub first : (t : List ℕ) → IsState m t → (HasWorld m t → ⊥) → IsEarlier t s → ⊥
+
+-- the first state that has no world, or none where every state has one
+abbrev pub IsFirstWorldlessOrNone : Automata → Option (List ℕ) → Type 0
+IsFirstWorldlessOrNone m None = (s : List ℕ) → IsState m s → HasWorld m s
+IsFirstWorldlessOrNone m (Some s) = IsFirstWorldless m s
