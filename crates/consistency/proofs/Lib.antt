@@ -1,0 +1,4 @@
+pub mod SubjectLemmas
+pub mod Narrow
+pub mod Seek
+pub mod Weaker

@@ -1,0 +1,4 @@
+pub mod Subjects
+pub mod Search
+pub mod Problem
+pub mod Found
