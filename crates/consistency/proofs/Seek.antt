@@ -1,6 +1,6 @@
 -- What a search knows, one value at a time.
-use Rattle.std.proofs.Common.{take, ◌≡◌, ◌⊎◌, inl, inr, ℕ, ◌+◌, ◌^◌, ◌<◌, ◌≤◌, ◌≢◌, ◌||◌, ◌==◌, Bool, true, false, List, [], ◌∷◌, ◌++◌, length, get_or, slice_index, slice_index_or, slice_set, sym, ap, subst, ◌∙◌, refl, arith, get_or-set_same, get_or-set_other, length-set, length-append, eqb, eq-eqb}
-use Rattle.std.proofs.lemmas.Bool.{cases_eq, cases_lt, cases_order, true≢false}
+use Rattle.std.proofs.Common.{take, ◌≡◌, inl, inr, ℕ, ◌+◌, ◌<◌, ◌≤◌, ◌||◌, ◌==◌, true, false, List, [], ◌∷◌, ◌++◌, length, slice_index, slice_index_or, slice_set, sym, ap, subst, ◌∙◌, refl, arith, get_or-set_same, get_or-set_other, length-set, length-append, eq-eqb}
+use Rattle.std.proofs.lemmas.Bool.{cases_eq, cases_order, true≢false}
 use Rattle.std.proofs.lemmas.List.{get_or_append_left, ext_get_or}
 use Rattle.std.proofs.Math.Seq.{get_or-append_seam, take-append_seam}
 use Rattle.cca_base.specs.Sets.{has}
@@ -8,7 +8,7 @@ use Rattle.clause_form.specs.declared.clause.Clause.{Clause}
 use Rattle.consistency.specs.declared.domain.Domain.{Domain}
 use Rattle.consistency.specs.declared.subjects.SubjectSet.{SubjectSet}
 use Rattle.consistency.specs.Subjects.{is_in}
-use Rattle.consistency.specs.Search.{IsSolution, IsLess, IsFirstFrom, IsClash, Agrees, Extends, Knows, nothing, values_at, why_at}
+use Rattle.consistency.specs.Search.{IsSolution, IsFirstFrom, IsClash, Agrees, Extends, Knows, nothing, values_at, why_at}
 use Rattle.consistency.proofs.Narrow.{or_l, or_r}
 
 pub length-snoc : (p : List ℕ) (v : ℕ) → length (p ++ v ∷ []) ≡ length p + 1
@@ -21,8 +21,8 @@ agrees_shorter p v r xs h d m n = let k : d < length (p ++ v ∷ []) = omega (ar
 pub agrees_longer : (p : List ℕ) (v : ℕ) (r : SubjectSet) (xs : List ℕ) → (is_in r (length p) ≡ true → slice_index xs (length p) ≡ v) → Agrees p r xs → Agrees (p ++ v ∷ []) r xs
 agrees_longer p v r xs last h d m n =
     elim (cases_eq d (length p)) [
-      inl e ↦ subst (λ (k : ℕ). slice_index xs k ≡ slice_index (p ++ v ∷ []) k) (sym e) (last (subst (λ (k : ℕ). is_in r k ≡ true) e m) ∙ sym (get_or-append_seam p v [] 0))
-    | inr ne ↦ (let k : d < length p = omega (arith, length-snoc p v) in h d m k ∙ sym (get_or_append_left p (v ∷ []) 0 d k))
+      | inl e ↦ subst (λ (k : ℕ). slice_index xs k ≡ slice_index (p ++ v ∷ []) k) (sym e) (last (subst (λ (k : ℕ). is_in r k ≡ true) e m) ∙ sym (get_or-append_seam p v [] 0))
+      | inr ne ↦ (let k : d < length p = omega (arith, length-snoc p v) in h d m k ∙ sym (get_or_append_left p (v ∷ []) 0 d k))
     ]
 
 -- what is known stays known of a longer prefix
@@ -35,16 +35,16 @@ chosen domains s v set reason h set_is why_is p xs at knows d k agrees =
     let one : Domain = record { values = set; why = reason } in
     let dk : d < length domains = omega (arith, length-set domains s one) in
     elim (cases_eq d s) [
-      inl e ↦ (
-        let new : slice_index_or (slice_set domains s one) d nothing ≡ one = ap (λ (j : ℕ). slice_index_or (slice_set domains s one) j nothing) e ∙ get_or-set_same domains s one nothing h in
-        let mine : is_in (why_at (slice_set domains s one) d) d ≡ true = ap (λ (y : Domain). is_in y.why d) new ∙ (why_is d ∙ eq-eqb d s e) in
-        let in' : d < length (p ++ v ∷ []) = omega (arith, length-snoc p v) in
-        let value : slice_index xs d ≡ v = agrees d mine in' ∙ (ap (slice_index (p ++ v ∷ [])) (e ∙ sym at) ∙ get_or-append_seam p v [] 0) in
-        ap (λ (y : Domain). has y.values (slice_index xs d)) new ∙ (set_is (slice_index xs d) ∙ eq-eqb _ _ value))
-    | inr ne ↦ (
-        let same : slice_index_or (slice_set domains s one) d nothing ≡ slice_index_or domains d nothing = get_or-set_other domains s d one nothing ne in
-        ap (λ (y : Domain). has y.values (slice_index xs d)) same
-        ∙ knows d dk (λ x m n. agrees_shorter p v (why_at (slice_set domains s one) d) xs agrees x (ap (λ (y : Domain). is_in y.why x) same ∙ m) n))
+      | inl e ↦ (
+          let new : slice_index_or (slice_set domains s one) d nothing ≡ one = ap (λ (j : ℕ). slice_index_or (slice_set domains s one) j nothing) e ∙ get_or-set_same domains s one nothing h in
+          let mine : is_in (why_at (slice_set domains s one) d) d ≡ true = ap (λ (y : Domain). is_in y.why d) new ∙ (why_is d ∙ eq-eqb d s e) in
+          let in' : d < length (p ++ v ∷ []) = omega (arith, length-snoc p v) in
+          let value : slice_index xs d ≡ v = agrees d mine in' ∙ (ap (slice_index (p ++ v ∷ [])) (e ∙ sym at) ∙ get_or-append_seam p v [] 0) in
+          ap (λ (y : Domain). has y.values (slice_index xs d)) new ∙ (set_is (slice_index xs d) ∙ eq-eqb _ _ value))
+      | inr ne ↦ (
+          let same : slice_index_or (slice_set domains s one) d nothing ≡ slice_index_or domains d nothing = get_or-set_other domains s d one nothing ne in
+          ap (λ (y : Domain). has y.values (slice_index xs d)) same
+          ∙ knows d dk (λ x m n. agrees_shorter p v (why_at (slice_set domains s one) d) xs agrees x (ap (λ (y : Domain). is_in y.why x) same ∙ m) n))
     ]
 
 module _ (clauses : List Clause) (base : List ℕ) (prefix : List ℕ) (domains : List Domain) (blame : SubjectSet) (value : ℕ)
@@ -52,7 +52,6 @@ module _ (clauses : List Clause) (base : List ℕ) (prefix : List ℕ) (domains 
     (room : length prefix < length domains)
     (blamed : (d : ℕ) → is_in (why_at domains (length prefix)) d ≡ true → is_in blame d ≡ true)
     (tried : (xs : List ℕ) → IsSolution clauses base xs → Agrees prefix blame xs → slice_index xs (length prefix) < value → ⊥) where
-
   in_set : (xs : List ℕ) → IsSolution clauses base xs → Agrees prefix blame xs → has (values_at domains (length prefix)) (slice_index xs (length prefix)) ≡ true
   in_set xs h agrees = knows xs h (length prefix) room (λ d m n. agrees d (blamed d m) n)
 
@@ -60,8 +59,8 @@ module _ (clauses : List Clause) (base : List ℕ) (prefix : List ℕ) (domains 
   pub tried_absent : has (values_at domains (length prefix)) value ≡ false → (xs : List ℕ) → IsSolution clauses base xs → Agrees prefix blame xs → slice_index xs (length prefix) < value + 1 → ⊥
   tried_absent gone xs h agrees k =
       elim (cases_eq (slice_index xs (length prefix)) value) [
-        inl e ↦ true≢false (sym (subst (λ (v : ℕ). has (values_at domains (length prefix)) v ≡ true) e (in_set xs h agrees)) ∙ gone)
-      | inr ne ↦ tried xs h agrees (omega arith)
+        | inl e ↦ true≢false (sym (subst (λ (v : ℕ). has (values_at domains (length prefix)) v ≡ true) e (in_set xs h agrees)) ∙ gone)
+        | inr ne ↦ tried xs h agrees (omega arith)
       ]
 
   -- so is one with which there's a clash
@@ -69,8 +68,8 @@ module _ (clauses : List Clause) (base : List ℕ) (prefix : List ℕ) (domains 
       → (xs : List ℕ) → IsSolution clauses base xs → Agrees prefix more xs → slice_index xs (length prefix) < value + 1 → ⊥
   tried_clash subjects more unions clash xs h agrees k =
       elim (cases_eq (slice_index xs (length prefix)) value) [
-        inl e ↦ clash xs h (agrees_longer prefix value subjects xs (λ m. e) (λ d m n. agrees d (or_r _ _ _ (unions d) m) n))
-      | inr ne ↦ tried xs h (λ d m n. agrees d (or_l _ _ _ (unions d) m) n) (omega arith)
+        | inl e ↦ clash xs h (agrees_longer prefix value subjects xs (λ m. e) (λ d m n. agrees d (or_r _ _ _ (unions d) m) n))
+        | inr ne ↦ tried xs h (λ d m n. agrees d (or_l _ _ _ (unions d) m) n) (omega arith)
       ]
 
   -- all values have been tried
@@ -83,21 +82,21 @@ module _ (clauses : List Clause) (base : List ℕ) (prefix : List ℕ) (domains 
     solution = first.solution;
     extends = λ d n. (let k : d < length (prefix ++ value ∷ []) = omega (arith, length-snoc prefix value) in first.extends d k ∙ get_or_append_left prefix (value ∷ []) 0 d n);
     first = λ ys h extends.
-      (let s : length prefix < length (prefix ++ value ∷ []) = omega (arith, length-snoc prefix value) in
-       let mine : slice_index xs (length prefix) ≡ value = first.extends (length prefix) s ∙ get_or-append_seam prefix value [] 0 in
-       elim (cases_order (slice_index ys (length prefix)) value) [
-         inl e ↦ first.first ys h (λ d n. elim (cases_eq d (length prefix)) [
-             inl at ↦ subst (λ (k : ℕ). slice_index ys k ≡ slice_index (prefix ++ value ∷ []) k) (sym at) (e ∙ sym (get_or-append_seam prefix value [] 0))
-           | inr ne ↦ (let k : d < length prefix = omega (arith, length-snoc prefix value) in extends d k ∙ sym (get_or_append_left prefix (value ∷ []) 0 d k))
-           ])
-       | inr (inl l) ↦ absurd (tried ys h (λ d m n. extends d n) l)
-       | inr (inr g) ↦ inr (record {
-           place = length prefix;
-           inside = (let f = first.solution.full in omega arith);
-           same = λ d n. (let k : d < length (prefix ++ value ∷ []) = omega (arith, length-snoc prefix value) in first.extends d k ∙ (get_or_append_left prefix (value ∷ []) 0 d n ∙ sym (extends d n)));
-           less = omega arith;
-         })
-       ]);
+        (let s : length prefix < length (prefix ++ value ∷ []) = omega (arith, length-snoc prefix value) in
+        let mine : slice_index xs (length prefix) ≡ value = first.extends (length prefix) s ∙ get_or-append_seam prefix value [] 0 in
+        elim (cases_order (slice_index ys (length prefix)) value) [
+          | inl e ↦ first.first ys h (λ d n. elim (cases_eq d (length prefix)) [
+            | inl at ↦ subst (λ (k : ℕ). slice_index ys k ≡ slice_index (prefix ++ value ∷ []) k) (sym at) (e ∙ sym (get_or-append_seam prefix value [] 0))
+            | inr ne ↦ (let k : d < length prefix = omega (arith, length-snoc prefix value) in extends d k ∙ sym (get_or_append_left prefix (value ∷ []) 0 d k))
+          ])
+          | inr (inl l) ↦ absurd (tried ys h (λ d m n. extends d n) l)
+          | inr (inr g) ↦ inr (record {
+            place = length prefix;
+            inside = (let f = first.solution.full in omega arith);
+            same = λ d n. (let k : d < length (prefix ++ value ∷ []) = omega (arith, length-snoc prefix value) in first.extends d k ∙ (get_or_append_left prefix (value ∷ []) 0 d n ∙ sym (extends d n)));
+            less = omega arith;
+          })
+        ]);
   }
 
 -- a clash that doesn't speak of the subject stands without its value

@@ -2,3 +2,4 @@ pub mod Subjects
 pub mod Search
 pub mod Problem
 pub mod Found
+pub mod Base

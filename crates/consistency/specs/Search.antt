@@ -1,7 +1,6 @@
 -- Solutions of clauses, and what a search for the first one knows.
-use Rattle.std.specs.Prelude.{◌≡◌, ◌⊎◌, ℕ, ◌<◌, ◌≤◌, ◌≢◌, Bool, true, false, List, ◌∷◌, [], ◌++◌, length, slice_index, slice_index_or, All, Option, Some, None}
+use Rattle.std.specs.Prelude.{◌≡◌, ◌⊎◌, ℕ, ◌<◌, ◌≢◌, true, false, List, ◌∷◌, [], ◌++◌, length, slice_index, slice_index_or, All, Option, Some, None}
 use Rattle.cca_base.specs.Sets.{has}
-use Rattle.cca_base.specs.declared.limits.TheConstants.{MAX_CHOICES}
 use Rattle.clause_form.specs.declared.clause.Literal.{Literal}
 use Rattle.clause_form.specs.declared.clause.Clause.{Clause}
 use Rattle.clause_form.specs.Clauses.{is_met, meets}

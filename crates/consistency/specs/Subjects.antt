@@ -1,5 +1,5 @@
 -- A set of subjects, as words of 64 bits.
-use Rattle.std.specs.Prelude.{ℕ, Bool, ◌/◌, ◌%◌, slice_index, []}
+use Rattle.std.specs.Prelude.{ℕ, Bool, ◌/◌, ◌%◌, slice_index}
 use Rattle.cca_base.specs.Sets.{has}
 use Rattle.consistency.specs.declared.subjects.SubjectSet.{SubjectSet}
 

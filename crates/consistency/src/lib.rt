@@ -2,10 +2,15 @@
 //! there is none.
 #![tactic(auto)]
 
+mod base;
 mod domain;
+mod found;
 mod problem;
 mod propagate;
 mod search;
 mod solution;
+mod split;
 mod subjects;
 mod visit;
+
+pub use found::{Found, find_counter, find_world};

@@ -13,7 +13,9 @@ fn last_literal(literals: &[Literal], domains: &[Domain]) -> Option<usize>
 {
     let mut found = literals.len();
     for (i, literal) in literals.iter().enumerate() {
-        let common = domains[literal.subject as usize].values.common(literal.values);
+        let common = domains[literal.subject as usize]
+            .values
+            .common(literal.values);
         if !common.is_empty() {
             if found < literals.len() {
                 return None;

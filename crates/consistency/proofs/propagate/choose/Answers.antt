@@ -1,4 +1,4 @@
-use Rattle.std.proofs.Common.{◌≡◌, ℕ, ◌==◌, ◌||◌, Bool, true, false, ap, ◌∙◌, refl}
+use Rattle.std.proofs.Common.{◌≡◌, ◌==◌, ◌||◌, Bool, true, false, ◌∙◌, refl}
 use Rattle.consistency.proofs.Seek.{chosen}
 use Rattle.consistency.proofs.propagate.choose.Goals as goal
 

@@ -1,6 +1,4 @@
-use Rattle.std.proofs.Common.{List, All, subst, sym, ◌≡◌}
-use Rattle.clause_form.specs.Clauses.{meets}
-use Rattle.clause_form.specs.declared.clause.Clause.{Clause}
+use Rattle.std.proofs.Common.{List, subst, sym}
 use Rattle.consistency.specs.declared.domain.Domain.{Domain}
 use Rattle.consistency.specs.Search.{Knows, AllMet, IsClashOfAll}
 use Rattle.consistency.proofs.propagate.settle.Goals as goal
@@ -19,7 +17,7 @@ pub loop-preserved : goal.loop-preserved
 loop-preserved c prefix xs met knows =
     let before = c.loop.invariant prefix xs met knows in
     elim c.match-get.branch [
-      in-Some-get+in_ok-because+in_default-2 w ↦ subst (λ (ds : List Domain). Knows prefix ds xs) (sym w.domains-is)
-        (w.in_ok-because.ensures.keeps prefix xs (subst (AllMet xs) (sym c.as_slice-clauses.ensures) met) before)
-    | in_default-get w ↦ subst (λ (ds : List Domain). Knows prefix ds xs) (sym w.domains-is) before
+      | in-Some-get+in_ok-because+in_default-2 w ↦ subst (λ (ds : List Domain). Knows prefix ds xs) (sym w.domains-is)
+          (w.in_ok-because.ensures.keeps prefix xs (subst (AllMet xs) (sym c.as_slice-clauses.ensures) met) before)
+      | in_default-get w ↦ subst (λ (ds : List Domain). Knows prefix ds xs) (sym w.domains-is) before
     ]

@@ -23,5 +23,5 @@ pub returns-clause-clash : goal.returns-clause-clash
 returns-clause-clash c =
     IfOk-weaker c.settle.result _ _
     (clash_before c.args.problem.now.clauses c.args.domains.now c.visit_all.new.domains
-      (λ prefix xs met knows. c.in_ok-because.ensures.keeps prefix xs (subst (AllMet xs) (sym c.as_slice.ensures) met) knows))
+    (λ prefix xs met knows. c.in_ok-because.ensures.keeps prefix xs (subst (AllMet xs) (sym c.as_slice.ensures) met) knows))
     c.settle.ensures.clash

@@ -18,9 +18,9 @@ pub loop-place-preserved : goal.loop-place-preserved
 loop-place-preserved c prefix xs met knows =
     let before = c.loop-place.invariant prefix xs met knows in
     elim c.if-place-clauses.branch [
-      then-place-clauses+in-Same w ↦ subst (λ (ds : List Domain). Knows prefix ds xs) (sym w.domains-is)
-        (w.look_at.ensures.keeps prefix xs (met_item xs c.args.clauses.now _ w.index-clauses-place.result _ met w.if-place-clauses.true w.index-clauses-place.is (w.as_slice.ensures ∙ ap (λ (x : Clause). x.literals) (sym w.index-clauses-place.is))) before)
-    | then-place-clauses+in-Narrowed+in_ok-push-in-Narrowed w ↦ subst (λ (ds : List Domain). Knows prefix ds xs) (sym w.domains-is)
-        (w.look_at.ensures.keeps prefix xs (met_item xs c.args.clauses.now _ w.index-clauses-place.result _ met w.if-place-clauses.true w.index-clauses-place.is (w.as_slice.ensures ∙ ap (λ (x : Clause). x.literals) (sym w.index-clauses-place.is))) before)
-    | else-place-clauses w ↦ subst (λ (ds : List Domain). Knows prefix ds xs) (sym w.domains-is) before
+      | then-place-clauses+in-Same w ↦ subst (λ (ds : List Domain). Knows prefix ds xs) (sym w.domains-is)
+          (w.look_at.ensures.keeps prefix xs (met_item xs c.args.clauses.now _ w.index-clauses-place.result _ met w.if-place-clauses.true w.index-clauses-place.is (w.as_slice.ensures ∙ ap (λ (x : Clause). x.literals) (sym w.index-clauses-place.is))) before)
+      | then-place-clauses+in-Narrowed+in_ok-push-in-Narrowed w ↦ subst (λ (ds : List Domain). Knows prefix ds xs) (sym w.domains-is)
+          (w.look_at.ensures.keeps prefix xs (met_item xs c.args.clauses.now _ w.index-clauses-place.result _ met w.if-place-clauses.true w.index-clauses-place.is (w.as_slice.ensures ∙ ap (λ (x : Clause). x.literals) (sym w.index-clauses-place.is))) before)
+      | else-place-clauses w ↦ subst (λ (ds : List Domain). Knows prefix ds xs) (sym w.domains-is) before
     ]

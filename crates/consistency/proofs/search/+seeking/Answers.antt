@@ -1,11 +1,11 @@
-use Rattle.std.proofs.Common.{◌≡◌, ℕ, ◌<◌, ◌≤◌, ◌∷◌, List, ap, [], ◌++◌, ◌+◌, length, arith, true, false, slice_index, slice_index_or, sym, subst, ◌∙◌}
+use Rattle.std.proofs.Common.{◌≡◌, ℕ, ◌<◌, ◌∷◌, List, ap, [], ◌++◌, ◌+◌, length, arith, false, slice_index_or, sym, subst, ◌∙◌}
 use Rattle.std.proofs.lemmas.List.{get_or_read}
 use Rattle.cca_base.specs.Sets.{has}
 use Rattle.consistency.specs.declared.domain.Domain.{Domain}
 use Rattle.consistency.specs.Subjects.{is_in}
 use Rattle.consistency.specs.Search.{IsSolution, IsOutcome, IsClashOfMore, Knows, nothing}
 use Rattle.consistency.proofs.Narrow.{or_l}
-use Rattle.consistency.proofs.Seek.{found, early, whole_clash, whole_found, tried_absent, tried_clash, knows_longer, length-snoc, written}
+use Rattle.consistency.proofs.Seek.{found, early, whole_clash, tried_absent, tried_clash, knows_longer, length-snoc, written}
 use Rattle.consistency.proofs.search.+seeking.Goals as goal
 use Rattle.consistency.proofs.search.+seeking.Goals.{seek-then-has+in_ok-found+in-Clash+else-not-has_subject, seek-else-has}
 
@@ -42,13 +42,13 @@ seek-loop-value-preserved t c =
     let base = c.args.problem.now.base.items in
     let room : length p < length c.args.domains.now = omega arith in
     elim c.if-has.branch [
-      seek-then-has+in_ok-found+in-Clash+else-not-has_subject w ↦ record {
+      | seek-then-has+in_ok-found+in-Clash+else-not-has_subject w ↦ record {
         blamed = λ d m. rw w.blame-is (or_l _ _ _ (w.union-blame.ensures d) (c.loop-value.invariant.blamed d m));
         tried = rw w.blame-is (tried_clash clauses base p c.args.domains.now c.loop-value.blame c.loop-value.value c.requires.known room c.loop-value.invariant.blamed c.loop-value.invariant.tried
             w.in-Clash.subjects _ w.union-blame.ensures
             (subst (IsOutcome clauses base (p ++ c.loop-value.value ∷ [])) w.in-Clash.is w.in_ok-found.ensures));
       }
-    | seek-else-has w ↦ record {
+      | seek-else-has w ↦ record {
         blamed = rw w.blame-is c.loop-value.invariant.blamed;
         tried = rw w.blame-is (tried_absent clauses base p c.args.domains.now c.loop-value.blame c.loop-value.value c.requires.known room c.loop-value.invariant.blamed c.loop-value.invariant.tried
             (subst (λ (x : Domain). has x.values c.loop-value.value ≡ false) (read c.args.domains.now p _ c.index-domains-subject.result room c.len-subject.ensures c.index-domains-subject.is) (ap (λ (x : Domain). has x.values c.loop-value.value) c.index-domains-subject.is ∙ (sym c.has.ensures ∙ w.if-has.false))));
@@ -59,9 +59,19 @@ pub attempt-seek-requires : goal.attempt-seek-requires
 attempt-seek-requires t c =
     let p = c.args.prefix.now in
     let longer : c.push.new.self ≡ p ++ c.args.value ∷ [] = cc (c.in_ok-push.ensures.ok, c.in_ok-longer.ensures) in
-    let more : length c.push.new.self ≡ length p + 1 = rw longer (length-snoc p c.args.value) in
-    (omega (arith, c.decreases), (c.requires.proper, (c.requires.full, (omega arith,
-      λ xs h. subst (λ (q : List ℕ). Knows q c.args.domains.now xs) (sym longer) (knows_longer p c.args.value c.args.domains.now xs (c.requires.known xs h))))))
+    let more : length c.push.new.self ≡ length p + 1 = rw longer (length-snoc p c.args.value) in (
+      omega (arith, c.decreases),
+      (
+        c.requires.proper,
+        (
+          c.requires.full,
+          (
+            omega arith,
+            λ xs h. subst (λ (q : List ℕ). Knows q c.args.domains.now xs) (sym longer) (knows_longer p c.args.value c.args.domains.now xs (c.requires.known xs h)),
+          ),
+        ),
+      ),
+    )
 
 pub attempt-returns-in-Some : goal.attempt-returns-in-Some
 attempt-returns-in-Some t c xs h agrees =
@@ -76,7 +86,17 @@ attempt-seek-requires-in-None t c =
     let longer : c.push.new.self ≡ p ++ c.args.value ∷ [] = cc (c.in_ok-push.ensures.ok, c.in_ok-longer.ensures) in
     let more : length c.push.new.self ≡ length p + 1 = rw longer (length-snoc p c.args.value) in
     let after : c.deref.result.now ≡ c.extend.new.domains = written _ _ _ _ c.deref.ensures.value (omega (arith, c.deref_mut.ensures.len)) in
-    let full : length c.deref.result.now ≡ length c.args.problem.now.base.items = rw after (omega (arith, ap (λ (s : List Domain). length s) same)) in
-    (omega (arith, c.decreases), (c.requires.proper, (full, (omega arith,
-      λ xs h. subst (λ (q : List ℕ). Knows q c.deref.result.now xs) (sym longer) (subst (λ (ds : List Domain). Knows (p ++ c.args.value ∷ []) ds xs) (sym after)
-        (c.in_ok-because.ensures.keeps p xs (sym c.len-subject.ensures) h.met (subst (λ (ds : List Domain). Knows p ds xs) (sym same) (c.requires.known xs h))))))))
+    let full : length c.deref.result.now ≡ length c.args.problem.now.base.items = rw after (omega (arith, ap (λ (s : List Domain). length s) same)) in (
+      omega (arith, c.decreases),
+      (
+        c.requires.proper,
+        (
+          full,
+          (
+            omega arith,
+            λ xs h. subst (λ (q : List ℕ). Knows q c.deref.result.now xs) (sym longer) (subst (λ (ds : List Domain). Knows (p ++ c.args.value ∷ []) ds xs) (sym after)
+                (c.in_ok-because.ensures.keeps p xs (sym c.len-subject.ensures) h.met (subst (λ (ds : List Domain). Knows p ds xs) (sym same) (c.requires.known xs h)))),
+          ),
+        ),
+      ),
+    )

@@ -40,5 +40,5 @@ seek-requires-clause-known c xs h =
     let after : c.deref.result.now ≡ c.settle_all.new.domains = written _ _ _ _ c.deref.ensures.value (omega (arith, c.deref_mut.ensures.len)) in
     subst (λ (p : List ℕ). Knows p c.deref.result.now xs) (sym c.new-prefix.ensures)
     (subst (λ (ds : List Domain). Knows [] ds xs) (sym after)
-      (c.in_ok-settle_all.ensures.keeps [] xs h.met
-        (begin c.args.problem.now.clauses c.args.problem.now.base.items _ _ _ xs c.as_slice.ensures.value c.deref_mut.ensures.value c.in_ok-domains.ensures.full c.in_ok-domains.ensures.values h)))
+    (c.in_ok-settle_all.ensures.keeps [] xs h.met
+    (begin c.args.problem.now.clauses c.args.problem.now.base.items _ _ _ xs c.as_slice.ensures.value c.deref_mut.ensures.value c.in_ok-domains.ensures.full c.in_ok-domains.ensures.values h)))

@@ -1,4 +1,4 @@
-use Rattle.std.proofs.Common.{◌<◌, ◌/◌, arith}
+use Rattle.std.proofs.Common.{arith}
 use Rattle.consistency.proofs.SubjectLemmas.{all_in}
 use Rattle.consistency.proofs.subjects.all_subjects.Goals as goal
 

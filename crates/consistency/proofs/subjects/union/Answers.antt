@@ -1,4 +1,4 @@
-use Rattle.std.proofs.Common.{◌≡◌, ℕ, ◌/◌, ◌%◌, ◌<◌, ◌∙◌, length, length-set, arith}
+use Rattle.std.proofs.Common.{◌≡◌, ◌/◌, ◌%◌, ◌<◌, ◌∙◌, length, length-set, arith}
 use Rattle.consistency.proofs.SubjectLemmas.{joined_more, kept_more, joined_in}
 use Rattle.consistency.proofs.subjects.union.Goals as goal
 

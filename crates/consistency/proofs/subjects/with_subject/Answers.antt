@@ -1,4 +1,4 @@
-use Rattle.std.proofs.Common.{◌<◌, ◌/◌, length, arith}
+use Rattle.std.proofs.Common.{arith}
 use Rattle.consistency.proofs.SubjectLemmas.{with_in}
 use Rattle.consistency.proofs.subjects.with_subject.Goals as goal
 

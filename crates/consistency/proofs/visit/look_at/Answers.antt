@@ -1,4 +1,4 @@
-use Rattle.std.proofs.Common.{◌≡◌, ℕ, ◌<◌, ◌≤◌, length, arith, true, sym, subst}
+use Rattle.std.proofs.Common.{◌≡◌, ◌<◌, length, arith, true, sym, subst}
 use Rattle.clause_form.specs.Clauses.{is_true}
 use Rattle.clause_form.specs.declared.clause.Literal.{Literal}
 use Rattle.consistency.proofs.Narrow.{only_one, narrowed}
@@ -19,4 +19,4 @@ returns-clause-keeps c prefix xs met knows =
     narrowed domains prefix xs l.subject c.index-domains-subject.result l.values _ c.reasons-because.result _ lt c.index-domains-subject.is knows
     c.common-values.ensures.members c.union-why.ensures
     (λ agrees. subst (λ (x : Literal). is_true xs x ≡ true) (sym c.index-literals-place.is)
-        ((only_one _ _ _ _ prefix xs c.requires c.in-Some.ensures.others c.reasons-because.ensures met knows agrees).1 l))
+    ((only_one _ _ _ _ prefix xs c.requires c.in-Some.ensures.others c.reasons-because.ensures met knows agrees).1 l))
