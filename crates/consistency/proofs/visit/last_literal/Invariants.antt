@@ -1,0 +1,12 @@
+use Rattle.std.proofs.Common.{◌≡◌, ℕ, ◌<◌, ◌≤◌, ◌≢◌, length, true, false, slice_index_or}
+use Rattle.cca_base.specs.Sets.{has}
+use Rattle.clause_form.specs.declared.clause.Literal.{Literal}
+use Rattle.consistency.specs.Search.{values_at}
+use Rattle.consistency.proofs.visit.last_literal.Given as goal
+
+abbrev pub invariant-loop-i : goal.invariant-loop-i
+invariant-loop-i l = record {
+  place : l.found ≤ length l.literals;
+  before : l.found < length l.literals → l.found < l.i;
+  others : (i : ℕ) (x : Literal) → i < l.i → i ≢ l.found → (v : ℕ) → has (values_at l.domains (slice_index_or l.literals i x).subject) v ≡ true → has (slice_index_or l.literals i x).values v ≡ false;
+}

@@ -1,0 +1,5 @@
+pub mod Subjects
+pub mod Search
+pub mod Problem
+pub mod Found
+pub mod Base

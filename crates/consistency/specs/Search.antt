@@ -1,0 +1,142 @@
+-- Solutions of clauses, and what a search for the first one knows.
+use Rattle.std.specs.Prelude.{◌≡◌, ◌⊎◌, ℕ, ◌<◌, ◌≢◌, true, false, List, ◌∷◌, [], ◌++◌, length, slice_index, slice_index_or, All, Option, Some, None}
+use Rattle.cca_base.specs.Sets.{has}
+use Rattle.clause_form.specs.declared.clause.Literal.{Literal}
+use Rattle.clause_form.specs.declared.clause.Clause.{Clause}
+use Rattle.clause_form.specs.Clauses.{is_met, meets}
+use Rattle.consistency.specs.declared.domain.Domain.{Domain}
+use Rattle.consistency.specs.declared.subjects.SubjectSet.{SubjectSet}
+use Rattle.consistency.specs.declared.visit.Visit.{Visit}
+use Rattle.consistency.specs.declared.visit.Visit.TheVariants.{Same, Narrowed, Clash}
+use Rattle.consistency.specs.declared.search.Outcome.{Outcome}
+use Rattle.consistency.specs.declared.search.Outcome.TheVariants as outcome
+use Rattle.consistency.specs.Subjects.{is_in}
+
+-- each subject is one of so many
+abbrev pub AreBelow : ℕ → List Literal → Type 0
+AreBelow n literals = All (λ literal. literal.subject < n) literals
+
+-- each subject of each clause is one of so many
+abbrev pub AllBelow : ℕ → List Clause → Type 0
+AllBelow n clauses = All (λ clause. AreBelow n clause.literals) clauses
+
+-- every clause is true
+abbrev pub AllMet : List ℕ → List Clause → Type 0
+AllMet xs clauses = All (λ clause. meets xs clause ≡ true) clauses
+
+-- a value of its own set for each subject, with which every clause is true
+pub record IsSolution (clauses : List Clause) (base xs : List ℕ) : Type 0 where
+  pub full : length xs ≡ length base
+  pub within : (d : ℕ) → d < length base → has (slice_index base d) (slice_index xs d) ≡ true
+  pub met : AllMet xs clauses
+
+-- at the first place where they differ the one is less
+pub record IsLess (xs ys : List ℕ) : Type 0 where
+  pub place : ℕ
+  pub inside : place < length xs
+  pub same : (d : ℕ) → d < place → slice_index xs d ≡ slice_index ys d
+  pub less : slice_index xs place < slice_index ys place
+
+-- the first of the solutions
+pub record IsFirst (clauses : List Clause) (base xs : List ℕ) : Type 0 where
+  pub solution : IsSolution clauses base xs
+  pub first : (ys : List ℕ) → IsSolution clauses base ys → (xs ≡ ys) ⊎ IsLess xs ys
+
+-- ---- what is known of solutions
+
+-- what stands past the end of a list of domains
+abbrev pub nothing : Domain
+nothing = record { values = 0; why = record { words = [] } }
+
+-- the values of the subject's domain
+abbrev pub values_at : List Domain → ℕ → ℕ
+values_at domains d = (slice_index_or domains d nothing).values
+
+-- the reasons of the subject's domain
+abbrev pub why_at : List Domain → ℕ → SubjectSet
+why_at domains d = (slice_index_or domains d nothing).why
+
+-- the values of these subjects are those of the prefix
+abbrev pub Agrees : List ℕ → SubjectSet → List ℕ → Type 0
+Agrees prefix subjects xs = (d : ℕ) → is_in subjects d ≡ true → d < length prefix → slice_index xs d ≡ slice_index prefix d
+
+-- the values begin with the prefix
+abbrev pub Extends : List ℕ → List ℕ → Type 0
+Extends prefix xs = (d : ℕ) → d < length prefix → slice_index xs d ≡ slice_index prefix d
+
+-- each value is in its domain, if the values agree with the prefix on the subjects that are its reason
+abbrev pub Knows : List ℕ → List Domain → List ℕ → Type 0
+Knows prefix domains xs = (d : ℕ) → d < length domains → Agrees prefix (why_at domains d) xs → has (values_at domains d) (slice_index xs d) ≡ true
+
+-- no literal but the one at the place can be true
+abbrev pub OthersFalse : List Literal → List Domain → ℕ → Type 0
+OthersFalse literals domains k = (i : ℕ) (l : Literal) → i < length literals → i ≢ k → (v : ℕ)
+    → has (values_at domains (slice_index_or literals i l).subject) v ≡ true → has (slice_index_or literals i l).values v ≡ false
+
+-- the reasons of all literals but the one at the place
+abbrev pub HasReasons : List Literal → List Domain → ℕ → SubjectSet → Type 0
+HasReasons literals domains k reasons = (i : ℕ) (l : Literal) → i < length literals → i ≢ k → (d : ℕ)
+    → is_in (why_at domains (slice_index_or literals i l).subject) d ≡ true → is_in reasons d ≡ true
+
+-- what is known of values that meet the clause stays known
+abbrev pub Keeps : List Literal → List Domain → List Domain → Type 0
+Keeps literals old new = (prefix xs : List ℕ) → is_met xs literals ≡ true → Knows prefix old xs → Knows prefix new xs
+
+-- no values that meet the clause, and of which this is known, agree with the prefix on these subjects
+abbrev pub Refutes : List Literal → List Domain → SubjectSet → Type 0
+Refutes literals domains reasons = (prefix xs : List ℕ) → is_met xs literals ≡ true → Knows prefix domains xs → Agrees prefix reasons xs → ⊥
+
+-- the same of all clauses
+abbrev pub KeepsAll : List Clause → List Domain → List Domain → Type 0
+KeepsAll clauses old new = (prefix xs : List ℕ) → AllMet xs clauses → Knows prefix old xs → Knows prefix new xs
+
+-- the same of all clauses
+abbrev pub RefutesAll : List Clause → List Domain → SubjectSet → Type 0
+RefutesAll clauses domains reasons = (prefix xs : List ℕ) → AllMet xs clauses → Knows prefix domains xs → Agrees prefix reasons xs → ⊥
+
+-- what a visit says of a clause
+abbrev pub IsVisit : List Literal → List Domain → Visit → Type 0
+IsVisit literals domains Same = Unit {0}
+IsVisit literals domains (Narrowed subject) = Unit {0}
+IsVisit literals domains (Clash reasons) = Refutes literals domains reasons
+
+-- what every solution's values are known to be
+abbrev pub KnowsAll : List Clause → List ℕ → List ℕ → List Domain → Type 0
+KnowsAll clauses base prefix domains = (xs : List ℕ) → IsSolution clauses base xs → Knows prefix domains xs
+
+-- the first solution that extends the prefix
+pub record IsFirstFrom (clauses : List Clause) (base prefix xs : List ℕ) : Type 0 where
+  pub solution : IsSolution clauses base xs
+  pub extends : Extends prefix xs
+  pub first : (ys : List ℕ) → IsSolution clauses base ys → Extends prefix ys → (xs ≡ ys) ⊎ IsLess xs ys
+
+-- no solution has the prefix's values at these subjects
+abbrev pub IsClash : List Clause → List ℕ → List ℕ → SubjectSet → Type 0
+IsClash clauses base prefix subjects = (xs : List ℕ) → IsSolution clauses base xs → Agrees prefix subjects xs → ⊥
+
+-- the first solution that extends the prefix, or subjects that are to blame that there is none
+abbrev pub IsOutcome : List Clause → List ℕ → List ℕ → Outcome → Type 0
+IsOutcome clauses base prefix (outcome.Found xs) = IsFirstFrom clauses base prefix xs
+IsOutcome clauses base prefix (outcome.Clash subjects) = IsClash clauses base prefix subjects
+
+-- what was known is known of the values that have one value more
+abbrev pub Chooses : List Domain → ℕ → ℕ → List Domain → Type 0
+Chooses old subject value new = (prefix xs : List ℕ) → length prefix ≡ subject → Knows prefix old xs → Knows (prefix ++ value ∷ []) new xs
+
+-- the same of values that meet the clauses
+abbrev pub KeepsMore : List Clause → List Domain → ℕ → ℕ → List Domain → Type 0
+KeepsMore clauses old subject value new = (prefix xs : List ℕ) → length prefix ≡ subject → AllMet xs clauses → Knows prefix old xs → Knows (prefix ++ value ∷ []) new xs
+
+-- no values that meet the clauses, and of which this is known, agree with the prefix and the one value more on these subjects
+abbrev pub RefutesMore : List Clause → List Domain → ℕ → ℕ → SubjectSet → Type 0
+RefutesMore clauses old subject value reasons = (prefix xs : List ℕ) → length prefix ≡ subject → AllMet xs clauses → Knows prefix old xs → Agrees (prefix ++ value ∷ []) reasons xs → ⊥
+
+-- subjects that are to blame, if there are some
+abbrev pub IsClashOfAll : List Clause → List Domain → Option SubjectSet → Type 0
+IsClashOfAll clauses domains None = Unit {0}
+IsClashOfAll clauses domains (Some reasons) = RefutesAll clauses domains reasons
+
+-- the same after one value more
+abbrev pub IsClashOfMore : List Clause → List Domain → ℕ → ℕ → Option SubjectSet → Type 0
+IsClashOfMore clauses domains subject value None = Unit {0}
+IsClashOfMore clauses domains subject value (Some reasons) = RefutesMore clauses domains subject value reasons

@@ -1,0 +1,52 @@
+ghost use Rattle.std.specs.Prelude.{◌≡◌, ◌&&◌, ℕ, ◌<◌, ◌≤◌, nat_lt, length, slice_index, All, IfOk};
+ghost use Rattle.cca_base.specs.Sets.{has};
+ghost use Rattle.cca_base.specs.declared.limits.TheConstants.{MAX_CHOICES};
+ghost use Rattle.consistency.specs.Base.{allows, ArePairs, IsBase};
+
+use cca_base::{Pair, ValueSet};
+use std::alloc::{AllocError, Global};
+
+/// All values of each subject.
+fn whole_sets(alloc: Global, sizes: &[u8]) -> Result<Vec<ValueSet>, AllocError>
+    requires { All (λ n. n ≤ MAX_CHOICES) sizes.now }
+    ensures full { IfOk result (λ r. length r.items ≡ length sizes.now) }
+    ensures values { IfOk result (λ r. (d v : ℕ) → d < length sizes.now → has (slice_index r.items d) v ≡ nat_lt v (slice_index sizes.now d)) }
+{
+    let mut sets = Vec::new(alloc);
+    for size in sizes {
+        sets.push(ValueSet::full(*size))?;
+    }
+    Ok(sets)
+}
+
+/// Leaves the subject of each pair, counted from the first one's number, its value alone.
+fn restricted(sets: Vec<ValueSet>, first: usize, pairs: &[Pair]) -> Vec<ValueSet>
+    requires pairs { ArePairs (length sets.items) first pairs.now }
+    ensures full { length result.items ≡ length sets.items }
+    ensures values { (d v : ℕ) → d < length sets.items → has (slice_index result.items d) v ≡ (has (slice_index sets.items d) v && allows first pairs.now d v) }
+{
+    let mut left = sets;
+    for pair in pairs {
+        let subject = first + pair.item as usize;
+        left[subject] = left[subject].common(ValueSet::empty().with(pair.value));
+    }
+    left
+}
+
+/// The values that each subject may have, where components have these modes and variables these values.
+pub fn base_of(
+    alloc: Global,
+    sizes: &[u8],
+    components: usize,
+    modes: &[Pair],
+    seen: &[Pair],
+) -> Result<Vec<ValueSet>, AllocError>
+    requires few { All (λ n. n ≤ MAX_CHOICES) sizes.now }
+    requires modes { ArePairs (length sizes.now) 0 modes.now }
+    requires seen { ArePairs (length sizes.now) components seen.now }
+    ensures { IfOk result (λ r. IsBase sizes.now components modes.now seen.now r.items) }
+{
+    let sets = whole_sets(alloc, sizes)?;
+    let sets = restricted(sets, 0, modes);
+    Ok(restricted(sets, components, seen))
+}

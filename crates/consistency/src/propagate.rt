@@ -1,0 +1,128 @@
+ghost use Rattle.std.specs.Prelude.{◌<◌, length, IfOk, OnOk};
+ghost use Rattle.cca_base.specs.declared.limits.TheConstants.{MAX_CHOICES};
+ghost use Rattle.consistency.specs.Search.{AllBelow, KeepsAll, IsClashOfAll, Chooses, KeepsMore, IsClashOfMore};
+
+use crate::domain::Domain;
+use crate::problem::Problem;
+use crate::subjects::{SubjectSet, no_subject, with_subject};
+use crate::visit::{Visit, look_at};
+use cca_base::ValueSet;
+use clause_form::Clause;
+use std::alloc::{AllocError, Global};
+
+/// Looks at every clause, and notes which subjects have fewer values left. What comes is to blame for a clash.
+fn visit_all(
+    clauses: &[Clause],
+    domains: &mut [Domain],
+    changed: &mut Vec<u16>,
+) -> Result<Option<SubjectSet>, AllocError>
+    requires { AllBelow (length domains.old) clauses.now }
+    ensures keeps { OnOk result (KeepsAll clauses.now domains.old domains.new) }
+    ensures clash { IfOk result (IsClashOfAll clauses.now domains.old) }
+{
+    for clause in clauses {
+        match look_at(clause.literals.as_slice(), domains) {
+            Visit::Same => {}
+            Visit::Narrowed(subject) => changed.push(subject)?,
+            Visit::Clash(because) => return Ok(Some(because)),
+        }
+    }
+    Ok(None)
+}
+
+/// The same of the clauses at some places.
+fn visit_places(
+    clauses: &[Clause],
+    places: &[usize],
+    domains: &mut [Domain],
+    changed: &mut Vec<u16>,
+) -> Result<Option<SubjectSet>, AllocError>
+    requires { AllBelow (length domains.old) clauses.now }
+    ensures keeps { OnOk result (KeepsAll clauses.now domains.old domains.new) }
+    ensures clash { IfOk result (IsClashOfAll clauses.now domains.old) }
+{
+    for place in places {
+        if *place < clauses.len() {
+            match look_at(clauses[*place].literals.as_slice(), domains) {
+                Visit::Same => {}
+                Visit::Narrowed(subject) => changed.push(subject)?,
+                Visit::Clash(because) => return Ok(Some(because)),
+            }
+        }
+    }
+    Ok(None)
+}
+
+/// Looks at the clauses of what has changed, until nothing changes.
+fn settle(
+    problem: &Problem,
+    domains: &mut [Domain],
+    changed: &mut Vec<u16>,
+) -> Result<Option<SubjectSet>, AllocError>
+    requires { AllBelow (length domains.old) problem.now.clauses }
+    ensures keeps { OnOk result (KeepsAll problem.now.clauses domains.old domains.new) }
+    ensures clash { IfOk result (IsClashOfAll problem.now.clauses domains.old) }
+{
+    let clauses = problem.clauses.as_slice();
+    for _ in 0..u32::MAX {
+        let Some(subject) = changed.pop() else {
+            return Ok(None);
+        };
+        if let Some(places) = problem.places.get(subject as usize) {
+            if let Some(because) = visit_places(clauses, places.as_slice(), domains, changed)? {
+                return Ok(Some(because));
+            }
+        }
+    }
+    Ok(None)
+}
+
+/// Looks at every clause, and then at those of what has changed, until nothing changes.
+pub fn settle_all(
+    alloc: Global,
+    problem: &Problem,
+    domains: &mut [Domain],
+) -> Result<Option<SubjectSet>, AllocError>
+    requires { AllBelow (length domains.old) problem.now.clauses }
+    ensures keeps { OnOk result (KeepsAll problem.now.clauses domains.old domains.new) }
+    ensures clash { IfOk result (IsClashOfAll problem.now.clauses domains.old) }
+{
+    let mut changed = Vec::new(alloc);
+    match visit_all(problem.clauses.as_slice(), domains, &mut changed)? {
+        Some(because) => Ok(Some(because)),
+        None => settle(problem, domains, &mut changed),
+    }
+}
+
+/// Gives the subject the value, whose reason is the subject itself.
+fn choose(domains: &mut [Domain], subject: u16, value: u8)
+    requires subject { subject < length domains.old }
+    requires small { subject < 512 }
+    requires value { value < MAX_CHOICES }
+    ensures { Chooses domains.old subject value domains.new }
+{
+    let values = ValueSet::empty().with(value);
+    let why = with_subject(&no_subject(), subject);
+    domains[subject as usize] = Domain { values, why };
+}
+
+/// Gives the subject the value, and narrows the domains.
+pub fn extend(
+    alloc: Global,
+    problem: &Problem,
+    domains: &mut [Domain],
+    subject: u16,
+    value: u8,
+) -> Result<Option<SubjectSet>, AllocError>
+    requires within { AllBelow (length domains.old) problem.now.clauses }
+    requires subject { subject < length domains.old }
+    requires small { subject < 512 }
+    requires value { value < MAX_CHOICES }
+    ensures keeps { OnOk result (KeepsMore problem.now.clauses domains.old subject value domains.new) }
+    ensures clash { IfOk result (IsClashOfMore problem.now.clauses domains.old subject value) }
+{
+    choose(domains, subject, value);
+    let mut changed = Vec::new(alloc);
+    changed.push(subject)?;
+    settle(problem, domains, &mut changed)
+}
