@@ -17,7 +17,7 @@ use Rattle.cca_base.specs.Estimates.{Estimate}
 use Rattle.cca_base.specs.Orders.{IsSorted, numbers_below}
 use Rattle.cca_base.specs.Goals.{Good}
 use Rattle.cca_base.specs.Sets.{has}
-use Rattle.cca_base.specs.Trace.{Situation, start, MayBeGoal, Changes, Observed, IsReply, ShowsEstimate, command_of}
+use Rattle.cca_base.specs.Trace.{Situation, start, AllMayCome, MayBeGoal, Changes, Observed, IsReply, ShowsEstimate, command_of}
 use Rattle.cca_base.specs.Runs.{Moment, Ticks}
 use Rattle.cca_base.proofs.Members.{contains_none}
 use Rattle.cca_base.proofs.CubeLemmas.{IsCube-push}
@@ -217,3 +217,19 @@ pub reports_are_trace : ReportsAreTrace
 reports_are_trace m events good plain all =
     let made : Made m good plain (start m 0) (begin m) [] events = ticks_made m good plain (start m 0) (begin m) [] events (begins m good) all in
     record { ticks = made.ticks; made = made.made; reported = made.reported }
+
+-- such events may come one after the other
+pub events_may_come : (m : Automata) (x : Situation) (events : List Event) → All (IsPlainEvent m) events → AllMayCome m (IsSorted (numbers_below (length m.components))) x events
+events_may_come m x [] all = tt
+events_may_come m x (event.Tick ∷ events) all = events_may_come m (record x { pending = [] }) events (All-tail (IsPlainEvent m) event.Tick events all)
+events_may_come m x (event.Goal pairs ∷ events) all =
+    let may : MayBeGoal m pairs = All-head (IsPlainEvent m) (event.Goal pairs) events all in
+    let n : ℕ = length m.components in
+    let within : All (λ p. p.item < n) pairs = All-weaker (λ p. HasMode m p.item p.value) (λ p. p.item < n) (λ p k. mode_within m p.item p.value k) pairs may.modes in
+    let y : Situation = record x { goal = Some (in_order n pairs) } in
+    (may, y, (in_order n pairs, goals_are_sorted n pairs may.cube within, refl), events_may_come m y events (All-tail (IsPlainEvent m) (event.Goal pairs) events all))
+events_may_come m x (event.Clear ∷ events) all = absurd (All-head (IsPlainEvent m) event.Clear events all)
+events_may_come m x (event.Observe pairs ∷ events) all = absurd (All-head (IsPlainEvent m) (event.Observe pairs) events all)
+events_may_come m x (event.Fault p ∷ events) all = absurd (All-head (IsPlainEvent m) (event.Fault p) events all)
+events_may_come m x (event.Mirror v ∷ events) all = absurd (All-head (IsPlainEvent m) (event.Mirror v) events all)
+events_may_come m x (event.Reset ∷ events) all = absurd (All-head (IsPlainEvent m) event.Reset events all)

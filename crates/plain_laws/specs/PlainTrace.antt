@@ -4,7 +4,8 @@ use Rattle.cca_base.specs.declared.events.Event.{Event}
 use Rattle.cca_base.specs.declared.events.Event.TheVariants as event
 use Rattle.cca_base.specs.Automata.{Automata}
 use Rattle.cca_base.specs.Model.{WellFormed}
-use Rattle.cca_base.specs.Trace.{MayBeGoal}
+use Rattle.cca_base.specs.Trace.{MayBeGoal, AllMayCome, start}
+use Rattle.cca_base.specs.Orders.{IsSorted}
 use Rattle.cca_base.specs.Runs.{Trace}
 use Rattle.cca_base.specs.Goals.{Good}
 use Rattle.plain_laws.specs.Plain.{IsPlain, plainly_compiled}
@@ -24,3 +25,7 @@ IsPlainEvent m event.Reset = ⊥
 abbrev pub ReportsAreTrace : Type 0
 ReportsAreTrace = (m : Automata) (events : List Event) → WellFormed m → IsPlain m → All (IsPlainEvent m) events
     → Trace (plainly_compiled m) (Good m) events (reports_from m (begin m) events)
+
+-- such events may come one after the other, from the start on
+abbrev pub EventsMayCome : Type 0
+EventsMayCome = (m : Automata) (events : List Event) → All (IsPlainEvent m) events → AllMayCome m (IsSorted (plainly_compiled m).order) (start m 0) events

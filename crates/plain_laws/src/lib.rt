@@ -4,7 +4,7 @@
 
 ghost use Rattle.plain_laws.specs.Plain.{RepliesAreGood, PlainIsCompiled};
 ghost use Rattle.plain_laws.specs.PlainTicks.{NominalIsEstimate, RepliesAreObeyed, GoalsAreSorted};
-ghost use Rattle.plain_laws.specs.PlainTrace.{ReportsAreTrace};
+ghost use Rattle.plain_laws.specs.PlainTrace.{EventsMayCome, ReportsAreTrace};
 
 /// In a plain model each reply of the plain planner is good.
 pub fn replies_are_good()
@@ -23,7 +23,8 @@ pub fn plain_ticks()
     ensures sorted { GoalsAreSorted }
 {}
 
-/// The plain executive's reports are the trace of its events, with good replies.
+/// The plain executive's reports are the trace of its events, with good replies; its events may come.
 pub fn reports_are_trace()
-    ensures { ReportsAreTrace }
+    ensures trace { ReportsAreTrace }
+    ensures come { EventsMayCome }
 {}

@@ -1,13 +1,14 @@
 -- What is read is a model of the first forms, and events that it may have.
-use Rattle.std.proofs.Common.{◌≡◌, ℕ, ◌+◌, ◌<◌, true, false, ◌==◌, List, [], ◌∷◌, length, Option, Some, None, Result, Ok, Err, All, refl, sym, ap, subst, arith}
-use Rattle.std.specs.Prelude.{not, nat_lt}
+use Rattle.std.proofs.Common.{inl, inr, ◌≡◌, ℕ, ◌+◌, ◌<◌, true, false, ◌==◌, List, [], ◌∷◌, inl, inr, length, Option, Some, None, Result, Ok, Err, All, refl, sym, ap, subst, arith}
+use Rattle.std.specs.Prelude.{not}
 use Rattle.std.specs.Str.{bytes_eq}
-use Rattle.std.proofs.lemmas.Bool.{and_parts, or_parts, cond_both, not-true, eqb-false}
+use Rattle.std.proofs.lemmas.Bool.{and_parts, or_parts, not-true, eqb-false}
 use Rattle.std.proofs.lemmas.List.Elements.{All-nil, All-cons, All-weaker}
 use Rattle.std.proofs.lemmas.List.Kept.{AllPairs-cons}
 use Rattle.std.proofs.lemmas.List.Quantifiers.{position-Some}
 use Rattle.cca_base.specs.declared.cube.Pair.{Pair}
 use Rattle.cca_base.specs.declared.events.Event.{Event}
+use Rattle.cca_base.specs.declared.events.Refusal.{Refusal}
 use Rattle.cca_base.specs.declared.events.Event.TheVariants as event
 use Rattle.cca_base.specs.Automata.{Automata}
 use Rattle.cca_base.specs.Names.{is_name}
@@ -19,15 +20,14 @@ use Rattle.plain_laws.specs.PlainTrace.{IsPlainEvent}
 use Rattle.titan_top.specs.declared.reader.LineEnd.{LineEnd}
 use Rattle.titan_top.specs.declared.reader.LineEnd.TheVariants as line
 use Rattle.titan_top.specs.declared.reader.ModelReader.{ModelReader}
-use Rattle.titan_top.specs.declared.input.TheConstants.{MAX_INPUT}
-use Rattle.titan_top.specs.declared.stops.TheConstants.{MALFORMED, NAME_UNKNOWN, ENDS_EARLY, UNSUPPORTED}
+use Rattle.titan_top.specs.declared.stops.TheConstants.{MALFORMED, NAME_UNKNOWN, UNSUPPORTED}
 use Rattle.titan_top.specs.Draft.{IsRead}
 use Rattle.titan_top.specs.Items.{Item, Header, Component, Move, Script, Goal, Tick, Unbuilt, NamedPair, item_of, ◌>>=◌}
 use Rattle.titan_top.specs.Lookup.{place_of, component_number, mode_number}
 use Rattle.titan_top.specs.ModelLines.{start_mode, takes_component, new_component, component_from, component_item, has_room_for_move, move_between, plain_move, with_named, ends_of, is_true, move_from, move_item, goes_on, later_item, first_item, model_item, model_line}
 use Rattle.titan_top.specs.EventLines.{pair_of, pairs_of, is_named_again, no_component_twice, goal_from, event_item, event_line}
 use Rattle.titan_top.specs.Lines.{lines_of}
-use Rattle.titan_top.specs.Reading.{Reading, refused_at, after_event_line, script_lines, after_model_line, model_lines, nothing_read, reading_of}
+use Rattle.titan_top.specs.Reading.{Reading, bare, refused_at, after_event_line, script_lines, ModelEnd, Scripted, Stopped, After, ReadsModel, nothing_read, EndsModel, run_reading, IsReading}
 use Rattle.titan_top.proofs.ListGrammar.{cond_either, cond_some, some_is, bind_some}
 use Rattle.titan_top.proofs.Grammar.{item_written}
 use Rattle.titan_top.proofs.LineLemmas.{ok_is, err_ok, IsSaid, Nothing, ByItem, line_said}
@@ -189,8 +189,8 @@ pub record IsGoodReading (r : Reading) : Type 0 where
   pub read : IsRead r.model
   pub events : All (IsPlainEvent r.model) r.events
 
-refused_good : (m : Automata) (n code : ℕ) → IsRead m → IsGoodReading (refused_at m n code)
-refused_good m n code r = record { read = r; events = All-nil (IsPlainEvent m) }
+refused_good : (m : Automata) (n : ℕ) (refusal : Refusal) → IsRead m → IsGoodReading (refused_at m n refusal)
+refused_good m n refusal r = record { read = r; events = All-nil (IsPlainEvent m) }
 
 -- the script is of the model that was read
 pub script_model : (m : Automata) (n : ℕ) (ls : List (List ℕ)) → (script_lines m n ls).model ≡ m
@@ -218,25 +218,32 @@ script_good m n ls r =
     let same : m ≡ (script_lines m n ls).model = sym (script_model m n ls) in
     record { read = subst IsRead same r; events = subst (λ (x : Automata). All (IsPlainEvent x) (script_lines m n ls).events) same (script_events m n ls r) }
 
-step_good : (m : Automata) (n : ℕ) (v : Result (ModelReader × LineEnd) ℕ) (on : ModelReader → Reading) (script : Automata → Reading) → IsRead m
-    → ((q : ModelReader) (end : LineEnd) → v ≡ Ok (q, end) → IsRead q.model) → ((q : ModelReader) → IsRead q.model → IsGoodReading (on q)) → ((x : Automata) → IsRead x → IsGoodReading (script x))
-    → IsGoodReading (after_model_line v m n on script)
-step_good m n (Err code) on script r read goes begins = refused_good m n code r
-step_good m n (Ok (q, line.Going)) on script r read goes begins = goes q (read q line.Going refl)
-step_good m n (Ok (q, line.Script)) on script r read goes begins = begins q.model (read q line.Script refl)
+-- the model is one of the first forms
+abbrev IsReadEnd : ModelEnd → Type 0
+IsReadEnd (Scripted m n ls) = IsRead m
+IsReadEnd (Stopped m line refusal) = IsRead m
 
-model_good : (p : ModelReader) (n : ℕ) (ls : List (List ℕ)) → IsRead p.model → IsGoodReading (model_lines p n ls)
-unfolding model_lines
-model_good p n [] r = refused_good p.model n ENDS_EARLY r
-model_good p n (l ∷ ls) r =
-    step_good p.model (n + 1) (model_line p l) (λ q. model_lines q (n + 1) ls) (λ m. script_lines m (n + 1) ls) r
-    (λ q end e. model_line_read p q end l r e) (λ q k. model_good q (n + 1) ls k) (λ m k. script_good m (n + 1) ls k)
+step_read : (p : ModelReader) (n : ℕ) (l : List ℕ) (ls : List (List ℕ)) (said : Result (ModelReader × LineEnd) ℕ) (end : ModelEnd) → IsRead p.model → said ≡ model_line p l
+    → ((q : ModelReader) → IsRead q.model → ReadsModel q (n + 1) ls end → IsReadEnd end)
+    → After said (λ q. ReadsModel q (n + 1) ls end) (λ m. end ≡ Scripted m (n + 1) ls) (λ code. end ≡ Stopped p.model (n + 1) (bare code)) → IsReadEnd end
+step_read p n l ls (Err code) end r e on h = subst IsReadEnd (sym h) r
+step_read p n l ls (Ok (q, line.Going)) end r e on h = on q (model_line_read p q line.Going l r (sym e)) h
+step_read p n l ls (Ok (q, line.Script)) end r e on h = subst IsReadEnd (sym h) (model_line_read p q line.Script l r (sym e))
+
+end_read : (p : ModelReader) (n : ℕ) (ls : List (List ℕ)) (end : ModelEnd) → IsRead p.model → ReadsModel p n ls end → IsReadEnd end
+end_read p n [] end r h = subst IsReadEnd (sym h) r
+end_read p n (l ∷ ls) end r (said, e, h) = step_read p n l ls said end r e (λ q k. end_read q (n + 1) ls end k) h
 
 empty_read : IsRead empty_model
 empty_read = record { well_formed = empty_well_formed; draft = empty_draft }
 
-pub reading_good : (input : List ℕ) → IsGoodReading (reading_of input)
-unfolding reading_of
-reading_good input =
-    cond_both (nat_lt MAX_INPUT (length input)) (refused_at empty_model 0 UNSUPPORTED) (model_lines nothing_read 0 (lines_of input)) IsGoodReading
-    (λ long. refused_good empty_model 0 UNSUPPORTED empty_read) (λ short. model_good nothing_read 0 (lines_of input) empty_read)
+model_end_read : (input : List ℕ) (end : ModelEnd) → EndsModel input end → IsReadEnd end
+model_end_read input end (inl (long, e)) = subst IsReadEnd (sym e) empty_read
+model_end_read input end (inr (short, h)) = end_read nothing_read 0 (lines_of input) end empty_read h
+
+run_good : (end : ModelEnd) → IsReadEnd end → IsGoodReading (run_reading end)
+run_good (Scripted m n ls) r = script_good m n ls r
+run_good (Stopped m line refusal) r = refused_good m line refusal r
+
+pub reading_good : (input : List ℕ) (r : Reading) → IsReading input r → IsGoodReading r
+reading_good input r (end, ends, e) = subst IsGoodReading (sym e) (run_good end (model_end_read input end ends))

@@ -14,8 +14,8 @@ use Rattle.cca_base.specs.declared.events.TickReport.{TickReport}
 use Rattle.cca_base.specs.Automata.{Automata}
 use Rattle.plain_laws.specs.Executive.{Standing, after_event, reports_at, reports_from}
 use Rattle.titan_top.specs.EventLines.{event_line}
-use Rattle.titan_top.specs.Reading.{Reading, with_event, after_event_line, script_lines}
-use Rattle.titan_top.specs.ReportLine.{report_line, trace_text}
+use Rattle.titan_top.specs.Reading.{Reading, bare, with_event, after_event_line, script_lines}
+use Rattle.trace_text.specs.Reports.{report_line, reports_text}
 use Rattle.titan_top.specs.Standing.{acted, line_acted}
 use Rattle.titan_top.specs.Stops.{StopsAs, refusal_code, stop_code}
 use Rattle.titan_top.specs.Text.{Outcome, with_text, ending, printed_from, refusal}
@@ -93,23 +93,23 @@ abbrev pub left_of : Automata → Standing → ℕ → List ℕ → Outcome
 left_of m x n rest = printed_from m x (script_lines m n (lines_of rest))
 
 -- the lines of two lists of reports
-trace_joined : (m : Automata) (before after : List TickReport) → trace_text m (before ++ after) ≡ trace_text m before ++ trace_text m after
+trace_joined : (m : Automata) (before after : List TickReport) → reports_text m (before ++ after) ≡ reports_text m before ++ reports_text m after
 trace_joined m before after = flat_map-append (report_line m) before after
 
 -- the reports of an event come before those of the later ones
-event_first : (m : Automata) (x : Standing) (e : Event) (r : Reading) → printed_from m x (with_event e r) ≡ with_text (trace_text m (reports_at m x e)) (printed_from m (after_event m x e) r)
+event_first : (m : Automata) (x : Standing) (e : Event) (r : Reading) → printed_from m x (with_event e r) ≡ with_text (reports_text m (reports_at m x e)) (printed_from m (after_event m x e) r)
 unfolding printed_from
 event_first m x e r =
-    let first : List ℕ = trace_text m (reports_at m x e) in
-    let rest : List ℕ = trace_text m (reports_from m (after_event m x e) r.events) in
-    ap (λ (l : List ℕ). with_text l (ending r.ending)) (trace_joined m (reports_at m x e) (reports_from m (after_event m x e) r.events))
-    ∙ ap (λ (l : List ℕ). record { text = l; status = (ending r.ending).status }) (append_assoc first rest (ending r.ending).text)
+    let first : List ℕ = reports_text m (reports_at m x e) in
+    let rest : List ℕ = reports_text m (reports_from m (after_event m x e) r.events) in
+    ap (λ (l : List ℕ). with_text l (ending m r.ending)) (trace_joined m (reports_at m x e) (reports_from m (after_event m x e) r.events))
+    ∙ ap (λ (l : List ℕ). record { text = l; status = (ending m r.ending).status }) (append_assoc first rest (ending m r.ending).text)
 
 by_event : (m : Automata) (x y : Standing) (n : ℕ) (v : Result (Option Event) ℕ) (text : List ℕ) (r : Reading) → acted m x v ≡ Ok (y, text) → printed_from m x (after_event_line v m n r) ≡ with_text text (printed_from m y r)
 by_event m x y n (Err code) text r e = absurd cc
 by_event m x y n (Ok None) text r e = ap (λ (p : Standing × List ℕ). with_text p.1 (printed_from m p.0 r)) (ok_is (x, []) (y, text) e)
 by_event m x y n (Ok (Some v)) text r e =
-    event_first m x v r ∙ ap (λ (p : Standing × List ℕ). with_text p.1 (printed_from m p.0 r)) (ok_is (after_event m x v, trace_text m (reports_at m x v)) (y, text) e)
+    event_first m x v r ∙ ap (λ (p : Standing × List ℕ). with_text p.1 (printed_from m p.0 r)) (ok_is (after_event m x v, reports_text m (reports_at m x v)) (y, text) e)
 
 pub next_line : (m : Automata) (x y : Standing) (n : ℕ) (rest line after text : List ℕ) → lines_of rest ≡ line ∷ lines_of after → line_acted m x line ≡ Ok (y, text) → left_of m x n rest ≡ with_text text (left_of m y (n + 1) after)
 unfolding script_lines
@@ -120,13 +120,13 @@ abbrev code_or : Option ℕ → ℕ
 code_or None = 0
 code_or (Some code) = code
 
-by_refusal : (m : Automata) (x : Standing) (n code : ℕ) (v : Result (Option Event) ℕ) (r : Reading) → refusal_code (acted m x v) ≡ Some code → printed_from m x (after_event_line v m n r) ≡ refusal n code
+by_refusal : (m : Automata) (x : Standing) (n code : ℕ) (v : Result (Option Event) ℕ) (r : Reading) → refusal_code (acted m x v) ≡ Some code → printed_from m x (after_event_line v m n r) ≡ refusal m n (bare code)
 unfolding printed_from
-by_refusal m x n code (Err other) r e = ap (λ (o : Option ℕ). refusal n (code_or o)) e
+by_refusal m x n code (Err other) r e = ap (λ (o : Option ℕ). refusal m n (bare (code_or o))) e
 by_refusal m x n code (Ok None) r e = absurd cc
 by_refusal m x n code (Ok (Some v)) r e = absurd cc
 
-pub refused_line : (m : Automata) (x : Standing) (n code : ℕ) (rest line after : List ℕ) → lines_of rest ≡ line ∷ lines_of after → refusal_code (line_acted m x line) ≡ Some code → left_of m x n rest ≡ refusal (n + 1) code
+pub refused_line : (m : Automata) (x : Standing) (n code : ℕ) (rest line after : List ℕ) → lines_of rest ≡ line ∷ lines_of after → refusal_code (line_acted m x line) ≡ Some code → left_of m x n rest ≡ refusal m (n + 1) (bare code)
 unfolding script_lines
 refused_line m x n code rest line after e f =
     ap (λ ls. printed_from m x (script_lines m n ls)) e ∙ by_refusal m x (n + 1) code (event_line m line) (script_lines m (n + 1) (lines_of after)) f
@@ -194,14 +194,14 @@ module _ {m : Automata} {x : Standing} {n : ℕ} {rest : List ℕ} {old now : Op
     turn_room h = room_piece old now first space text (left_of m y (n + 1) after) total h moved
 
   module _ (line after : List ℕ) (code : ℕ) (e : lines_of rest ≡ line ∷ lines_of after) (f : refusal_code (line_acted m x line) ≡ Some code) where
-    refused : IsSending old now first space (refusal (n + 1) code) total
+    refused : IsSending old now first space (refusal m (n + 1) (bare code)) total
     refused = on_left old now first space _ _ total (refused_line m x n code rest line after e f) s.so_far
 
-    pub turn_refused : (t : Status) (new : Option (List ℕ)) → Answers t now new (refusal (n + 1) code) → Answers t old new total
-    turn_refused t new a = answers_all t old now new first space (refusal (n + 1) code) total refused a
+    pub turn_refused : (t : Status) (new : Option (List ℕ)) → Answers t now new (refusal m (n + 1) (bare code)) → Answers t old new total
+    turn_refused t new a = answers_all t old now new first space (refusal m (n + 1) (bare code)) total refused a
 
-    pub refused_room : HasRoom first (length total.text) → HasRoom space (length (refusal (n + 1) code).text)
-    refused_room h = room_left old now first space (refusal (n + 1) code) total h refused
+    pub refused_room : HasRoom first (length total.text) → HasRoom space (length (refusal m (n + 1) (bare code)).text)
+    refused_room h = room_left old now first space (refusal m (n + 1) (bare code)) total h refused
 
   module _ (e : length rest ≡ 0) where
     ended : IsSending old now first space nothing_left total

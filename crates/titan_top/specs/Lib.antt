@@ -7,8 +7,8 @@ pub mod LineForms
 pub mod Lines
 pub mod Lookup
 pub mod ModelLines
+pub mod ModelOutcomes
 pub mod Reading
-pub mod ReportLine
 pub mod Standing
 pub mod Statuses
 pub mod Stops

@@ -7,7 +7,7 @@ use Rattle.cca_base.specs.State.{IsState}
 use Rattle.cca_base.specs.declared.events.Event.{Event}
 use Rattle.plain_laws.specs.Executive.{Standing, after_event, reports_at}
 use Rattle.titan_top.specs.EventLines.{event_line}
-use Rattle.titan_top.specs.ReportLine.{trace_text}
+use Rattle.trace_text.specs.Reports.{reports_text}
 use Rattle.titan_top.specs.declared.executive.Executive.{Executive}
 
 -- what the code keeps, in the words of the definitions
@@ -23,7 +23,7 @@ pub record IsStanding (m : Automata) (x : Standing) : Type 0 where
 abbrev pub acted : Automata → Standing → Result (Option Event) ℕ → Result (Standing × List ℕ) ℕ
 acted m x (Err code) = Err code
 acted m x (Ok None) = Ok (x, [])
-acted m x (Ok (Some e)) = Ok (after_event m x e, trace_text m (reports_at m x e))
+acted m x (Ok (Some e)) = Ok (after_event m x e, reports_text m (reports_at m x e))
 
 -- where a line of the script leads, and what is printed of it
 abbrev pub line_acted : Automata → Standing → List ℕ → Result (Standing × List ℕ) ℕ

@@ -13,7 +13,6 @@ mod moves;
 mod names;
 mod output;
 mod planner;
-mod print;
 mod reader;
 mod status;
 mod stops;

@@ -4,22 +4,23 @@ ghost use Rattle.plain_laws.specs.Executive.{begin};
 ghost use Rattle.titan_top.specs.Draft.{IsRead};
 ghost use Rattle.titan_top.specs.Halts.{HaltsAs, halted_at};
 ghost use Rattle.titan_top.specs.Lines.{lines_of};
-ghost use Rattle.titan_top.specs.Reading.{nothing_read, model_lines, script_lines};
+ghost use Rattle.titan_top.specs.Reading.{ReadsModel, Scripted, bare, nothing_read, script_lines};
+ghost use Rattle.titan_top.specs.ModelOutcomes.{IsModelOutcome};
 ghost use Rattle.titan_top.specs.Standing.{standing, IsStanding, line_acted};
 ghost use Rattle.titan_top.specs.Stops.{AnswersAs, StopsAs};
-ghost use Rattle.titan_top.specs.Text.{refusal, printed, printed_from, IsCut};
-ghost use Rattle.titan_top.specs.Wire.{Answers};
+ghost use Rattle.titan_top.specs.Text.{refusal, printed_from, IsCut};
+ghost use Rattle.titan_top.specs.Wire.{Answers, AnswersAs as WritesAs, IsRoomFor, SentOrKnown};
 
 use crate::events::read_event;
 use crate::executive::{Executive, begin, event};
 use crate::lines::split_line;
-use crate::print::{refusal_line, report_line};
 use crate::reader::{LineEnd, ModelReader, open, read_line};
 use crate::status::Status;
-use crate::stops::{ENDS_EARLY, stop_code};
-use cca_base::{Model, Stop};
+use crate::stops::{ENDS_EARLY, bare, stop_code};
+use cca_base::{List, Model, Stop};
 use std::alloc::Global;
 use titan_wire::{PutEnd, Sink, put_all};
+use trace_text::{line_of, refusal_line};
 
 /// Why a model was not read.
 #[derive(Clone, Copy, Debug, PartialEq, Eq)]
@@ -44,17 +45,19 @@ pub fn send<K: Sink>(sink: &mut K, text: &[u8], status: Status) -> Status
     }
 }
 
-/// Ends the program with the refusal of a line.
-pub fn refuse<K: Sink>(alloc: Global, sink: &mut K, line: u64, code: u8) -> Status
-    requires { HasRoom (K.space sink.old) (length (refusal line code).text) }
-    ensures sent { Answers result (K.written sink.old) (K.written sink.new) (refusal line code) }
+/// Ends the program with the refusal of a line, by a code alone.
+pub fn refuse<K: Sink>(alloc: Global, sink: &mut K, model: &Model, line: u64, code: u8) -> Status
+    requires { HasRoom (K.space sink.old) (length (refusal model.now line (bare code)).text) }
+    ensures sent { Answers result (K.written sink.old) (K.written sink.new) (refusal model.now line (bare code)) }
     ensures later { K.faults sink.old ≤ K.faults sink.new }
     ensures fault { result ≡ Status.WriteFault → Rose (K.faults sink.old) (K.faults sink.new) }
     ensures not_read { result ≢ Status.ReadFault }
     ensures not_usage { result ≢ Status.Usage }
+    ensures not_rejected { result ≢ Status.Rejected }
+    ensures not_ended { result ≢ Status.Ended }
 {
-    match refusal_line(alloc, line, code) {
-        Ok(text) => send(sink, &text, Status::Refused),
+    match refusal_line(alloc, model, line, &bare(code)) {
+        Ok(text) => send(sink, text.as_slice(), Status::Refused),
         Err(_) => Status::Memory,
     }
 }
@@ -79,10 +82,10 @@ fn read_model<'a>(
     input: &'a [u8],
 ) -> Result<(u64, &'a [u8]), Halt>
     requires read { IsRead reader.old.model }
-    ensures script { IfOk result (λ r. model_lines reader.old 0 (lines_of input.now) ≡ script_lines reader.new.model r.0 (lines_of r.1.now)) }
+    ensures script { IfOk result (λ r. ReadsModel reader.old 0 (lines_of input.now) (Scripted reader.new.model r.0 (lines_of r.1.now))) }
     ensures lines { IfOk result (λ r. r.0 + length r.1.now ≤ length input.now) }
     ensures read { OnOk result (IsRead reader.new.model) }
-    ensures halt { IfErr result (λ halt. HaltsAs halt (model_lines reader.old 0 (lines_of input.now))) }
+    ensures halt { IfErr result (λ halt. HaltsAs halt reader.old 0 (lines_of input.now)) }
 {
     let mut lines: u64 = 0;
     let mut rest = input;
@@ -108,23 +111,23 @@ fn act(
     model: &Model,
     executive: &mut Executive,
     line: &[u8],
-) -> Result<Vec<u8>, Stop>
+) -> Result<List<u8>, Stop>
     requires read { IsRead model.now }
     requires stands { IsStanding model.now (standing executive.old) }
     requires room { executive.old.ticks + 1 < 2 ^ 64 }
-    ensures acts { AnswersAs (λ text. (standing executive.new, text.items)) result (line_acted model.now (standing executive.old) line.now) }
+    ensures acts { AnswersAs (λ text. (standing executive.new, text)) result (line_acted model.now (standing executive.old) line.now) }
     ensures stands { OnOk result (IsStanding model.now (standing executive.new)) }
     ensures ticks { OnOk result (executive.new.ticks ≤ executive.old.ticks + 1) }
 {
     let Some(said) = read_event(alloc, model, line)? else {
-        return Ok(Vec::new(alloc));
+        return Ok(List::new(alloc));
     };
     match event(alloc, model, executive, &said)? {
         Some(report) => {
-            let text = report_line(alloc, model, &report)?;
+            let text = line_of(alloc, model, &report)?;
             Ok(text)
         }
-        None => Ok(Vec::new(alloc)),
+        None => Ok(List::new(alloc)),
     }
 }
 
@@ -144,6 +147,7 @@ fn run_script<K: Sink>(
     ensures fault { result ≡ Status.WriteFault → Rose (K.faults sink.old) (K.faults sink.new) }
     ensures not_read { result ≢ Status.ReadFault }
     ensures not_usage { result ≢ Status.Usage }
+    ensures not_rejected { result ≢ Status.Rejected }
 {
     let mut executive = match begin(alloc, model) {
         Ok(executive) => executive,
@@ -161,10 +165,10 @@ fn run_script<K: Sink>(
                 let Some(code) = stop_code(&stop) else {
                     return Status::Memory;
                 };
-                return refuse(alloc, sink, lines, code);
+                return refuse(alloc, sink, model, lines, code);
             }
         };
-        match put_all(sink, &text) {
+        match put_all(sink, text.as_slice()) {
             PutEnd::Done => {}
             PutEnd::WriteFault { .. } => return Status::WriteFault,
         }
@@ -174,17 +178,19 @@ fn run_script<K: Sink>(
 
 /// Prints all that the input leads to.
 pub fn print_all<K: Sink>(alloc: Global, sink: &mut K, input: &[u8]) -> Status
-    requires { HasRoom (K.space sink.old) (length (printed (model_lines nothing_read 0 (lines_of input.now))).text) }
-    ensures sent { Answers result (K.written sink.old) (K.written sink.new) (printed (model_lines nothing_read 0 (lines_of input.now))) }
+    requires { IsRoomFor (K.space sink.old) (IsModelOutcome (lines_of input.now)) }
+    ensures sent { WritesAs result (K.written sink.old) (K.written sink.new) (IsModelOutcome (lines_of input.now)) }
+    ensures known { SentOrKnown result (K.written sink.old) (K.written sink.new) (IsModelOutcome (lines_of input.now)) }
     ensures later { K.faults sink.old ≤ K.faults sink.new }
     ensures fault { result ≡ Status.WriteFault → Rose (K.faults sink.old) (K.faults sink.new) }
     ensures not_read { result ≢ Status.ReadFault }
     ensures not_usage { result ≢ Status.Usage }
+    ensures not_rejected { result ≢ Status.Rejected }
 {
     let mut reader = open(alloc);
     match read_model(alloc, &mut reader, input) {
         Ok((lines, script)) => run_script(alloc, sink, &reader.model, lines, script),
-        Err(Halt::Refused { line, code }) => refuse(alloc, sink, line, code),
+        Err(Halt::Refused { line, code }) => refuse(alloc, sink, &reader.model, line, code),
         Err(Halt::Memory) => Status::Memory,
     }
 }

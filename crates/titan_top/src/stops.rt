@@ -1,4 +1,5 @@
 ghost use Rattle.std.specs.Prelude.{◌≡◌, Some};
+ghost use Rattle.titan_top.specs.Reading.{bare};
 ghost use Rattle.titan_top.specs.Stops.{StopsAs, stop_code};
 
 use cca_base::{Detail, Refusal, Stop};
@@ -15,14 +16,21 @@ pub const ENDS_EARLY: u8 = 17;
 /// A line is not taken yet.
 pub const UNSUPPORTED: u8 = 20;
 
+/// A refusal by a code alone.
+pub fn bare(code: u8) -> Refusal
+    ensures { result ≡ bare code }
+{
+    Refusal {
+        code,
+        detail: Detail::Nothing,
+    }
+}
+
 /// The refusal of a line with this code.
 pub fn refused(code: u8) -> Stop
     ensures { StopsAs result (Some code) }
 {
-    Stop::Refused(Refusal {
-        code,
-        detail: Detail::Nothing,
-    })
+    Stop::Refused(bare(code))
 }
 
 /// The code of a refusal.

@@ -1,10 +1,13 @@
-ghost use Rattle.std.specs.Prelude.{◌≡◌, ◌≢◌, ◌⊎◌, ℕ, IfSome, Some};
+ghost use Rattle.std.specs.Prelude.{◌≡◌, ◌≢◌, ◌⊎◌, ◌≤◌, ℕ, IfSome, Some, List, length};
+ghost use Rattle.cca_base.specs.Model.{empty_model};
+ghost use Rattle.titan_top.specs.declared.stops.TheConstants.{UNSUPPORTED};
 ghost use Rattle.std.specs.Io.KnownBytes.{IsAtEnd};
-ghost use Rattle.titan_wire.specs.Wire.{Rose};
+ghost use Rattle.titan_wire.specs.Wire.{Rose, HasRoom};
 ghost use Rattle.titan_top.specs.Answered.{IsTraceOf};
-ghost use Rattle.titan_top.specs.Reading.{Whole, RefusedAt, reading_of};
-ghost use Rattle.titan_top.specs.Text.{run_outcome, usage, AreNoForm, whole_outcome};
-ghost use Rattle.titan_top.specs.Wire.{HasRoomFor, Answers};
+ghost use Rattle.titan_top.specs.Reading.{Reading, IsReading, AllTaken, RefusedAt, bare};
+ghost use Rattle.cca_base.specs.declared.events.Refusal.{Refusal};
+ghost use Rattle.titan_top.specs.Text.{Outcome, refusal, IsRunOutcome, IsOutcome, usage, AreNoForm};
+ghost use Rattle.titan_top.specs.Wire.{HasRoomFor, Answers, AnswersAs};
 ghost use Rattle.titan_top.specs.Words.{form_of, texts};
 
 use crate::input::{MAX_INPUT, ReadStop, read_whole};
@@ -12,20 +15,37 @@ use crate::output::{print_all, refuse, send};
 use crate::status::Status;
 use crate::stops::UNSUPPORTED;
 use crate::words::{Form, form_of};
+use cca_base::Model;
 use std::alloc::Global;
 use titan_wire::{Sink, Source};
 
+/// Ends the program with the refusal of an input that is too long.
+fn refuse_long<K: Sink>(alloc: Global, sink: &mut K) -> Status
+    requires { HasRoom (K.space sink.old) (length (refusal empty_model 0 (bare UNSUPPORTED)).text) }
+    ensures sent { Answers result (K.written sink.old) (K.written sink.new) (refusal empty_model 0 (bare UNSUPPORTED)) }
+    ensures later { K.faults sink.old ≤ K.faults sink.new }
+    ensures fault { result ≡ Status.WriteFault → Rose (K.faults sink.old) (K.faults sink.new) }
+    ensures not_read { result ≢ Status.ReadFault }
+    ensures not_usage { result ≢ Status.Usage }
+    ensures not_rejected { result ≢ Status.Rejected }
+    ensures not_ended { result ≢ Status.Ended }
+{
+    let model = Model::empty(alloc);
+    refuse(alloc, sink, &model, 0, UNSUPPORTED)
+}
+
 /// Reads an input, and prints all that it leads to.
-#[tactic(auto, using(crate::proofs::TopLemmas::short_text, crate::proofs::TopLemmas::long_text, crate::proofs::TopLemmas::cut_text, crate::proofs::TopLemmas::short_room, crate::proofs::TopLemmas::long_room, crate::proofs::TopLemmas::run_ended, crate::proofs::TopLemmas::run_refused))]
 fn run<S: Source, K: Sink>(alloc: Global, source: &mut S, sink: &mut K) -> Status
-    requires { HasRoomFor (K.space sink.old) (S.left source.old) run_outcome }
-    ensures text { IfSome (S.left source.old) (λ input. Answers result (K.written sink.old) (K.written sink.new) (run_outcome input)) }
+    requires { HasRoomFor (K.space sink.old) (S.left source.old) IsRunOutcome }
+    ensures text { IfSome (S.left source.old) (λ input. AnswersAs result (K.written sink.old) (K.written sink.new) (IsRunOutcome input)) }
     ensures read { result ≡ Status.ReadFault → Rose (S.faults source.old) (S.faults source.new) }
     ensures write { result ≡ Status.WriteFault → Rose (K.faults sink.old) (K.faults sink.new) }
+    ensures some_input { (input : List ℕ) × (o : Outcome) × IsRunOutcome input o × Answers result (K.written sink.old) (K.written sink.new) o }
     ensures usage { result ≢ Status.Usage }
+    ensures not_rejected { result ≢ Status.Rejected }
     ensures whole { result ≡ Status.Ended → IsAtEnd (S.left source.new) }
-    ensures ended { result ≡ Status.Ended → IfSome (S.left source.old) (λ input. (reading_of input).ending ≡ Whole) }
-    ensures refused { result ≡ Status.Refused → IfSome (S.left source.old) (λ input. (line : ℕ) × (code : ℕ) × ((reading_of input).ending ≡ RefusedAt line code)) }
+    ensures ended { result ≡ Status.Ended → IfSome (S.left source.old) (λ input. (r : Reading) × IsReading input r × (r.ending ≡ AllTaken)) }
+    ensures refused { result ≡ Status.Refused → IfSome (S.left source.old) (λ input. (r : Reading) × IsReading input r × ((line : ℕ) × (refusal : Refusal) × (r.ending ≡ RefusedAt line refusal))) }
 {
     let input = match read_whole(alloc, source) {
         Ok(input) => input,
@@ -33,33 +53,36 @@ fn run<S: Source, K: Sink>(alloc: Global, source: &mut S, sink: &mut K) -> Statu
         Err(ReadStop::Memory) => return Status::Memory,
     };
     if input.len() > MAX_INPUT {
-        return refuse(alloc, sink, 0, UNSUPPORTED);
+        return refuse_long(alloc, sink);
     }
     print_all(alloc, sink, &input)
 }
 
 /// Does all that the program does: `words` are those of the command line after the program's own name.
-#[tactic(auto, using(crate::proofs::TopLemmas::run_is_traced), unfolding(crate::specs::Text::whole_outcome))]
 pub fn titan<S: Source, K: Sink>(
     alloc: Global,
     words: &Vec<String>,
     source: &mut S,
     sink: &mut K,
 ) -> Status
-    requires { HasRoomFor (K.space sink.old) (S.left source.old) (whole_outcome words.now.items) }
+    requires { HasRoomFor (K.space sink.old) (S.left source.old) (IsOutcome words.now.items) }
 
     // What was written, and what the status says, where the bytes are told.
     ensures text { IfSome (S.left source.old) (λ input.
-        Answers result (K.written sink.old) (K.written sink.new) (whole_outcome words.now.items input)) }
+        AnswersAs result (K.written sink.old) (K.written sink.new) (IsOutcome words.now.items input)) }
+
+    // Also over a source that tells no bytes, these are the text and the status of some input.
+    ensures some_input { (input : List ℕ) × (o : Outcome) × IsOutcome words.now.items input o
+        × Answers result (K.written sink.old) (K.written sink.new) o }
 
     // What is printed of a run: the reports are the trace of what was read, each reply is good, and then comes the ending.
     ensures trace { form_of (texts words.now.items) ≡ Some Form.Run → IfSome (S.left source.old) (λ input.
-        IsTraceOf (reading_of input) (whole_outcome words.now.items input)) }
+        (o : Outcome) → IsOutcome words.now.items input o → IsTraceOf input o) }
 
     // The input has no line that is refused, or its first one is named.
-    ensures ended { result ≡ Status.Ended → IfSome (S.left source.old) (λ input. (reading_of input).ending ≡ Whole) }
+    ensures ended { result ≡ Status.Ended → IfSome (S.left source.old) (λ input. (r : Reading) × IsReading input r × (r.ending ≡ AllTaken)) }
     ensures refused { result ≡ Status.Refused → IfSome (S.left source.old) (λ input.
-        (line : ℕ) × (code : ℕ) × ((reading_of input).ending ≡ RefusedAt line code)) }
+        (r : Reading) × IsReading input r × ((line : ℕ) × (refusal : Refusal) × (r.ending ≡ RefusedAt line refusal))) }
 
     // Each fault has its cause.
     ensures read { result ≡ Status.ReadFault → Rose (S.faults source.old) (S.faults source.new) }
@@ -73,7 +96,10 @@ pub fn titan<S: Source, K: Sink>(
 
     // Where no fault rose, the status is the outcome's, or memory ran out.
     ensures complete { ¬ (Rose (S.faults source.old) (S.faults source.new)) → ¬ (Rose (K.faults sink.old) (K.faults sink.new)) →
-        IfSome (S.left source.old) (λ input. (result ≡ (whole_outcome words.now.items input).status) ⊎ (result ≡ Status.Memory)) }
+        IfSome (S.left source.old) (λ input. ((o : Outcome) × IsOutcome words.now.items input o × (result ≡ o.status)) ⊎ (result ≡ Status.Memory)) }
+
+    // No form of words that is built rejects anything.
+    ensures not_rejected { result ≢ Status.Rejected }
 
     // The input was read to its end.
     ensures whole { result ≡ Status.Ended → IsAtEnd (S.left source.new) }

@@ -1,13 +1,13 @@
-use Rattle.std.proofs.Common.{◌≡◌, ◌+◌, ◌≤◌, length}
+use Rattle.std.proofs.Common.{◌+◌, ◌≤◌, length}
 use Rattle.titan_top.specs.Draft.{IsRead}
 use Rattle.titan_top.specs.Lines.{lines_of}
-use Rattle.titan_top.specs.Reading.{model_lines}
+use Rattle.titan_top.specs.Reading.{ModelEnd, ReadsModel}
 use Rattle.titan_top.proofs.output.read_model.Given as goal
 
--- what is left to read is what the whole input says
+-- how what is left ends is how the whole input does
 abbrev pub invariant-each_line : goal.invariant-each_line
 invariant-each_line l = record {
-  same : model_lines l.fn.reader 0 (lines_of l.input) ≡ model_lines l.reader l.lines (lines_of l.rest);
+  same : (end : ModelEnd) → ReadsModel l.reader l.lines (lines_of l.rest) end → ReadsModel l.fn.reader 0 (lines_of l.input) end;
   counted : l.lines + length l.rest ≤ length l.input;
   read : IsRead l.reader.model;
 }

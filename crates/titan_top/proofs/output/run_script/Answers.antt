@@ -15,20 +15,20 @@ returns-in-Err-act-clause-sent g c =
 
 pub put_all-requires : goal.put_all-requires
 put_all-requires g c =
-    rw c.deref.ensures.value
-    (turn_room c.each_line.invariant.sending (standing c.act.new.executive) c.split_line.result.0.now c.split_line.result.1.now c.in-Ok-act.text.items c.split_line.ensures.lines c.in-Ok-act.ensures.acts c.requires.room)
+    rw c.as_slice.ensures
+    (turn_room c.each_line.invariant.sending (standing c.act.new.executive) c.split_line.result.0.now c.split_line.result.1.now c.in-Ok-act.text c.split_line.ensures.lines c.in-Ok-act.ensures.acts c.requires.room)
 
 pub returns-in-WriteFault-clause-sent : goal.returns-in-WriteFault-clause-sent
 returns-in-WriteFault-clause-sent g c =
-    turn_cut c.each_line.invariant.sending (standing c.act.new.executive) c.split_line.result.0.now c.split_line.result.1.now c.in-Ok-act.text.items c.split_line.ensures.lines c.in-Ok-act.ensures.acts _ _
-    (rw c.deref.ensures.value at c.in-WriteFault.ensures.sent)
+    turn_cut c.each_line.invariant.sending (standing c.act.new.executive) c.split_line.result.0.now c.split_line.result.1.now c.in-Ok-act.text c.split_line.ensures.lines c.in-Ok-act.ensures.acts _ _
+    (rw c.as_slice.ensures at c.in-WriteFault.ensures.sent)
 
 pub each_line-preserved : goal.each_line-preserved
 each_line-preserved g c =
     let before = c.each_line.invariant in
     record {
-      sending = turn_done before.sending (standing c.act.new.executive) c.split_line.result.0.now c.split_line.result.1.now c.in-Ok-act.text.items c.split_line.ensures.lines c.in-Ok-act.ensures.acts _ _
-          (rw c.deref.ensures.value at c.in-Done.ensures.sent) (rw c.deref.ensures.value at c.in-Done.ensures.space);
+      sending = turn_done before.sending (standing c.act.new.executive) c.split_line.result.0.now c.split_line.result.1.now c.in-Ok-act.text c.split_line.ensures.lines c.in-Ok-act.ensures.acts _ _
+          (rw c.as_slice.ensures at c.in-Done.ensures.sent) (rw c.as_slice.ensures at c.in-Done.ensures.space);
       counted = omega (arith, c.split_line.ensures.shorter, before.counted);
       ticks = omega (arith, c.in-Ok-act.ensures.ticks, before.ticks);
       stands = c.in-Ok-act.ensures.stands;
