@@ -10,3 +10,4 @@ pub mod BoundLemmas
 pub mod TakenBack
 pub mod Within
 pub mod Members
+pub mod RelationLemmas

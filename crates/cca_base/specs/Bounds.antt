@@ -4,11 +4,11 @@ use Rattle.cca_base.specs.declared.cube.Pair.{Pair}
 use Rattle.cca_base.specs.Automata.{Automata}
 use Rattle.cca_base.specs.Model.{mode_counts}
 use Rattle.cca_base.specs.Implicants.{Needs}
+use Rattle.cca_base.specs.Relations.{AreExactly}
 
 -- exactly the components that c needs, rising
-pub record AreNeeds (m : Automata) (c : ℕ) (needs : List ℕ) : Type 0 where
-  pub rising : AllPairs (λ u v. u < v) needs
-  pub each : (u : ℕ) → Contains needs u ↔ Needs m c u
+abbrev pub AreNeeds : Automata → ℕ → List ℕ → Type 0
+AreNeeds m c = AreExactly (Needs m c)
 
 -- the bound of c is one less than its modes, times one more than the bounds of what it needs
 pub record IsBound (m : Automata) (bounds : List ℕ) (c : ℕ) : Type 0 where

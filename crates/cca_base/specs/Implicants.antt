@@ -6,6 +6,7 @@ use Rattle.cca_base.specs.Automata.{Automata}
 use Rattle.cca_base.specs.Model.{HasMode}
 use Rattle.cca_base.specs.Cube.{Lacks, IsPart, IsRising}
 use Rattle.cca_base.specs.State.{Follows}
+use Rattle.cca_base.specs.Relations.{PathBy, AncestorBy, IsAcyclicBy}
 
 -- the move's component with the move's source
 abbrev pub source_pair : Move → Pair
@@ -35,13 +36,12 @@ pub record Needs (m : Automata) (c u : ℕ) : Type 0 where
 
 -- component c needs the first of those between, each of them needs the next, and the last needs u
 abbrev pub Path : Automata → ℕ → List ℕ → ℕ → Type 0
-Path m c [] u = Needs m c u
-Path m c (d ∷ between) u = Needs m c d × Path m d between u
+Path m = PathBy (Needs m)
 
 -- component u is reached from c by one or more needs
 abbrev pub Ancestor : Automata → ℕ → ℕ → Type 0
-Ancestor m c u = (between : List ℕ) × Path m c between u
+Ancestor m = AncestorBy (Needs m)
 
 -- no component is its own ancestor
 abbrev pub IsAcyclic : Automata → Type 0
-IsAcyclic m = (c : ℕ) → Ancestor m c c → ⊥
+IsAcyclic m = IsAcyclicBy (Needs m)

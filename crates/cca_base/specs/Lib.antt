@@ -14,6 +14,7 @@ pub mod Names
 pub mod Orders
 pub mod Padded
 pub mod Plans
+pub mod Relations
 pub mod Repairs
 pub mod Runs
 pub mod Sets

@@ -4,27 +4,21 @@ use Rattle.std.specs.List.Sorted.{IsPermutation}
 use Rattle.cca_base.specs.declared.cube.Pair.{Pair}
 use Rattle.cca_base.specs.Automata.{Automata}
 use Rattle.cca_base.specs.Implicants.{Needs}
+use Rattle.cca_base.specs.Relations.{IsFreeBy, TakesEffectsFirstBy, IsEffectsFirstBy}
+pub use Rattle.cca_base.specs.Relations.{numbers_below}
 use Rattle.cca_base.specs.State.{Extends}
-
--- the numbers below n, rising
-abbrev pub numbers_below : ℕ → List ℕ
-numbers_below zero = []
-numbers_below (suc n) = numbers_below n ++ n ∷ []
 
 -- no remaining component needs c
 abbrev pub IsFree : Automata → List ℕ → ℕ → Type 0
-IsFree m remaining c = (d : ℕ) → Contains remaining d → Needs m d c → ⊥
+IsFree m = IsFreeBy (Needs m)
 
 -- repeatedly the least remaining component that no remaining component needs
 abbrev pub TakesEffectsFirst : Automata → List ℕ → List ℕ → Type 0
-TakesEffectsFirst m remaining [] = remaining ≡ []
-TakesEffectsFirst m remaining (c ∷ order) =
-    Contains remaining c × IsFree m remaining c × ((d : ℕ) → d < c → Contains remaining d → IsFree m remaining d → ⊥)
-    × TakesEffectsFirst m (filter (λ d. not (d == c)) remaining) order
+TakesEffectsFirst m = TakesEffectsFirstBy (Needs m)
 
 -- all components, effects before their causes
 abbrev pub IsEffectsFirst : Automata → List ℕ → Type 0
-IsEffectsFirst m order = TakesEffectsFirst m (numbers_below (length m.components)) order
+IsEffectsFirst m = IsEffectsFirstBy (Needs m) (length m.components)
 
 -- the pairs' components come in this order, each at most once
 abbrev pub AreInOrder : List ℕ → List Pair → Type 0

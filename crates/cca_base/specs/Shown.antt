@@ -5,23 +5,17 @@ use Rattle.cca_base.specs.Automata.{Automata}
 use Rattle.cca_base.specs.Names.{AreDifferent}
 use Rattle.cca_base.specs.State.{IsState, IsWorld, Extends}
 use Rattle.cca_base.specs.Repairs.{pairs_of}
-use Rattle.cca_base.specs.Implicants.{Path, Ancestor}
+use Rattle.cca_base.specs.Implicants.{Needs}
+use Rattle.cca_base.specs.Relations.{IsCycleBy, IsShownCycleBy}
 use Rattle.cca_base.specs.Estimates.{IsEarlier}
 
 -- a list that begins and ends with one component, whose other entries differ, and in which each entry needs the next
-pub record IsCycle (m : Automata) (list : List ℕ) (first : ℕ) : Type 0 where
-  pub between : List ℕ
-  pub ends : list ≡ first ∷ between ++ first ∷ []
-  pub differ : AreDifferent (first ∷ between)
-  pub needs : Path m first between first
+abbrev pub IsCycle : Automata → List ℕ → ℕ → Type 0
+IsCycle m = IsCycleBy (Needs m)
 
 -- the cycle that begins with the least component on any cycle, is shortest through it, and is the first of these entry by entry
-pub record IsShownCycle (m : Automata) (list : List ℕ) : Type 0 where
-  pub first : ℕ
-  pub cycle : IsCycle m list first
-  pub least : (c : ℕ) → Ancestor m c c → first ≤ c
-  pub shortest : (other : List ℕ) → IsCycle m other first → length list ≤ length other
-  pub earliest : (other : List ℕ) → IsCycle m other first → length other ≡ length list → IsEarlier other list → ⊥
+abbrev pub IsShownCycle : Automata → List ℕ → Type 0
+IsShownCycle m = IsShownCycleBy (Needs m)
 
 -- some world of the state has each of the values that are seen
 abbrev pub CanShow : Automata → List ℕ → List Pair → Type 0

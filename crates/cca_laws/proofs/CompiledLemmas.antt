@@ -1,11 +1,12 @@
 -- What is compiled from a model is determined.
 use Rattle.std.proofs.Common.{◌≡◌, ◌<◌, ◌+◌, ◌-◌, ◌*◌, ◌==◌, ℕ, not, zero, suc, List, [], ◌∷◌, length, slice_index, slice_get, Some, Contains, filter, sum_by, inl, inr, refl, sym, ap, subst, ◌∙◌, arith}
-use Rattle.std.proofs.lemmas.Bool.{cases_Bool, cases_order, cases_eq, not_from_false, eqb-true}
+use Rattle.std.proofs.lemmas.Bool.{cases_order}
 use Rattle.std.proofs.lemmas.List.Sums.{sum_by-cons}
 use Rattle.std.proofs.lemmas.Option.{slice_get_within}
-use Rattle.std.proofs.lemmas.List.Elements.{All-contains, Contains-append_left, Contains-push, Contains-push_cases}
+use Rattle.std.proofs.lemmas.List.Elements.{All-contains}
 use Rattle.cca_base.specs.declared.cube.Pair.{Pair}
 use Rattle.cca_base.specs.declared.model.Move.{Move}
+use Rattle.cca_base.proofs.RelationLemmas.{all_taken, below_contains, numbers_within, other_stays}
 use Rattle.cca_base.proofs.Within.{mode_within}
 use Rattle.cca_base.specs.Automata.{Automata}
 use Rattle.cca_base.specs.Model.{HasMode, mode_counts}
@@ -14,7 +15,7 @@ use Rattle.cca_base.specs.Implicants.{Needs}
 use Rattle.cca_base.specs.Orders.{numbers_below, TakesEffectsFirst, IsEffectsFirst}
 use Rattle.cca_base.specs.Bounds.{AreNeeds, AreBounds}
 use Rattle.cca_base.specs.Accepted.{AreWays, IsCompiled}
-use Rattle.cca_base.proofs.Members.{contains_cases, contains_here, contains_there, contains_none, to_filter, from_filter}
+use Rattle.cca_base.proofs.Members.{contains_cases, contains_here, contains_there, contains_none, from_filter}
 use Rattle.cca_laws.proofs.CostsLemmas.{same_list}
 use Rattle.cca_laws.proofs.OrderLemmas.{same_by_order, one_way_cubes}
 
@@ -33,34 +34,6 @@ one_order m remaining (c ∷ a) (d ∷ b) h k =
     in
     let tails : a ≡ b = one_order m (filter (λ x. not (x == c)) remaining) a b h.3 (subst (λ e. TakesEffectsFirst m (filter (λ x. not (x == e)) remaining) b) (sym heads) k.3) in
     λ i. heads i ∷ tails i
-
-other_stays : (c d : ℕ) (remaining : List ℕ) → (d ≡ c → ⊥) → Contains remaining d → Contains (filter (λ x. not (x == c)) remaining) d
-other_stays c d remaining ne among = to_filter (λ x. not (x == c)) remaining d (elim (cases_Bool (d == c)) [
-  | inl yes_d ↦ absurd (ne (eqb-true d c yes_d))
-  | inr no_d ↦ not_from_false (d == c) no_d
-]) among
-
-all_taken : (m : Automata) (remaining order : List ℕ) → TakesEffectsFirst m remaining order → (d : ℕ) → Contains remaining d → Contains order d
-all_taken m remaining [] h d among = subst (λ l. Contains l d) h among
-all_taken m remaining (c ∷ order) h d among = elim (cases_eq d c) [
-  | inl e ↦ contains_here c d order (sym e)
-  | inr ne ↦ contains_there c d order (all_taken m (filter (λ x. not (x == c)) remaining) order h.3 d (other_stays c d remaining ne among))
-]
-
-below_contains : (n c : ℕ) → c < n → Contains (numbers_below n) c
-below_contains zero c h = absurd (omega arith)
-below_contains (suc n) c h = elim (cases_order c n) [
-  | inl e ↦ subst (Contains (numbers_below (suc n))) (sym e) (Contains-push (numbers_below n) n)
-  | inr (inl below) ↦ Contains-append_left (numbers_below n) (n ∷ []) c (below_contains n c below)
-  | inr (inr above) ↦ absurd (omega (arith, h, above))
-]
-
-numbers_within : (n c : ℕ) → Contains (numbers_below n) c → c < n
-numbers_within zero c h = absurd (contains_none c h)
-numbers_within (suc n) c h = elim (Contains-push_cases (numbers_below n) n c h) [
-  | inl before ↦ omega (arith, numbers_within n c before)
-  | inr e ↦ omega (arith, e)
-]
 
 -- ---- the bounds
 
@@ -109,7 +82,7 @@ module _ (m : Automata) (a b : List ℕ) (x : AreBounds m a) (y : AreBounds m b)
       same_along left order h.3 (λ d u there needs. keeps d u (before d there) needs) (λ d there. within d (before d there))
       in
       elim (contains_cases e c order among) [
-        | inl here ↦ subst Same here (same_bound e (within e h.0) (λ u needs. rest u (all_taken m left order h.3 u (keeps e u h.0 needs))))
+        | inl here ↦ subst Same here (same_bound e (within e h.0) (λ u needs. rest u (all_taken (Needs m) left order h.3 u (keeps e u h.0 needs))))
         | inr there ↦ rest c there
       ]
 
@@ -118,7 +91,7 @@ module _ (m : Automata) (a b : List ℕ) (x : AreBounds m a) (y : AreBounds m b)
       let all : List ℕ = numbers_below (length m.components) in
       same_list a b (x.full ∙ sym y.full) (λ c within.
       let there : Contains all c = below_contains (length m.components) c (omega (arith, within, x.full)) in
-      same_along all order h (λ d u among needs. below_contains (length m.components) u (needed_within m d u needs)) (numbers_within (length m.components)) c (all_taken m all order h c there))
+      same_along all order h (λ d u among needs. below_contains (length m.components) u (needed_within m d u needs)) (numbers_within (length m.components)) c (all_taken (Needs m) all order h c there))
 
 -- ---- the ways
 

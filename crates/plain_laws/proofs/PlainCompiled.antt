@@ -1,11 +1,9 @@
 -- A plain model that uses each command is accepted, and compiled as is stated.
-use Rattle.std.proofs.Common.{◌≡◌, ◌≢◌, ◌<◌, ◌≤◌, ◌-◌, ◌==◌, ℕ, zero, suc, not, inl, inr, List, [], ◌∷◌, ◌++◌, length, slice_get, Some, All, AllPairs, Contains, filter, refl, sym, ap, subst, ◌∙◌, arith}
+use Rattle.std.proofs.Common.{◌≡◌, ◌<◌, ◌≤◌, ◌-◌, ℕ, inl, inr, List, [], ◌∷◌, length, slice_get, Some, All, AllPairs, Contains, refl, sym, ap, subst, ◌∙◌, arith}
 use Rattle.std.specs.Option.{option_map}
-use Rattle.std.proofs.lemmas.Bool.{eq-eqb, ne_eqb, not_from_false, not_from_true, cond-true, cond-false}
 use Rattle.std.proofs.lemmas.Option.{slice_get-map, slice_get_within, get_or_from_slice_get}
 use Rattle.std.proofs.lemmas.List.{get_or-map, length-map}
-use Rattle.std.proofs.lemmas.List.Elements.{All-contains, All-head, All-tail, Contains-push_cases}
-use Rattle.std.proofs.lemmas.List.Kept.{AllPairs-cons}
+use Rattle.std.proofs.lemmas.List.Elements.{All-contains}
 use Rattle.std.proofs.lemmas.List.Sums.{sum-map, sum_by-le}
 use Rattle.cca_base.specs.declared.cube.Pair.{Pair}
 use Rattle.cca_base.specs.declared.model.Component.{Component}
@@ -20,42 +18,11 @@ use Rattle.cca_base.specs.Bounds.{IsBound, AreBounds}
 use Rattle.cca_base.specs.Accepted.{AreWays, HasFewWays, SumFits}
 use Rattle.cca_base.proofs.Members.{all_from, some_inj, contains_cases, contains_here, contains_none}
 use Rattle.cca_base.proofs.Pairwise.{AllPairs-head, AllPairs-tail}
+use Rattle.cca_base.proofs.RelationLemmas.{numbers_rise, takes_out}
 use Rattle.plain_laws.specs.Plain.{IsPlain, plainly_compiled, PlainIsCompiled}
 use Rattle.plain_laws.proofs.PlainSteps.{true_follows}
 
 -- ---- numbers in order
-
-rising_push : (xs : List ℕ) (y : ℕ) → AllPairs (λ a b. a < b) xs → All (λ x. x < y) xs → AllPairs (λ a b. a < b) (xs ++ y ∷ [])
-rising_push [] y h below = λ i j d lt within. absurd (omega arith)
-rising_push (x ∷ xs) y h below =
-    AllPairs-cons (λ a b. a < b) x (xs ++ y ∷ [])
-    (all_from (λ b. x < b) (xs ++ y ∷ []) (λ b among. elim (Contains-push_cases xs y b among) [
-      | inl there ↦ All-contains (λ b. x < b) xs b (AllPairs-head (λ a b. a < b) x xs h) there
-      | inr e ↦ subst (λ b. x < b) e (All-head (λ x. x < y) x xs below)
-    ]))
-    (rising_push xs y (AllPairs-tail (λ a b. a < b) x xs h) (All-tail (λ x. x < y) x xs below))
-
-numbers_are_below : (n : ℕ) → All (λ x. x < n) (numbers_below n)
-numbers_are_below zero = λ k d h. absurd (omega arith)
-numbers_are_below (suc n) = all_from (λ x. x < suc n) (numbers_below n ++ n ∷ []) (λ x among. elim (Contains-push_cases (numbers_below n) n x among) [
-  | inl there ↦ let lt : x < n = All-contains (λ x. x < n) (numbers_below n) x (numbers_are_below n) there in omega arith
-  | inr e ↦ omega (arith, e)
-])
-
-numbers_rise : (n : ℕ) → AllPairs (λ a b. a < b) (numbers_below n)
-numbers_rise zero = λ i j d lt within. absurd (omega arith)
-numbers_rise (suc n) = rising_push (numbers_below n) n (numbers_rise n) (numbers_are_below n)
-
-keeps_all : (c : ℕ) (xs : List ℕ) → All (λ x. c < x) xs → filter (λ d. not (d == c)) xs ≡ xs
-keeps_all c [] above = refl
-keeps_all c (x ∷ xs) above =
-    let other : x ≢ c = λ e. (let lt : c < x = All-head (λ x. c < x) x xs above in omega (arith, e)) in
-    cond-true (not (x == c)) (x ∷ filter (λ d. not (d == c)) xs) (filter (λ d. not (d == c)) xs) (not_from_false (x == c) (ne_eqb x c other))
-    ∙ ap (λ l. x ∷ l) (keeps_all c xs (All-tail (λ x. c < x) x xs above))
-
-takes_out : (c : ℕ) (xs : List ℕ) → All (λ x. c < x) xs → xs ≡ filter (λ d. not (d == c)) (c ∷ xs)
-takes_out c xs above =
-    sym (cond-false (not (c == c)) (c ∷ filter (λ d. not (d == c)) xs) (filter (λ d. not (d == c)) xs) (not_from_true (c == c) (eq-eqb c c refl)) ∙ keeps_all c xs above)
 
 -- where nothing needs anything, rising numbers are taken as they come
 takes_rising : (m : Automata) → ((c u : ℕ) → Needs m c u → ⊥) → (xs : List ℕ) → AllPairs (λ a b. a < b) xs → TakesEffectsFirst m xs xs

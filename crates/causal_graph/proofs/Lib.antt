@@ -1,0 +1,11 @@
+pub mod DistanceLemmas
+pub mod FlagLemmas
+pub mod NearestLemmas
+pub mod LevelLemmas
+pub mod Written
+pub mod NeededLemmas
+pub mod EffectsLemmas
+pub mod ReachLemmas
+pub mod CycleLemmas
+pub mod GoalLemmas
+pub mod PermutationLemmas

@@ -1,0 +1,6 @@
+use Rattle.std.proofs.Common.{ℕ, ◌<◌, slice_index}
+use Rattle.causal_graph.specs.Search.{IsSet}
+use Rattle.causal_graph.proofs.effects.first_free.Given as goal
+
+abbrev pub invariant-loop-i : goal.invariant-loop-i
+invariant-loop-i l = (k : ℕ) → k < l.i → IsSet l.needed (slice_index l.remaining k)

@@ -1,0 +1,26 @@
+use Rattle.std.proofs.Common.{ℕ, get_or, subst, arith}
+use Rattle.std.proofs.lemmas.List.{take_all}
+use Rattle.causal_graph.specs.Search.{Marks}
+use Rattle.causal_graph.proofs.FlagLemmas.{marked_none, marked_new, marked_old}
+use Rattle.causal_graph.proofs.flags.mark.Goals.{then-not-flags-at, else-not-flags-at}
+use Rattle.causal_graph.proofs.flags.mark.Goals as goal
+
+pub loop-u-init : goal.loop-u-init
+loop-u-init c = marked_none c.args.row.now c.args.flags.now
+
+pub loop-u-preserved : goal.loop-u-preserved
+loop-u-preserved c =
+    let row = c.args.row.now in
+    let old = c.args.flags.now in
+    let now = c.loop-u.flags in
+    let i = c.loop-u.u-index in
+    elim c.if-not-flags-at.branch [
+      | then-not-flags-at w ↦ rw (w.flags-is, w.fresh-is) (marked_new row old now c.loop-u.fresh i c.loop-u.invariant c.loop-u-test.true (omega (arith, c.requires i 0 c.loop-u-test.true, c.loop-u.auto.flags)) w.if-not-flags-at.true)
+      | else-not-flags-at w ↦ rw (w.flags-is, w.fresh-is) (marked_old row old now c.loop-u.fresh i c.loop-u.invariant c.loop-u-test.true w.if-not-flags-at.false)
+    ]
+
+pub returns-clause-marks : goal.returns-clause-marks
+returns-clause-marks c = subst (λ seen. Marks seen c.args.flags.now c.loop-u.flags) (take_all c.loop-u.u-index c.args.row.now (omega arith)) c.loop-u.invariant.marks
+
+pub returns-clause-fresh : goal.returns-clause-fresh
+returns-clause-fresh c = c.loop-u.invariant.fresh_is

@@ -1,0 +1,43 @@
+use Rattle.std.proofs.Common.{◌≡◌, ◌++◌, ℕ, Bool, false, List, [], length, get_or, take, drop, replicate, sym, ap, subst, ◌∙◌, arith, rules}
+use Rattle.std.proofs.lemmas.Option.{get_or_from_slice_get}
+use Rattle.std.proofs.lemmas.List.{length-replicate}
+use Rattle.causal_graph.specs.Search.{IsSet, Marks, Spreads}
+use Rattle.causal_graph.proofs.NeededLemmas.{none_set}
+use Rattle.causal_graph.proofs.ReachLemmas.{reaching_first, reaching_more, reached_all}
+use Rattle.causal_graph.proofs.Written.{written_back}
+use Rattle.causal_graph.proofs.reach.reached.Goals as goal
+
+pub rounds-init : goal.rounds-init
+rounds-init c =
+    let rows = c.args.needs.now in
+    let old : List Bool = c.in_ok-flags.flags.items in
+    let new : List Bool = c.mark.new.flags in
+    let row : List ℕ = c.as_slice.result.now in
+    let is_row : get_or rows c.args.c [] ≡ row = get_or_from_slice_get rows c.args.c c.get.result.now [] c.get.ensures.value ∙ sym c.as_slice.ensures in
+    let same : c.as_mut_slice.result.now ≡ old = c.as_mut_slice.ensures.value in
+    let back : take c.in_ok-flags.flags.len (new ++ drop (length new) old) ≡ new = written_back c.in_ok-flags.flags.len old c.as_mut_slice.result.now new same c.as_mut_slice.ensures.len c.mark.auto.flags in
+    let marks : Marks row old new = subst (λ xs. Marks row xs new) same c.mark.ensures.marks in
+    let items : old ≡ replicate c.len.result false = c.in_ok-flags.ensures.items_if_clones_equal (λ y h. search rules) in
+    rw back (reaching_first rows c.args.c row old new is_row (ap length items ∙ length-replicate c.len.result false ∙ c.len.ensures)
+    (λ u h. none_set c.len.result u (subst (λ xs. IsSet xs u) items h)) marks)
+
+pub rounds-preserved : goal.rounds-preserved
+rounds-preserved c =
+    let rows = c.args.needs.now in
+    let old : List Bool = c.rounds.flags.items in
+    let new : List Bool = c.spread.new.flags in
+    let same : c.as_mut_slice-in-rounds.result.now ≡ old = c.as_mut_slice-in-rounds.ensures.value in
+    let back : take c.rounds.flags.len (new ++ drop (length new) old) ≡ new = written_back c.rounds.flags.len old c.as_mut_slice-in-rounds.result.now new same c.as_mut_slice-in-rounds.ensures.len c.spread.auto.flags in
+    let spreads : Spreads rows old new = subst (λ xs. Spreads rows xs new) same c.spread.ensures.spreads in
+    rw back (reaching_more rows c.args.c old new c.rounds.invariant spreads)
+
+pub returns : goal.returns
+returns c =
+    let rows = c.args.needs.now in
+    let old : List Bool = c.rounds.flags.items in
+    let new : List Bool = c.spread.new.flags in
+    let same : c.as_mut_slice-in-rounds.result.now ≡ old = c.as_mut_slice-in-rounds.ensures.value in
+    let back : take c.rounds.flags.len (new ++ drop (length new) old) ≡ new = written_back c.rounds.flags.len old c.as_mut_slice-in-rounds.result.now new same c.as_mut_slice-in-rounds.ensures.len c.spread.auto.flags in
+    let spreads : Spreads rows old new = subst (λ xs. Spreads rows xs new) same c.spread.ensures.spreads in
+    let none : new ≡ old = c.rounds-test.ensures.fresh ∙ same in
+    rw (back, none) (reached_all rows c.args.c old new c.rounds.invariant spreads none)

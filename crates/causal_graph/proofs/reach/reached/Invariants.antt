@@ -1,0 +1,9 @@
+use Rattle.causal_graph.specs.Search.{unset}
+use Rattle.causal_graph.proofs.ReachLemmas.{IsReaching}
+use Rattle.causal_graph.proofs.reach.reached.Given as goal
+
+abbrev pub invariant-rounds : goal.invariant-rounds
+invariant-rounds l = IsReaching l.needs l.c l.flags.items
+
+abbrev pub decreases-rounds : goal.decreases-rounds
+decreases-rounds l = unset l.flags.items

@@ -1,0 +1,33 @@
+ghost use Rattle.std.specs.Prelude.{◌≡◌, ◌<◌, All, Contains, IfOk, MatchOption, length};
+ghost use Rattle.cca_base.specs.Cube.{IsCube, Lacks};
+ghost use Rattle.cca_base.specs.Orders.{IsSorted};
+
+use cca_base::{Compiled, Goal, List, Pair};
+use std::alloc::{AllocError, Global};
+
+/// The pair of the component.
+fn pair_of(pairs: &[Pair], c: u16) -> Option<Pair>
+    ensures { MatchOption result (Lacks c pairs.now) (λ p. Contains pairs.now p × (p.item ≡ c)) }
+{
+    for pair in pairs {
+        if pair.item == c {
+            return Some(*pair);
+        }
+    }
+    None
+}
+
+/// The same pairs as a goal, effects before their causes. The error is want of memory.
+pub fn sort_goal(alloc: Global, compiled: &Compiled, pairs: &List<Pair>) -> Result<Goal, AllocError>
+    requires once { IsCube pairs.now }
+    requires within { All (λ p. p.item < length compiled.now.model.components) pairs.now }
+    ensures { IfOk result (λ goal. IsSorted compiled.now.order pairs.now goal.pairs) }
+{
+    let mut sorted = List::new(alloc);
+    for c in compiled.order().as_slice() {
+        if let Some(pair) = pair_of(pairs.as_slice(), *c) {
+            sorted.push(pair)?;
+        }
+    }
+    Ok(Goal { pairs: sorted })
+}

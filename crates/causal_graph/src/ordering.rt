@@ -1,0 +1,22 @@
+ghost use Rattle.std.specs.Prelude.{◌≤◌, length, IfOk};
+ghost use Rattle.causal_graph.specs.Answers.{IsOrder};
+ghost use Rattle.causal_graph.specs.Needs.{AreRows};
+
+use crate::answer::Order;
+use crate::cycle::shown_cycle;
+use crate::effects::effects_first;
+use cca_base::List;
+use std::alloc::{AllocError, Global};
+
+/// The order of the components, of which row c of `needs` lists those that c needs. It is `Effects` exactly where no
+/// component is its own ancestor. The error is want of memory.
+pub fn order(alloc: Global, needs: &List<List<u16>>) -> Result<Order, AllocError>
+    requires few { length needs.now ≤ 65536 }
+    requires rows { AreRows needs.now }
+    ensures { IfOk result (IsOrder needs.now) }
+{
+    match effects_first(alloc, needs)? {
+        Some(list) => Ok(Order::Effects(list)),
+        None => Ok(Order::Cycle(shown_cycle(alloc, needs)?)),
+    }
+}
