@@ -17,7 +17,8 @@ const MANY_WAYS: u8 = 10;
 /// other error is want of memory.
 pub fn ways(alloc: Global, model: &Model, move_number: u16) -> Result<List<Cube>, Stop>
     requires { move_number < length model.now.moves }
-    ensures ways { IfOk result (λ cubes. AtMove model.now move_number (λ move. AreWays model.now move cubes)) }
+    ensures ways { IfOk result (λ cubes. AtMove model.now move_number (λ move.
+        AreWays model.now move cubes)) }
     ensures few { IfOk result (λ cubes. length cubes ≤ MAX_WAYS) }
     ensures refused { IfErr result (IsStop model.now move_number) }
 {

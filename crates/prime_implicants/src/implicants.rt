@@ -7,7 +7,7 @@ use crate::choices::all_minimal;
 use crate::completion::complete;
 use crate::cubes::cubes_of;
 use clause_form::Clauses;
-use elimination::rows_of;
+use elimination::least_rows_of;
 use std::alloc::{AllocError, Global};
 
 /// The minimal cubes over the clauses' subjects that no values meeting all clauses extend, where there are at most
@@ -17,7 +17,7 @@ pub fn primes(alloc: Global, clauses: &Clauses, most: u32) -> Result<Primes, All
     ensures { IfOk result (IsAnswer clauses.now most) }
 {
     let sizes = clauses.sizes.as_slice();
-    let mut rows = rows_of(alloc, clauses)?;
+    let mut rows = least_rows_of(alloc, clauses)?;
     complete(alloc, sizes, &mut rows)?;
     match all_minimal(alloc, sizes, rows.as_slice(), most as usize)? {
         Some(found) => Ok(Primes::Every(cubes_of(alloc, found)?)),
