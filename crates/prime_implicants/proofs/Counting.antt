@@ -36,8 +36,8 @@ no_longer [] others d m = omega arith
 no_longer {X} (a ∷ firsts) others d m =
     let at : Contains others a = m 0 a (omega arith) in
     let rest : All (Contains (without_at others at.0)) firsts =
-        all_from (Contains (without_at others at.0)) firsts (λ y h. still_there others at.0 y (all_of (Contains others) firsts y (λ k e l. m (suc k) e (omega arith)) h)
-            (λ e. all_of (λ y. a ≢ y) firsts y (AllPairs-head (λ a b. a ≢ b) a firsts d) h (sym at.2 ∙ get_or_default others at.0 a y at.1 ∙ e))) in
+    all_from (Contains (without_at others at.0)) firsts (λ y h. still_there others at.0 y (all_of (Contains others) firsts y (λ k e l. m (suc k) e (omega arith)) h)
+    (λ e. all_of (λ y. a ≢ y) firsts y (AllPairs-head (λ a b. a ≢ b) a firsts d) h (sym at.2 ∙ get_or_default others at.0 a y at.1 ∙ e))) in
     omega (arith, no_longer firsts (without_at others at.0) (AllPairs-tail (λ a b. a ≢ b) a firsts d) rest, length-without_at others at.0 at.1)
 
 nat_cmp-self : (n : ℕ) → nat_cmp n n ≡ Equal
