@@ -6,30 +6,46 @@ ghost use Rattle.elimination.specs.Partial.{Values, given};
 ghost use Rattle.elimination.specs.Rows.{all_open, row_open, is_wide, is_zero};
 
 use crate::row::{Row, never};
-use crate::rows::add;
+use crate::rows::add_all;
 use cca_base::{List, ValueSet};
 use clause_form::{Clause, Clauses, Literal};
 use std::alloc::{AllocError, Global};
 
-/// The rows of the clauses, without those that say no more than another.
+/// The rows of the clauses.
 pub fn rows_of(alloc: Global, clauses: &Clauses) -> Result<Vec<Row>, AllocError>
     requires { AreClauses clauses.now }
     ensures wide { IfOk result (λ r. list_all (is_wide (length clauses.now.sizes)) r.items ≡ true) }
-    ensures open { IfOk result (λ r. (xs : Values) → length xs ≡ length clauses.now.sizes → all_open (given xs) r.items ≡ all_met xs clauses.now.clauses) }
+    ensures open { IfOk result (λ r. (xs : Values) → length xs ≡ length clauses.now.sizes
+        → all_open (given xs) r.items ≡ all_met xs clauses.now.clauses) }
     ensures zero { IfOk result (λ r. (y : ℕ) → 65536 ≤ y → list_all (is_zero y) r.items ≡ true) }
 {
     let mut rows = Vec::new(alloc);
     for clause in clauses.clauses.as_slice() {
-        add(&mut rows, row_of(alloc, clauses.sizes.len(), clause)?)?;
+        rows.push(row_of(alloc, clauses.sizes.len(), clause)?)?;
     }
     Ok(rows)
+}
+
+/// The rows of the clauses, without those that say no more than another.
+pub fn least_rows_of(alloc: Global, clauses: &Clauses) -> Result<Vec<Row>, AllocError>
+    requires { AreClauses clauses.now }
+    ensures wide { IfOk result (λ r. list_all (is_wide (length clauses.now.sizes)) r.items ≡ true) }
+    ensures open { IfOk result (λ r. (xs : Values) → length xs ≡ length clauses.now.sizes
+        → all_open (given xs) r.items ≡ all_met xs clauses.now.clauses) }
+    ensures zero { IfOk result (λ r. (y : ℕ) → 65536 ≤ y → list_all (is_zero y) r.items ≡ true) }
+{
+    let all = rows_of(alloc, clauses)?;
+    let mut least = Vec::new(alloc);
+    add_all(alloc, clauses.sizes.len(), &mut least, all.as_slice())?;
+    Ok(least)
 }
 
 // The row of a clause over `n` subjects.
 fn row_of(alloc: Global, n: usize, clause: &Clause) -> Result<Row, AllocError>
     requires { All (λ literal. literal.subject < n) clause.now.literals }
     ensures wide { IfOk result (λ r. is_wide n r ≡ true) }
-    ensures open { IfOk result (λ r. (xs : Values) → length xs ≡ n → row_open (given xs) r ≡ meets xs clause.now) }
+    ensures open { IfOk result (λ r. (xs : Values) → length xs ≡ n
+        → row_open (given xs) r ≡ meets xs clause.now) }
     ensures zero { IfOk result (λ r. (y : ℕ) → 65536 ≤ y → is_zero y r ≡ true) }
 {
     let mut row = never(alloc, n)?;
@@ -43,7 +59,8 @@ fn row_of(alloc: Global, n: usize, clause: &Clause) -> Result<Row, AllocError>
 fn or_literal(row: &mut Row, literal: &Literal)
     requires { literal.now.subject < length row.old }
     ensures wide { length row.new ≡ length row.old }
-    ensures open { (xs : Values) → length xs ≡ length row.old → row_open (given xs) row.new ≡ (row_open (given xs) row.old || is_true xs literal.now) }
+    ensures open { (xs : Values) → length xs ≡ length row.old
+        → row_open (given xs) row.new ≡ (row_open (given xs) row.old || is_true xs literal.now) }
     ensures zero { (y : ℕ) → 65536 ≤ y → is_zero y row.old ≡ true → is_zero y row.new ≡ true }
 {
     let subject = literal.subject as usize;
@@ -54,8 +71,10 @@ fn or_literal(row: &mut Row, literal: &Literal)
 /// The clauses of rows over the subjects below `keep`.
 pub fn clauses_of(alloc: Global, rows: &[Row], keep: u16) -> Result<List<Clause>, AllocError>
     requires { list_all (λ row. nat_le keep (length row)) rows.now ≡ true }
-    ensures subjects { IfOk result (All (λ clause. All (λ literal. literal.subject < keep) clause.literals)) }
-    ensures met { IfOk result (λ clauses. (xs : Values) → length xs ≡ keep → all_met xs clauses ≡ list_all (λ row. row_open (given xs) (take keep row)) rows.now) }
+    ensures subjects { IfOk result (All (λ clause. All (λ literal.
+        literal.subject < keep) clause.literals)) }
+    ensures met { IfOk result (λ clauses. (xs : Values) → length xs ≡ keep
+        → all_met xs clauses ≡ list_all (λ row. row_open (given xs) (take keep row)) rows.now) }
 {
     let mut clauses = List::new(alloc);
     for row in rows {
@@ -67,8 +86,10 @@ pub fn clauses_of(alloc: Global, rows: &[Row], keep: u16) -> Result<List<Clause>
 // The clause of a row over the subjects below `keep`.
 fn clause_of(alloc: Global, row: &Row, keep: u16) -> Result<Clause, AllocError>
     requires { keep ≤ length row.now }
-    ensures subjects { IfOk result (λ clause. All (λ literal. literal.subject < keep) clause.literals) }
-    ensures met { IfOk result (λ clause. (xs : Values) → length xs ≡ keep → meets xs clause ≡ row_open (given xs) (take keep row.now)) }
+    ensures subjects { IfOk result (λ clause. All (λ literal.
+        literal.subject < keep) clause.literals) }
+    ensures met { IfOk result (λ clause. (xs : Values) → length xs ≡ keep
+        → meets xs clause ≡ row_open (given xs) (take keep row.now)) }
 {
     let mut literals = List::new(alloc);
     for subject in 0..keep {
@@ -83,8 +104,12 @@ fn push_literal(
     subject: u16,
     values: ValueSet,
 ) -> Result<(), AllocError>
-    ensures met { OnOk result ((xs : Values) → is_met xs literals.new ≡ (is_met xs literals.old || has values (slice_index xs subject))) }
-    ensures subjects { OnOk result ((n : ℕ) → subject < n → All (λ literal. literal.subject < n) literals.old → All (λ literal. literal.subject < n) literals.new) }
+    ensures met { OnOk result ((xs : Values)
+        → is_met xs literals.new
+        ≡ (is_met xs literals.old || has values (slice_index xs subject))) }
+    ensures subjects { OnOk result ((n : ℕ) → subject < n
+        → All (λ literal. literal.subject < n) literals.old
+        → All (λ literal. literal.subject < n) literals.new) }
 {
     if !values.is_empty() {
         literals.push(Literal { subject, values })?;

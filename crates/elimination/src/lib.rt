@@ -8,7 +8,7 @@ mod projection;
 mod row;
 mod rows;
 
-pub use convert::rows_of;
+pub use convert::least_rows_of;
 pub use gathering::gather;
 pub use projection::project;
 pub use row::{Row, is_open};

@@ -1,4 +1,4 @@
-ghost use Rattle.std.specs.Prelude.{◌≡◌, ℕ, true, ◌≤◌, ◌<◌, All, IfOk, Some, length, slice_index, slice_set, take};
+ghost use Rattle.std.specs.Prelude.{◌≡◌, ℕ, true, ◌≤◌, ◌<◌, All, IfOk, OnOk, Some, length, slice_index, slice_set, take};
 ghost use Rattle.std.specs.List.{list_all};
 ghost use Rattle.clause_form.specs.Clauses.{AreClauses};
 ghost use Rattle.elimination.specs.Partial.{Partial, IsWithin, HasOutside};
@@ -8,7 +8,7 @@ ghost use Rattle.elimination.specs.Projection.{IsProjection};
 use crate::convert::{clauses_of, first_sizes, rows_of};
 use crate::gathering::gather;
 use crate::row::Row;
-use crate::rows::{add_all, naming, others};
+use crate::rows::{add_all, keep_others, naming};
 use clause_form::Clauses;
 use std::alloc::{AllocError, Global};
 
@@ -22,52 +22,52 @@ pub fn project(alloc: Global, clauses: &Clauses, keep: u16) -> Result<Clauses, A
     ensures exact { IfOk result (IsProjection clauses.now keep) }
 {
     let rows = rows_of(alloc, clauses)?;
-    let kept = project_rows(
-        alloc,
-        clauses.sizes.as_slice(),
-        rows.as_slice(),
-        keep as usize,
-    )?;
+    let kept = project_rows(alloc, clauses.sizes.as_slice(), rows, keep as usize)?;
     let sizes = first_sizes(alloc, &clauses.sizes, keep)?;
     let clauses = clauses_of(alloc, kept.as_slice(), keep)?;
     Ok(Clauses { sizes, clauses })
 }
 
-/// The rows that may be true exactly where some values of the subjects from `keep` on make all rows true.
+// The rows that may be true exactly where some values of the subjects from `keep` on make all rows true.
 fn project_rows(
     alloc: Global,
     sizes: &[u8],
-    rows: &[Row],
+    mut rows: Vec<Row>,
     keep: usize,
 ) -> Result<Vec<Row>, AllocError>
     requires small { All (λ n. n ≤ 16) sizes.now }
     requires subject { keep ≤ length sizes.now }
-    requires wide { list_all (is_wide (length sizes.now)) rows.now ≡ true }
+    requires wide { list_all (is_wide (length sizes.now)) rows.items ≡ true }
     ensures wide { IfOk result (λ r. list_all (is_wide (length sizes.now)) r.items ≡ true) }
     ensures zero { IfOk result (λ r. (y : ℕ) → keep ≤ y → list_all (is_zero y) r.items ≡ true) }
-    ensures sound { IfOk result (λ r. (a : Partial) → IsWithin sizes.now a → HasOutside keep (length sizes.now) a → all_open a r.items ≡ true → CanMeet sizes.now rows.now keep (length sizes.now) a) }
-    ensures complete { IfOk result (λ r. (a : Partial) → IsWithin sizes.now a → CanMeet sizes.now rows.now keep (length sizes.now) a → all_open a r.items ≡ true) }
+    ensures sound { IfOk result (λ r. (a : Partial) → IsWithin sizes.now a
+        → HasOutside keep (length sizes.now) a → all_open a r.items ≡ true
+        → CanMeet sizes.now rows.items keep (length sizes.now) a) }
+    ensures complete { IfOk result (λ r. (a : Partial) → IsWithin sizes.now a
+        → CanMeet sizes.now rows.items keep (length sizes.now) a → all_open a r.items ≡ true) }
 {
-    let mut out = Vec::new(alloc);
-    add_all(alloc, sizes.len(), &mut out, rows)?;
     for x in keep..sizes.len() {
-        out = project_one(alloc, sizes, out.as_slice(), x)?;
+        project_one(alloc, sizes, &mut rows, x)?;
     }
-    Ok(out)
+    Ok(rows)
 }
 
-// What the rows say of the other subjects.
-fn project_one(alloc: Global, sizes: &[u8], rows: &[Row], x: usize) -> Result<Vec<Row>, AllocError>
+// Puts what the rows say of the other subjects in their place.
+fn project_one(alloc: Global, sizes: &[u8], rows: &mut Vec<Row>, x: usize) -> Result<(), AllocError>
     requires small { All (λ n. n ≤ 16) sizes.now }
     requires subject { x < length sizes.now }
-    requires wide { list_all (is_wide (length sizes.now)) rows.now ≡ true }
-    ensures wide { IfOk result (λ r. list_all (is_wide (length sizes.now)) r.items ≡ true) }
-    ensures zero { IfOk result (λ r. (y : ℕ) → list_all (λ row. is_zero y (fix_row x row)) rows.now ≡ true → list_all (is_zero y) r.items ≡ true) }
-    ensures open { IfOk result (λ r. (q : Partial) → IsWithin sizes.now q → all_open q r.items ≡ any_below (slice_index sizes.now x) (λ v. all_open (slice_set q x (Some v)) rows.now)) }
+    requires wide { list_all (is_wide (length sizes.now)) rows.old.items ≡ true }
+    ensures wide { OnOk result (list_all (is_wide (length sizes.now)) rows.new.items ≡ true) }
+    ensures zero { OnOk result ((y : ℕ)
+        → list_all (λ row. is_zero y (fix_row x row)) rows.old.items ≡ true
+        → list_all (is_zero y) rows.new.items ≡ true) }
+    ensures open { OnOk result ((q : Partial) → IsWithin sizes.now q
+        → all_open q rows.new.items ≡ any_below (slice_index sizes.now x) (λ v.
+        all_open (slice_set q x (Some v)) rows.old.items)) }
 {
-    let with = naming(alloc, rows, x)?;
-    let mut out = others(alloc, rows, x)?;
+    let with = naming(alloc, rows.as_slice(), x)?;
     let more = gather(alloc, sizes, with.as_slice(), x)?;
-    add_all(alloc, sizes.len(), &mut out, more.as_slice())?;
-    Ok(out)
+    keep_others(rows, x);
+    add_all(alloc, sizes.len(), rows, more.as_slice())?;
+    Ok(())
 }

@@ -9,8 +9,10 @@ use std::alloc::{AllocError, Global};
 /// Adds a row, unless an old one says as much, and drops those that say no more.
 pub fn add(rows: &mut Vec<Row>, row: Row) -> Result<(), AllocError>
     requires { list_all (is_wide (length row)) rows.old.items ≡ true }
-    ensures open { OnOk result ((q : Partial) → all_open q rows.new.items ≡ (all_open q rows.old.items && row_open q row)) }
-    ensures same { OnOk result ((p : Sets → Bool) → list_all p (row ∷ rows.old.items) ≡ true → list_all p rows.new.items ≡ true) }
+    ensures open { OnOk result ((q : Partial)
+        → all_open q rows.new.items ≡ (all_open q rows.old.items && row_open q row)) }
+    ensures same { OnOk result ((p : Sets → Bool) → list_all p (row ∷ rows.old.items) ≡ true
+        → list_all p rows.new.items ≡ true) }
 {
     if is_known(rows.as_slice(), &row) {
         return Ok(());
@@ -36,8 +38,10 @@ fn drop_weaker(rows: &mut Vec<Row>, row: &Row)
 pub fn add_all(alloc: Global, n: usize, rows: &mut Vec<Row>, more: &[Row]) -> Result<(), AllocError>
     requires rows { list_all (is_wide n) rows.old.items ≡ true }
     requires more { list_all (is_wide n) more.now ≡ true }
-    ensures open { OnOk result ((q : Partial) → all_open q rows.new.items ≡ (all_open q rows.old.items && all_open q more.now)) }
-    ensures same { OnOk result ((p : Sets → Bool) → list_all p rows.old.items ≡ true → list_all p more.now ≡ true → list_all p rows.new.items ≡ true) }
+    ensures open { OnOk result ((q : Partial)
+        → all_open q rows.new.items ≡ (all_open q rows.old.items && all_open q more.now)) }
+    ensures same { OnOk result ((p : Sets → Bool) → list_all p rows.old.items ≡ true
+        → list_all p more.now ≡ true → list_all p rows.new.items ≡ true) }
 {
     for row in more {
         add(rows, row.copy(alloc)?)?;
@@ -59,16 +63,15 @@ pub fn naming(alloc: Global, rows: &[Row], x: usize) -> Result<Vec<Row>, AllocEr
     Ok(out)
 }
 
-/// The rows that don't name the subject.
-pub fn others(alloc: Global, rows: &[Row], x: usize) -> Result<Vec<Row>, AllocError>
-    requires { list_all (is_in x) rows.now ≡ true }
-    ensures { IfOk result (λ r. r.items ≡ filter (is_zero x) rows.now) }
+/// Keeps the rows that don't name the subject.
+pub fn keep_others(rows: &mut Vec<Row>, x: usize)
+    ensures { rows.new.items ≡ filter (is_zero x) rows.old.items }
 {
-    let mut out = Vec::new(alloc);
-    for row in rows {
-        if row.get(x).is_empty() {
-            out.push(row.copy(alloc)?)?;
-        }
-    }
-    Ok(out)
+    rows.retain(|row| is_unnamed(row, x));
+}
+
+fn is_unnamed(row: &Row, x: usize) -> bool
+    ensures { result ≡ is_zero x row.now }
+{
+    x >= row.len() || row.get(x).is_empty()
 }

@@ -24,6 +24,7 @@ use Rattle.clause_form.specs.Clauses.{AreValues, all_met}
 use Rattle.clause_form.specs.Formulas.{is_asked, AreClausesOf}
 use Rattle.prime_implicants.specs.Primes.{IsBlocked, IsPrime, AreAllPrimes, AreMorePrimes}
 use Rattle.prime_implicants.proofs.PairLemmas.{all_of, one_of_each}
+use Rattle.prime_implicants.proofs.Counting.{not_among_fewer}
 use Rattle.prime_implicants.proofs.FoundLemmas.{list_all_if}
 use Rattle.elimination.proofs.RowLemmas.{and_parts, list_all_get}
 use Rattle.elimination.specs.Projection.{IsProjection}
@@ -275,3 +276,7 @@ many_ways m move states of a = record {
   primes = λ k d l. implicant_of m move states _ of (a.primes k d l);
   many = a.many;
 }
+
+-- there are not both few prime implicants and many
+pub not_many : (m : Automata) (move : Move) (cubes : List (List Pair)) → AreWays m move cubes → length cubes ≤ MAX_WAYS → HasManyWays m move → ⊥
+not_many m move cubes a few k = not_among_fewer k.cubes cubes MAX_WAYS k.in_order (λ i d l. (a.each (get_or k.cubes i d)).1 (k.primes i d l)) k.many few

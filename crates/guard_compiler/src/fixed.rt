@@ -19,7 +19,8 @@ pub fn with_value(
     requires subject { subject < length clauses.sizes }
     ensures clauses { IfOk result AreClauses }
     ensures sizes { IfOk result (λ r. r.sizes ≡ clauses.sizes) }
-    ensures met { IfOk result (λ r. (xs : Values) → length xs ≡ length clauses.sizes → all_met xs r.clauses ≡ all_met (slice_set xs subject value) clauses.clauses) }
+    ensures met { IfOk result (λ r. (xs : Values) → length xs ≡ length clauses.sizes
+        → all_met xs r.clauses ≡ all_met (slice_set xs subject value) clauses.clauses) }
 {
     let Clauses { sizes, clauses } = clauses;
     let mut others = List::new(alloc);
@@ -40,9 +41,13 @@ fn push_rest(
     value: u8,
     clauses: &mut List<Clause>,
 ) -> Result<(), AllocError>
-    ensures met { OnOk result ((xs : Values) → subject < length xs → all_met xs clauses.new ≡ (all_met xs clauses.old && meets (slice_set xs subject value) clause.now)) }
-    ensures subjects { OnOk result ((n : ℕ) → All (λ literal. literal.subject < n) clause.now.literals
-        → All (λ other. All (λ literal. literal.subject < n) other.literals) clauses.old → All (λ other. All (λ literal. literal.subject < n) other.literals) clauses.new) }
+    ensures met { OnOk result ((xs : Values) → subject < length xs
+        → all_met xs clauses.new
+        ≡ (all_met xs clauses.old && meets (slice_set xs subject value) clause.now)) }
+    ensures subjects { OnOk result ((n : ℕ)
+        → All (λ literal. literal.subject < n) clause.now.literals
+        → All (λ other. All (λ literal. literal.subject < n) other.literals) clauses.old
+        → All (λ other. All (λ literal. literal.subject < n) other.literals) clauses.new) }
 {
     if is_made_true(clause, subject, value) {
         return Ok(());
@@ -52,7 +57,8 @@ fn push_rest(
 }
 
 fn is_made_true(clause: &Clause, subject: u16, value: u8) -> bool
-    ensures { result ≡ list_any (λ literal. literal.subject == subject && has literal.values value) clause.now.literals }
+    ensures { result ≡ list_any (λ literal.
+        literal.subject == subject && has literal.values value) clause.now.literals }
 {
     clause.literals.as_slice().iter().any(|literal| literal.subject == subject
         && literal.values.has(value))
@@ -60,7 +66,8 @@ fn is_made_true(clause: &Clause, subject: u16, value: u8) -> bool
 
 // The clause without the subject's literals.
 fn without(alloc: Global, clause: &Clause, subject: u16) -> Result<Clause, AllocError>
-    ensures { IfOk result (λ r. r.literals ≡ filter (λ literal. not (literal.subject == subject)) clause.now.literals) }
+    ensures { IfOk result (λ r. r.literals ≡ filter (λ literal.
+        not (literal.subject == subject)) clause.now.literals) }
 {
     let mut literals = List::new(alloc);
     for literal in clause.literals.as_slice() {

@@ -1,7 +1,7 @@
-ghost use Rattle.std.specs.Prelude.{◌<◌, ◌≤◌, IfErr, IfOk, length};
+ghost use Rattle.std.specs.Prelude.{◌<◌, ◌≤◌, IfErr, IfOk, IsErr, length};
 ghost use Rattle.cca_base.specs.Accepted.{AreWays};
 ghost use Rattle.cca_base.specs.declared.limits.TheConstants.{MAX_WAYS};
-ghost use Rattle.guard_compiler.specs.Ways.{AtMove, IsStop};
+ghost use Rattle.guard_compiler.specs.Ways.{AtMove, HasManyWays, IsStop};
 
 use crate::fixed::with_value;
 use cca_base::{Cube, Detail, List, MAX_WAYS, Model, Refusal, Stop};
@@ -17,9 +17,11 @@ const MANY_WAYS: u8 = 10;
 /// other error is want of memory.
 pub fn ways(alloc: Global, model: &Model, move_number: u16) -> Result<List<Cube>, Stop>
     requires { move_number < length model.now.moves }
-    ensures ways { IfOk result (λ cubes. AtMove model.now move_number (λ move. AreWays model.now move cubes)) }
+    ensures ways { IfOk result (λ cubes. AtMove model.now move_number (λ move.
+        AreWays model.now move cubes)) }
     ensures few { IfOk result (λ cubes. length cubes ≤ MAX_WAYS) }
     ensures refused { IfErr result (IsStop model.now move_number) }
+    ensures many { AtMove model.now move_number (λ move. HasManyWays model.now move → IsErr result) }
 {
     let the_move = model.moves().get(move_number as usize);
     let asked = clauses_of(alloc, model, None, Some(&the_move.guard))?;

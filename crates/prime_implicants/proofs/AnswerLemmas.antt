@@ -15,6 +15,7 @@ use Rattle.prime_implicants.specs.Primes.{IsPrime, AreAllPrimes, AreMorePrimes}
 use Rattle.prime_implicants.proofs.ChoiceLemmas.{AreComplete, prime_if, found_if, below_size, passes_below, find_false, row_open-drop}
 use Rattle.prime_implicants.proofs.PairLemmas.{pair_of, given_pairs, values_in, some_inside, below_or_not}
 use Rattle.prime_implicants.proofs.PrimeLemmas.{AreRowsOf, inside, cube_is_prime, partial_is_prime, cube_again}
+use Rattle.prime_implicants.proofs.Counting.{not_among_fewer}
 use Rattle.prime_implicants.proofs.ListedLemmas.{most_true}
 use Rattle.prime_implicants.proofs.FoundLemmas.{StandsFor, each_stands, is_a_key, in_order, pairs_of_key-key_of}
 
@@ -129,3 +130,7 @@ more_primes clauses first rows most a m = record {
   primes = all_from (IsPrime clauses) (cubes_of_keys m.0) (λ cube h. prime_of_cube clauses first rows m.0 cube a m.3 h);
   many = omega (arith, length-cubes m.0, m.1);
 }
+
+-- there are not both at most so many prime cubes and more
+pub not_more : (clauses : Clauses) (most : ℕ) (cubes : List (List Pair)) → AreAllPrimes clauses most cubes → AreMorePrimes clauses most → ⊥
+not_more clauses most cubes a m = not_among_fewer m.cubes cubes most m.in_order (λ k d l. (a.each (get_or m.cubes k d)).1 (m.primes k d l)) m.many a.few

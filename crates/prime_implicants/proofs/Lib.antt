@@ -6,3 +6,4 @@ pub mod ListedLemmas
 pub mod PrimeLemmas
 pub mod FoundLemmas
 pub mod AnswerLemmas
+pub mod Counting

@@ -32,7 +32,12 @@ pub record AreMorePrimes (clauses : Clauses) (most : ℕ) : Type 0 where
   pub primes : All (IsPrime clauses) cubes
   pub many : most < length cubes
 
--- all prime cubes where there are at most so many, and else that there are more
-abbrev pub IsAnswer : Clauses → ℕ → Primes → Type 0
-IsAnswer clauses most (Every cubes) = AreAllPrimes clauses most cubes
-IsAnswer clauses most More = AreMorePrimes clauses most
+-- a fact of the cubes, where they are answered
+abbrev pub IfEvery : Primes → (List (List Pair) → Type 0) → Type 0
+IfEvery (Every cubes) P = P cubes
+IfEvery More P = Unit {0}
+
+-- the answer is that there are more
+abbrev pub IsMore : Primes → Type 0
+IsMore (Every cubes) = ⊥
+IsMore More = Unit {0}

@@ -19,9 +19,13 @@ pub fn all_minimal(
     most: usize,
 ) -> Result<Option<Found>, AllocError>
     requires { list_all (is_wide (length sizes.now)) rows.now ≡ true }
-    ensures sound { IfOk result (λ o. IfSome o (λ f. (t : Key → Bool) → ((p : Partial) → IsFoundable sizes.now rows.now p → t (key_of p) ≡ true) → all_keys t f.keys ≡ true)) }
-    ensures every { IfOk result (λ o. IfSome o (λ f. (p : Partial) → IsFoundable sizes.now rows.now p → (t : Key → Bool) → all_keys t f.keys ≡ true → t (key_of p) ≡ true)) }
-    ensures more { IfOk result (λ o. MatchOption o (AreMany sizes.now rows.now most) (λ f. Unit {0})) }
+    ensures sound { IfOk result (λ o. IfSome o (λ f. (t : Key → Bool) → ((p : Partial)
+        → IsFoundable sizes.now rows.now p → t (key_of p) ≡ true) → all_keys t f.keys ≡ true)) }
+    ensures every { IfOk result (λ o. IfSome o (λ f. (p : Partial)
+        → IsFoundable sizes.now rows.now p → (t : Key → Bool) → all_keys t f.keys ≡ true
+        → t (key_of p) ≡ true)) }
+    ensures more { IfOk result (λ o. MatchOption o (AreMany sizes.now rows.now most) (λ f.
+        Unit {0})) }
     ensures few { IfOk result (λ o. IfSome o (λ f. btree_set_len f ≤ most)) }
     ensures ordered { IfOk result (λ o. IfSome o (λ f. AreOrdered f.keys)) }
 {
@@ -48,9 +52,13 @@ fn choose_row(
     most: usize,
 ) -> Result<(), AllocError>
     requires { length row.now ≡ length sizes.now }
-    ensures sound { OnOk result ((t : Key → Bool) → all_keys t found.old.keys ≡ true → ((p : Partial) → IsFoundable sizes.now rows.now p → t (key_of p) ≡ true) → all_keys t found.new.keys ≡ true) }
-    ensures grown { OnOk result ((t : Key → Bool) → all_keys t found.new.keys ≡ true → all_keys t found.old.keys ≡ true) }
-    ensures found { OnOk result (btree_set_len found.new ≤ most → (p : Partial) → IsFoundable sizes.now rows.now p → IsChoiceFrom 0 row.now p
+    ensures sound { OnOk result ((t : Key → Bool) → all_keys t found.old.keys ≡ true
+        → ((p : Partial) → IsFoundable sizes.now rows.now p → t (key_of p) ≡ true)
+        → all_keys t found.new.keys ≡ true) }
+    ensures grown { OnOk result ((t : Key → Bool) → all_keys t found.new.keys ≡ true
+        → all_keys t found.old.keys ≡ true) }
+    ensures found { OnOk result (btree_set_len found.new ≤ most → (p : Partial)
+        → IsFoundable sizes.now rows.now p → IsChoiceFrom 0 row.now p
         → (t : Key → Bool) → all_keys t found.new.keys ≡ true → t (key_of p) ≡ true) }
 {
     let mut q = nothing(alloc, sizes.len())?;
@@ -80,9 +88,13 @@ fn choose(
     requires wide { length row.now ≡ length q.old }
     requires free { (i : ℕ) → at ≤ i → i < length q.old → slice_index_or q.old i None ≡ None }
     ensures same { OnOk result (q.new ≡ q.old) }
-    ensures sound { OnOk result ((t : Key → Bool) → all_keys t found.old.keys ≡ true → ((p : Partial) → IsFoundable sizes.now rows.now p → t (key_of p) ≡ true) → all_keys t found.new.keys ≡ true) }
-    ensures grown { OnOk result ((t : Key → Bool) → all_keys t found.new.keys ≡ true → all_keys t found.old.keys ≡ true) }
-    ensures found { OnOk result (btree_set_len found.new ≤ most → (p : Partial) → IsFoundable sizes.now rows.now p → AgreesTo at q.old p → IsChoiceFrom at row.now p
+    ensures sound { OnOk result ((t : Key → Bool) → all_keys t found.old.keys ≡ true
+        → ((p : Partial) → IsFoundable sizes.now rows.now p → t (key_of p) ≡ true)
+        → all_keys t found.new.keys ≡ true) }
+    ensures grown { OnOk result ((t : Key → Bool) → all_keys t found.new.keys ≡ true
+        → all_keys t found.old.keys ≡ true) }
+    ensures found { OnOk result (btree_set_len found.new ≤ most → (p : Partial)
+        → IsFoundable sizes.now rows.now p → AgreesTo at q.old p → IsChoiceFrom at row.now p
         → (t : Key → Bool) → all_keys t found.new.keys ≡ true → t (key_of p) ≡ true) }
 {
     if !is_open(q, rows) {

@@ -12,7 +12,8 @@ pub type Found = BTreeSet<Vec<usize>>;
 
 /// Adds a key, unless it is there.
 pub fn add_key(found: &mut Found, key: Vec<usize>) -> Result<(), AllocError>
-    ensures { OnOk result ((t : Key → Bool) → all_keys t found.new.keys ≡ (all_keys t found.old.keys && t key.items)) }
+    ensures { OnOk result ((t : Key → Bool)
+        → all_keys t found.new.keys ≡ (all_keys t found.old.keys && t key.items)) }
 {
     found.insert(key)?;
     Ok(())

@@ -13,9 +13,13 @@ pub fn add_minimal(
     found: &mut Found,
 ) -> Result<(), AllocError>
     ensures same { q.new ≡ q.old }
-    ensures sound { OnOk result ((t : Key → Bool) → all_keys t found.old.keys ≡ true → (all_below (length q.old) (is_needed rows.now q.old) ≡ true → t (key_of q.old) ≡ true) → all_keys t found.new.keys ≡ true) }
-    ensures grown { OnOk result ((t : Key → Bool) → all_keys t found.new.keys ≡ true → all_keys t found.old.keys ≡ true) }
-    ensures found { OnOk result (all_below (length q.old) (is_needed rows.now q.old) ≡ true → (t : Key → Bool) → all_keys t found.new.keys ≡ true → t (key_of q.old) ≡ true) }
+    ensures sound { OnOk result ((t : Key → Bool) → all_keys t found.old.keys ≡ true
+        → (all_below (length q.old) (is_needed rows.now q.old) ≡ true → t (key_of q.old) ≡ true)
+        → all_keys t found.new.keys ≡ true) }
+    ensures grown { OnOk result ((t : Key → Bool) → all_keys t found.new.keys ≡ true
+        → all_keys t found.old.keys ≡ true) }
+    ensures found { OnOk result (all_below (length q.old) (is_needed rows.now q.old) ≡ true
+        → (t : Key → Bool) → all_keys t found.new.keys ≡ true → t (key_of q.old) ≡ true) }
 {
     if is_minimal(rows, q) {
         add_key(found, make_key(alloc, q)?)?;

@@ -7,8 +7,8 @@ use Rattle.elimination.proofs.projection.project_rows.Given as goal
 abbrev pub invariant-loop-x : goal.invariant-loop-x
 invariant-loop-x l =
     record {
-      wide : list_all (is_wide (length l.sizes)) l.out.items ≡ true;
-      zero : (y : ℕ) → l.keep ≤ y → y < l.x → list_all (is_zero y) l.out.items ≡ true;
-      sound : (a : Partial) → IsWithin l.sizes a → HasOutside l.keep l.x a → all_open a l.out.items ≡ true → CanMeet l.sizes l.rows l.keep l.x a;
-      complete : (a : Partial) → IsWithin l.sizes a → CanMeet l.sizes l.rows l.keep l.x a → all_open a l.out.items ≡ true;
+      wide : list_all (is_wide (length l.sizes)) l.rows.items ≡ true;
+      zero : (y : ℕ) → l.keep ≤ y → y < l.x → list_all (is_zero y) l.rows.items ≡ true;
+      sound : (a : Partial) → IsWithin l.sizes a → HasOutside l.keep l.x a → all_open a l.rows.items ≡ true → CanMeet l.sizes l.initial.rows.items l.keep l.x a;
+      complete : (a : Partial) → IsWithin l.sizes a → CanMeet l.sizes l.initial.rows.items l.keep l.x a → all_open a l.rows.items ≡ true;
     }

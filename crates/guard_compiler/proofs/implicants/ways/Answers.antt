@@ -1,4 +1,4 @@
-use Rattle.std.proofs.Common.{rules, arith, ◌≡◌, ◌∙◌, length, ap, sym, subst, slice_get, Some, refl, true}
+use Rattle.std.proofs.Common.{rules, arith, ◌≡◌, ◌≤◌, ◌∙◌, length, ap, sym, subst, slice_get, Some, refl, true}
 use Rattle.cca_base.specs.declared.model.Move.{Move}
 use Rattle.cca_base.specs.Formula.{is_within}
 use Rattle.cca_base.specs.Model.{IsMove}
@@ -6,7 +6,7 @@ use Rattle.cca_base.specs.Accepted.{AreWays}
 use Rattle.cca_base.specs.declared.limits.TheConstants.{MAX_WAYS}
 use Rattle.guard_compiler.specs.Ways.{HasManyWays}
 use Rattle.cca_base.proofs.Members.{some_inj}
-use Rattle.guard_compiler.proofs.MeaningLemmas.{AreSteps, move_of, guard_within, component_inside, states_of, all_ways, many_ways}
+use Rattle.guard_compiler.proofs.MeaningLemmas.{AreSteps, move_of, guard_within, component_inside, states_of, all_ways, many_ways, not_many}
 use Rattle.guard_compiler.proofs.implicants.ways.Goals as goal
 
 pub clauses_of-requires-clause-denied : goal.clauses_of-requires-clause-denied
@@ -39,7 +39,7 @@ returns-in-Every-clause-ways c = λ move h.
       projects = c.in_ok-states.ensures.exact;
     } in
     let states = states_of m the_move c.in_ok-asked.asked c.in_ok-fixed.fixed c.in_ok-states.states c.len.result steps in
-    subst (λ z. AreWays m z c.in-Every.cubes) same (all_ways m the_move c.in_ok-states.states MAX_WAYS c.in-Every.cubes states (rw c.in-Every.is at c.in_ok-cubes.ensures))
+    subst (λ z. AreWays m z c.in-Every.cubes) same (all_ways m the_move c.in_ok-states.states MAX_WAYS c.in-Every.cubes states (rw c.in-Every.is at c.in_ok-cubes.ensures.every))
 
 pub returns-clause-refused : goal.returns-clause-refused
 returns-clause-refused c = (
@@ -59,5 +59,10 @@ returns-clause-refused c = (
         projects = c.in_ok-states.ensures.exact;
       } in
       let states = states_of m the_move c.in_ok-asked.asked c.in_ok-fixed.fixed c.in_ok-states.states c.len.result steps in
-      subst (HasManyWays m) same (many_ways m the_move c.in_ok-states.states states (rw c.in-More.is at c.in_ok-cubes.ensures)),
+      subst (HasManyWays m) same (many_ways m the_move c.in_ok-states.states states ((rw c.in-More.is at c.in_ok-cubes.ensures.more).0 tt)),
 )
+
+pub returns-in-Every-clause-many : goal.returns-in-Every-clause-many
+returns-in-Every-clause-many c = λ move h k.
+    let few : length c.in-Every.cubes ≤ MAX_WAYS = (rw c.in-Every.is at c.in_ok-cubes.ensures.every).few in
+    absurd (not_many c.args.model.now move c.in-Every.cubes (returns-in-Every-clause-ways c move h) few k)
