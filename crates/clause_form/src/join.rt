@@ -21,6 +21,16 @@ fn is_absorbed(clauses: &[Clause], literals: &[Literal]) -> bool
     false
 }
 
+/// Whether this clause absorbs one of the others.
+fn absorbs_some(literals: &[Literal], clauses: &[Clause]) -> bool {
+    for clause in clauses {
+        if absorbs(literals, clause.literals.as_slice()) {
+            return true;
+        }
+    }
+    false
+}
+
 /// The clauses that this one does not absorb.
 fn without_absorbed(
     alloc: Global,
@@ -31,6 +41,9 @@ fn without_absorbed(
     ensures fewer { IfOk result (λ r. (xs : List ℕ) → IsTrue (all_met xs clauses.items) → IsTrue (all_met xs r.items)) }
     ensures below { IfOk result (λ r. (n : ℕ) → AllBelow n clauses.items → AllBelow n r.items) }
 {
+    if !absorbs_some(literals, &clauses) {
+        return Ok(clauses);
+    }
     let mut kept = Vec::new(alloc);
     for clause in clauses {
         if !absorbs(literals, clause.literals.as_slice()) {
