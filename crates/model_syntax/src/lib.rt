@@ -1,0 +1,11 @@
+//! The text of models: each line gives its item or its least code, and what is printed is read back as the same model.
+#![tactic(auto)]
+
+mod atom;
+mod formula;
+mod level;
+mod lookup;
+mod machine;
+mod parts;
+mod reading;
+mod steps;
