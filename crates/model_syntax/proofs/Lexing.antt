@@ -23,7 +23,7 @@ cond_either false x y z e f g = g refl e
 pub some_is : {A : Type 0} (x y : A) → Some x ≡ Some y → x ≡ y
 some_is x y e = cc
 
-kind_is : (a b : Kind) → same_kind a b ≡ true → a ≡ b
+pub kind_is : (a b : Kind) → same_kind a b ≡ true → a ≡ b
 kind_is Word Word e = refl
 kind_is Number Number e = refl
 kind_is Symbol Symbol e = refl

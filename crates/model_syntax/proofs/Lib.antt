@@ -6,3 +6,5 @@ pub mod Sound
 pub mod Comparisons
 pub mod Verdicts
 pub mod FormulaLemmas
+pub mod ListGrammar
+pub mod ItemGrammar

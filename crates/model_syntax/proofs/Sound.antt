@@ -12,7 +12,8 @@ use Rattle.model_syntax.specs.declared.machine.Level.{Level}
 use Rattle.model_syntax.specs.declared.machine.Place.TheVariants.{Operand, Operator, Named, Compared, Opened, Listed, Followed}
 use Rattle.model_syntax.specs.Grammar.{NameWord, Factor, Conjunction, Disjunction, Whole, True, False, Equal, Differs, In, Not, Parens, Single, And, Case, Or, Plain, Implies, Iff, name_word, values_spelled, factor_spelled, conjunction_spelled, disjunction_spelled, whole_spelled}
 use Rattle.model_syntax.specs.Readings.{any_of, all_of, named, with_value, enclosed}
-use Rattle.model_syntax.specs.Machine.{State, start, nots, more_or_one, completed, level_read, against, step, ended, run, link_from, close_from, ◌>>=◌}
+use Rattle.model_syntax.specs.Chain.{◌>>=◌}
+use Rattle.model_syntax.specs.Machine.{State, start, nots, more_or_one, completed, level_read, against, step, ended, run, link_from, close_from}
 use Rattle.model_syntax.proofs.TextReadings.{with_values, factor_read, conjunction_read, disjunction_read, whole_read}
 use Rattle.model_syntax.proofs.Complete.{here, level}
 use Rattle.model_syntax.proofs.Lexing.{cond_either, some_is, lexeme_is, name_word_is}

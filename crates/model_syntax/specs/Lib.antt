@@ -1,4 +1,6 @@
+pub mod Chain
 pub mod Grammar
+pub mod Items
 pub mod Lookups
 pub mod Readings
 pub mod Machine

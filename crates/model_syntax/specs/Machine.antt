@@ -15,13 +15,8 @@ use Rattle.model_syntax.specs.declared.machine.Level.{Level}
 use Rattle.model_syntax.specs.declared.machine.Place.{Place}
 use Rattle.model_syntax.specs.declared.machine.Place.TheVariants.{Operand, Operator, Named, Compared, Opened, Listed, Followed}
 use Rattle.model_syntax.specs.declared.machine.Machine.{Machine}
+use Rattle.model_syntax.specs.Chain.{◌>>=◌}
 use Rattle.model_syntax.specs.Readings.{negated, enclosed, linked, one, more, all_of, any_of, named, with_value, among}
-
--- reading goes on where something was read
-infixl 10 ◌>>=◌
-abbrev pub ◌>>=◌ : {A B : Type 0} → Option A → (A → Option B) → Option B
-(Some x) >>= f = f x
-None >>= f = None
 
 -- what was read so far: the levels around this one, innermost first, this level, and what comes next
 pub record State : Type 0 where

@@ -3,6 +3,7 @@
 
 mod atom;
 mod formula;
+mod item;
 mod level;
 mod lookup;
 mod machine;
