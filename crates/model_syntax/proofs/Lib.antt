@@ -8,3 +8,7 @@ pub mod Verdicts
 pub mod FormulaLemmas
 pub mod ListGrammar
 pub mod ItemGrammar
+pub mod PositionLemmas
+pub mod EndLemmas
+pub mod NamesLemmas
+pub mod AdditionLemmas

@@ -1,6 +1,8 @@
 pub mod Chain
+pub mod Codes
 pub mod Grammar
 pub mod Items
+pub mod Lines
 pub mod Lookups
 pub mod Readings
 pub mod Machine

@@ -11,7 +11,7 @@ use Rattle.cca_base.specs.Sets.{with_number}
 use Rattle.text_base.specs.Lexemes.{Lexeme}
 use Rattle.model_syntax.specs.declared.reading.Reading.{Reading}
 use Rattle.model_syntax.specs.declared.reading.Reading.TheVariants.{Sound, Faulty}
-use Rattle.model_syntax.specs.declared.reading.TheConstants.{NAME_UNKNOWN, NAME_REPEATED, LIMIT}
+use Rattle.model_syntax.specs.declared.codes.TheConstants.{NAME_UNKNOWN, NAME_REPEATED, LIMIT}
 use Rattle.model_syntax.specs.Grammar.{NameWord, Factor, Conjunction, Disjunction, Whole, True, False, Equal, Differs, In, Not, Parens, Single, And, Case, Or, Plain, Implies, Iff, spelling}
 use Rattle.model_syntax.specs.Lookups.{subject_of, value_of}
 

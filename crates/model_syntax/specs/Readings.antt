@@ -14,7 +14,7 @@ use Rattle.model_syntax.specs.declared.atom.Atom.{Atom}
 use Rattle.model_syntax.specs.declared.atom.Atom.TheVariants.{Known, Unknown}
 use Rattle.model_syntax.specs.declared.machine.Link.{Link}
 use Rattle.model_syntax.specs.declared.machine.Link.TheVariants as link
-use Rattle.model_syntax.specs.declared.reading.TheConstants.{NAME_UNKNOWN, NAME_REPEATED, LIMIT}
+use Rattle.model_syntax.specs.declared.codes.TheConstants.{NAME_UNKNOWN, NAME_REPEATED, LIMIT}
 use Rattle.model_syntax.specs.Lookups.{subject_of, value_of}
 
 -- the formula, one deeper than its parts

@@ -1,7 +1,8 @@
 ghost use Rattle.std.specs.Prelude.{◌≡◌};
 ghost use Rattle.model_syntax.specs.Readings.{among};
 
-use crate::reading::{NAME_REPEATED, NAME_UNKNOWN, Reading};
+use crate::codes::{NAME_REPEATED, NAME_UNKNOWN};
+use crate::reading::Reading;
 use cca_base::{Formula, Subject, ValueSet};
 
 /// A part of a formula about one subject, while its values are read.

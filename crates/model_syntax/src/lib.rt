@@ -1,7 +1,10 @@
 //! The text of models: each line gives its item or its least code, and what is printed is read back as the same model.
 #![tactic(auto)]
 
+mod additions;
 mod atom;
+mod checks;
+mod codes;
 mod formula;
 mod item;
 mod level;

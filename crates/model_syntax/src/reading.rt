@@ -1,18 +1,10 @@
 ghost use Rattle.std.specs.Prelude.{◌≡◌, ◌≤◌, IfOk};
 ghost use Rattle.model_syntax.specs.Readings.{deeper, negated, enclosed, linked};
 
+use crate::codes::LIMIT;
 use crate::machine::Link;
 use cca_base::{Boxed, Formula, MAX_DEPTH};
 use std::alloc::{AllocError, Global};
-
-/// The code of a name that is not declared.
-pub const NAME_UNKNOWN: u8 = 2;
-
-/// The code of a name that stands twice in a list, or is declared already.
-pub const NAME_REPEATED: u8 = 3;
-
-/// The code of a limit that is passed.
-pub const LIMIT: u8 = 4;
 
 /// What a part of a formula's text says.
 #[derive(Drop)]
