@@ -12,3 +12,5 @@ pub mod PositionLemmas
 pub mod EndLemmas
 pub mod NamesLemmas
 pub mod AdditionLemmas
+pub mod TextFormulas
+pub mod TextDepths

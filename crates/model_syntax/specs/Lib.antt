@@ -4,6 +4,7 @@ pub mod Grammar
 pub mod Items
 pub mod Lines
 pub mod Lookups
+pub mod ReadCodes
 pub mod Readings
 pub mod Machine
 pub mod Meanings
