@@ -36,10 +36,10 @@ pub not_parts : (b : Bool) → not b ≡ false → b ≡ true
 not_parts true e = refl
 not_parts false e = absurd cc
 
-below : (a b : ℕ) → nat_le a b ≡ false → b < a
+pub below : (a b : ℕ) → nat_le a b ≡ false → b < a
 below a b e = grind (arith, nat_tests)
 
-at_most : (a b : ℕ) → nat_lt a b ≡ false → b ≤ a
+pub at_most : (a b : ℕ) → nat_lt a b ≡ false → b ≤ a
 at_most a b e = grind (arith, nat_tests)
 
 -- ---- names

@@ -14,3 +14,6 @@ pub mod NamesLemmas
 pub mod AdditionLemmas
 pub mod TextFormulas
 pub mod TextDepths
+pub mod ReadLemmas
+pub mod FailureLemmas
+pub mod MoveLemmas

@@ -66,9 +66,9 @@ pub record IsNextOfText (ls : List Lexeme) (f : Whole → Next) (next : Next) : 
   pub or_none : ((text : Whole) × (ls ≡ spelling text)) ⊎ (((text : Whole) → ls ≢ spelling text) × (next ≡ Refused MALFORMED))
 
 -- the digits are a number of at most 128 bits, which leads there; or they are none, and the line is malformed
-pub record IsNextOfNumber (digits : List ℕ) (f : ℕ → Next) (next : Next) : Type 0 where
-  pub of_number : (n : ℕ) → n < 2 ^ 128 → digits ≡ decimal n → next ≡ f n
-  pub or_none : ((n : ℕ) × (n < 2 ^ 128) × (digits ≡ decimal n)) ⊎ (((n : ℕ) → n < 2 ^ 128 → digits ≢ decimal n) × (next ≡ Refused MALFORMED))
+abbrev pub IsNextOfNumber : List ℕ → (ℕ → Next) → Next → Type 0
+IsNextOfNumber digits f next =
+    ((n : ℕ) × (n < 2 ^ 128) × (digits ≡ decimal n) × (next ≡ f n)) ⊎ (((n : ℕ) → n < 2 ^ 128 → digits ≢ decimal n) × (next ≡ Refused MALFORMED))
 
 -- what an item of the model leads to
 abbrev pub IsNextOfItem : Automata → Item → Next → Type 0

@@ -36,3 +36,7 @@ value_of m subject text = place_of (choices_of m subject) text
 -- the map has each name's subject
 abbrev pub NamesFit : IndexMap (List ℕ) Subject (BuildHasherDefault FoldHasher) → Automata → Type 0
 NamesFit names m = (name : List ℕ) → get (pointwise nat_eq) names name ≡ subject_of m name
+
+-- the map has each command's number
+abbrev pub NumbersFit : IndexMap (List ℕ) ℕ (BuildHasherDefault FoldHasher) → List (List ℕ) → Type 0
+NumbersFit numbers commands = (name : List ℕ) → get (pointwise nat_eq) numbers name ≡ place_of commands name

@@ -5,6 +5,7 @@ mod additions;
 mod atom;
 mod checks;
 mod codes;
+mod faults;
 mod formula;
 mod item;
 mod level;
