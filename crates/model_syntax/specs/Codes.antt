@@ -121,10 +121,13 @@ abbrev pub is_unmarked_exit : List Move → Move → Bool
 is_unmarked_exit moves x =
     (not x.repair && is_broken moves x.component x.source) || (x.repair && list_any (leaves_unmarked x.component x.source) moves)
 
+-- the move repairs the mode, and leads to another mode than this
+abbrev pub mends_elsewhere : ℕ → ℕ → ℕ → Move → Bool
+mends_elsewhere c mode mended move = move.repair && ((move.component == c && move.source == mode) && not (move.target == mended))
+
 -- an earlier repair of the repair's source leads to another mode
 abbrev pub mends_twice : List Move → Move → Bool
-mends_twice moves x =
-    x.repair && list_any (λ y. y.repair && ((y.component == x.component && y.source == x.source) && not (y.target == x.target))) moves
+mends_twice moves x = x.repair && list_any (mends_elsewhere x.component x.source x.target) moves
 
 -- the least code of a move between modes that are known
 abbrev pub move_faults : Automata → Move → List (ℕ × Bool)

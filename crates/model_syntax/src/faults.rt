@@ -1,7 +1,7 @@
 ghost use Rattle.std.specs.Prelude.{◌≡◌, ◌∷◌, ◌++◌, [], ◌||◌, nat_le, length};
 ghost use Rattle.std.specs.List.{list_any};
 ghost use Rattle.cca_base.specs.Model.{WellFormed};
-ghost use Rattle.model_syntax.specs.Codes.{least, is_long, leads_to, leaves_unmarked, is_ambiguous, is_into_broken, is_unmarked_exit, mends_twice, move_faults};
+ghost use Rattle.model_syntax.specs.Codes.{least, is_long, leads_to, leaves_unmarked, is_ambiguous, is_into_broken, is_unmarked_exit, mends_elsewhere, mends_twice, move_faults};
 ghost use Rattle.model_syntax.specs.declared.codes.TheConstants.{LIMIT as limit_code};
 
 use crate::checks::is_long;
@@ -50,14 +50,18 @@ fn is_unmarked_exit(model: &Model, x: &Move) -> bool
     }
 }
 
+/// Whether a repair of the mode leads to another mode than this.
+fn is_mended_elsewhere(moves: &[Move], c: u16, mode: u8, mended: u8) -> bool
+    ensures { result ≡ list_any (mends_elsewhere c mode mended) moves.now }
+{
+    moves.iter().any(|y| y.repair && ((y.component == c && y.source == mode) && y.target != mended))
+}
+
 /// Whether an earlier repair of the repair's source leads to another mode.
 fn mends_twice(moves: &[Move], x: &Move) -> bool
     ensures { result ≡ mends_twice moves.now x.now }
 {
-    x.repair
-        && moves.iter().any(|y| {
-            y.repair && ((y.component == x.component && y.source == x.source) && y.target != x.target)
-        })
+    x.repair && is_mended_elsewhere(moves, x.component, x.source, x.target)
 }
 
 /// The least code of a move between modes that are known, and whose guard is sound.
