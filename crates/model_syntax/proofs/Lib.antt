@@ -17,3 +17,4 @@ pub mod TextDepths
 pub mod ReadLemmas
 pub mod FailureLemmas
 pub mod MoveLemmas
+pub mod CommandLemmas

@@ -35,10 +35,10 @@ name_short name h =
     let q = and_parts (nat_le (length name) MAX_NAME) (not (is_reserved name)) p.1 in
     leb-true (length name) MAX_NAME q.0
 
-abbrev AllNamed : List (List ℕ) → Type 0
+abbrev pub AllNamed : List (List ℕ) → Type 0
 AllNamed names = All (λ name. IsTrue (is_name name)) names
 
-not_long : (name text : List ℕ) → IsTrue (is_name name) → 32 < length text → bytes_eq name text ≡ false
+pub not_long : (name text : List ℕ) → IsTrue (is_name name) → 32 < length text → bytes_eq name text ≡ false
 not_long name text h long = different_text name text (λ e. let short = name_short name h in omega (arith, short, ap length e))
 
 none_long : {X : Type 0} (f : X → List ℕ) (text : List ℕ) (xs : List X) (ys : List (List ℕ)) → 32 < length text → AllNamed (map f xs ++ ys) → All (λ x. bytes_eq (f x) text ≡ false) xs

@@ -202,7 +202,7 @@ module _ (m : Automata) (x : Move) (command : List ℕ) (w : WellFormed m) (may 
         let is : x.command ≡ k = number ∙ ap (λ o. unwrap_or o (length m.commands)) e in
         omega (arith, within, is)
 
-    number_new : place_of m.commands command ≡ None → x.command ≡ length m.commands
+    pub number_new : place_of m.commands command ≡ None → x.command ≡ length m.commands
     number_new e = number ∙ ap (λ o. unwrap_or o (length m.commands)) e
 
     pub old_move_kept : (k : ℕ) → place_of m.commands command ≡ Some k → WellFormed (with_move m x)
@@ -294,3 +294,9 @@ new_complete m x command e h k within =
       | inl old ↦ used_push m.moves x k (inl (h k old))
       | inr new ↦ used_push m.moves x k (inr (omega (arith, e, new, longer, within)))
     ]
+
+-- the last of one more command is used by no move
+pub unused_last : (m : Automata) (command : List ℕ) → WellFormed m → is_used m.moves (length (m.commands ++ command ∷ []) - 1) ≡ false
+unused_last m command w =
+    let n : length (m.commands ++ command ∷ []) - 1 ≡ length m.commands = omega (arith, length_push m.commands command) in
+    ap (is_used m.moves) n ∙ unused_next m w

@@ -12,6 +12,7 @@ mod level;
 mod lines;
 mod lookup;
 mod machine;
+mod moves;
 mod parts;
 mod reading;
 mod refused;
