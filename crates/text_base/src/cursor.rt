@@ -24,7 +24,7 @@ pub fn is_lexeme(token: &Token, kind: Kind, text: &[u8]) -> bool
 }
 
 /// Whether the token is a word that may stand in place of a name, however long it is.
-fn is_name_word(token: &Token) -> bool
+pub fn is_name_word(token: &Token) -> bool
     ensures { result ≡ is_name_word (lexeme_of token.now) }
 {
     same_kind(token.kind, Kind::Word) && !is_reserved(token.text)

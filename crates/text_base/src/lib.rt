@@ -8,7 +8,7 @@ mod name;
 mod number;
 mod token;
 
-pub use cursor::{is_lexeme, name_word_at, names_at, next_is};
+pub use cursor::{is_lexeme, is_name_word, name_word_at, names_at, next_is};
 pub use name::{is_reserved, read_name};
 pub use number::read_number;
 pub use token::{

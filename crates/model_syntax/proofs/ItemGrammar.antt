@@ -1,0 +1,265 @@
+-- An item is read from its spelling, and from nothing else.
+use Rattle.std.proofs.Common.{◌≡◌, ℕ, Bool, true, false, cond, codes, List, [], ◌∷◌, ◌++◌, Option, Some, None, refl, sym, ap, subst, ◌∙◌, arith}
+use Rattle.text_base.specs.Lexemes.{Lexeme, word, number, symbol, comma, is_lexeme, next_is, name_word_at, names_at}
+use Rattle.model_syntax.specs.Chain.{◌>>=◌}
+use Rattle.model_syntax.specs.Items.{Ends, Item, Header, Component, Variable, Rule, Move, Failure, Script, ended, number_at, ends_at, header_at, component_at, sensed_at, variable_at, move_at, failure_at, item_of, list_spelled, names_spelled, ends_spelled, sensed_spelled, move_word, line_spelled, AreNameWords, IsSpelled}
+use Rattle.model_syntax.proofs.Lexing.{cond_either, some_is, lexeme_is}
+use Rattle.model_syntax.proofs.ListGrammar.{bind_some, then, next_read, cond_some, after, reads_name, name_read, reads_names, names_read, number_read}
+
+abbrev equals_sign : Lexeme
+equals_sign = symbol (codes "=")
+
+abbrev arrow : Lexeme
+arrow = symbol (codes "->")
+
+ended_read : (x y : Item) (ls : List Lexeme) → ended x ls ≡ Some y → (ls ≡ []) × (x ≡ y)
+ended_read x y [] e = (refl, some_is x y e)
+ended_read x y (l ∷ ls) e = absurd cc
+
+-- this item is spelled so
+abbrev IsWritten : List Lexeme → Item → Type 0
+IsWritten ls i = (ls ≡ line_spelled i) × IsSpelled i
+
+same_item : (l : Lexeme) (ls : List Lexeme) (x i : Item) → x ≡ i → IsWritten (l ∷ ls) x → IsWritten (l ∷ ls) i
+same_item l ls x i e w = subst (IsWritten (l ∷ ls)) e w
+
+-- nothing stands behind the item's words
+only : (l : Lexeme) (x i : Item) (ls : List Lexeme) → ended x ls ≡ Some i → IsWritten (l ∷ []) x → IsWritten (l ∷ ls) i
+only l x i ls e w =
+    let d = ended_read x i ls e in
+    same_item l ls x i d.1 (after l d.0 ∙ w.0, w.1)
+
+header_written : (ls : List Lexeme) (i : Item) → header_at ls ≡ Some i → IsWritten (word (codes "titan") ∷ ls) i
+unfolding header_at
+header_written ls i e =
+    let a = bind_some (next_is (number (codes "1")) ls) (ended Header) i e in
+    let d = ended_read Header i a.0 a.2 in
+    let w = next_read (number (codes "1")) ls a.0 a.1 ∙ after (number (codes "1")) d.0 in
+    same_item (word (codes "titan")) ls Header i d.1 (after (word (codes "titan")) w, tt)
+
+-- ---- components
+
+abbrev start_then : List ℕ → List (List ℕ) → List ℕ × List Lexeme → Option Item
+start_then name modes start = ended (Component name modes start.0) start.1
+
+abbrev modes_then : List ℕ → List (List ℕ) × List Lexeme → Option Item
+modes_then name modes = next_is (word (codes "start")) modes.1 >>= λ r. name_word_at r >>= start_then name modes.0
+
+abbrev component_then : List ℕ × List Lexeme → Option Item
+component_then name = next_is equals_sign name.1 >>= λ r. names_at r >>= modes_then name.0
+
+reads_component : (name : List ℕ) (modes : List (List ℕ)) (start : List ℕ)
+    → IsSpelled (Component name modes start)
+    → component_at (word name ∷ equals_sign ∷ list_spelled modes ++ word (codes "start") ∷ word start ∷ []) ≡ Some (Component name modes start)
+unfolding component_at
+reads_component name [] start h = absurd (omega (arith, h.0))
+reads_component name (mode ∷ modes) start h =
+    let end = word (codes "start") ∷ word start ∷ [] in
+    then (reads_name name (equals_sign ∷ names_spelled mode modes ++ end) h.1.0) component_then
+    ∙ then (reads_names mode modes end h.2 refl) (modes_then name)
+    ∙ then (reads_name start [] h.1.1.0) (start_then name (mode ∷ modes))
+
+-- the parts of a component's line, put together
+component_spelled : (name start : List ℕ) (modes : List (List ℕ)) (ls r1 r2 r3 r4 r5 : List Lexeme)
+    → ls ≡ word name ∷ r1 → r1 ≡ equals_sign ∷ r2 → r2 ≡ list_spelled modes ++ r3 → r3 ≡ word (codes "start") ∷ r4 → r4 ≡ word start ∷ r5 → r5 ≡ []
+    → word (codes "component") ∷ ls ≡ line_spelled (Component name modes start)
+component_spelled name start modes ls r1 r2 r3 r4 r5 e1 e2 e3 e4 e5 e6 =
+    let end = e4 ∙ after (word (codes "start")) (e5 ∙ after (word start) e6) in
+    let behind = e2 ∙ after equals_sign (e3 ∙ ap (λ (x : List Lexeme). list_spelled modes ++ x) end) in
+    after (word (codes "component")) (e1 ∙ after (word name) behind)
+
+component_written : (ls : List Lexeme) (i : Item) → component_at ls ≡ Some i → IsWritten (word (codes "component") ∷ ls) i
+unfolding component_at
+component_written ls i e =
+    let a = bind_some (name_word_at ls) component_then i e in
+    let b = bind_some (next_is equals_sign a.0.1) (λ r. names_at r >>= modes_then a.0.0) i a.2 in
+    let m = bind_some (names_at b.0) (modes_then a.0.0) i b.2 in
+    let s = bind_some (next_is (word (codes "start")) m.0.1) (λ r. name_word_at r >>= start_then a.0.0 m.0.0) i m.2 in
+    let z = bind_some (name_word_at s.0) (start_then a.0.0 m.0.0) i s.2 in
+    let d = ended_read (Component a.0.0 m.0.0 z.0.0) i z.0.1 z.2 in
+    let name = name_read ls a.0 a.1 in
+    let equals = next_read equals_sign a.0.1 b.0 b.1 in
+    let modes = names_read b.0 m.0 m.1 in
+    let keyword = next_read (word (codes "start")) m.0.1 s.0 s.1 in
+    let start = name_read s.0 z.0 z.1 in
+    let w = component_spelled a.0.0 z.0.0 m.0.0 ls a.0.1 b.0 m.0.1 s.0 z.0.1 name.0 equals modes.0 keyword start.0 d.0 in
+    same_item (word (codes "component")) ls (Component a.0.0 m.0.0 z.0.0) i d.1 (w, (modes.1, (name.1, (start.1, tt)), modes.2))
+
+-- ---- variables
+
+abbrev values_then : List ℕ → List (List ℕ) × List Lexeme → Option Item
+values_then name values = sensed_at name values.0 values.1
+
+abbrev variable_then : List ℕ × List Lexeme → Option Item
+variable_then name = next_is equals_sign name.1 >>= λ r. names_at r >>= values_then name.0
+
+reads_sensed : (name : List ℕ) (values : List (List ℕ)) (sensed : Bool) → sensed_at name values (sensed_spelled sensed) ≡ Some (Variable name values sensed)
+reads_sensed name values true = refl
+reads_sensed name values false = refl
+
+no_comma : (sensed : Bool) → next_is comma (sensed_spelled sensed) ≡ None
+no_comma true = refl
+no_comma false = refl
+
+reads_variable : (name : List ℕ) (values : List (List ℕ)) (sensed : Bool)
+    → IsSpelled (Variable name values sensed) → variable_at (word name ∷ equals_sign ∷ list_spelled values ++ sensed_spelled sensed) ≡ Some (Variable name values sensed)
+unfolding variable_at
+reads_variable name [] sensed h = absurd (omega (arith, h.0))
+reads_variable name (value ∷ values) sensed h =
+    then (reads_name name (equals_sign ∷ names_spelled value values ++ sensed_spelled sensed) h.1.0) variable_then
+    ∙ then (reads_names value values (sensed_spelled sensed) h.2 (no_comma sensed)) (values_then name)
+    ∙ reads_sensed name (value ∷ values) sensed
+
+-- a variable is sensed or not
+sensed_read : (name : List ℕ) (values : List (List ℕ)) (ls : List Lexeme) (i : Item) → sensed_at name values ls ≡ Some i → (sensed : Bool) × (ls ≡ sensed_spelled sensed) × (Variable name values sensed ≡ i)
+sensed_read name values [] i e = (false, refl, some_is (Variable name values false) i e)
+sensed_read name values (l ∷ ls) i e =
+    let p = cond_some (is_lexeme (word (codes "sensed")) l) (ended (Variable name values true) ls) i e in
+    let d = ended_read (Variable name values true) i ls p.1 in
+    (true, ap (λ (x : Lexeme). x ∷ ls) (lexeme_is (word (codes "sensed")) l p.0) ∙ after (word (codes "sensed")) d.0, d.1)
+
+variable_written : (ls : List Lexeme) (i : Item) → variable_at ls ≡ Some i → IsWritten (word (codes "var") ∷ ls) i
+unfolding variable_at
+variable_written ls i e =
+    let a = bind_some (name_word_at ls) variable_then i e in
+    let b = bind_some (next_is equals_sign a.0.1) (λ r. names_at r >>= values_then a.0.0) i a.2 in
+    let v = bind_some (names_at b.0) (values_then a.0.0) i b.2 in
+    let d = sensed_read a.0.0 v.0.0 v.0.1 i v.2 in
+    let name = name_read ls a.0 a.1 in
+    let equals = next_read equals_sign a.0.1 b.0 b.1 in
+    let values = names_read b.0 v.0 v.1 in
+    let behind = equals ∙ after equals_sign (values.0 ∙ ap (λ (x : List Lexeme). list_spelled v.0.0 ++ x) d.1) in
+    let w = after (word (codes "var")) (name.0 ∙ after (word a.0.0) behind) in
+    same_item (word (codes "var")) ls (Variable a.0.0 v.0.0 d.0) i d.2 (w, (values.1, (name.1, tt), values.2))
+
+-- ---- ends
+
+abbrev target_then : List ℕ → List ℕ → List ℕ × List Lexeme → Option (Ends × List Lexeme)
+target_then name source target = Some (record { name = name; source = source; target = target.0 }, target.1)
+
+abbrev source_then : List ℕ → List ℕ × List Lexeme → Option (Ends × List Lexeme)
+source_then name source = next_is arrow source.1 >>= λ r. name_word_at r >>= target_then name source.0
+
+abbrev ends_then : List ℕ × List Lexeme → Option (Ends × List Lexeme)
+ends_then name = name_word_at name.1 >>= source_then name.0
+
+-- the words of the ends may stand in place of names
+abbrev AreEndWords : Ends → Type 0
+AreEndWords e = AreNameWords (e.name ∷ e.source ∷ e.target ∷ [])
+
+reads_ends : (e : Ends) (rest : List Lexeme) → AreEndWords e → ends_at (ends_spelled e rest) ≡ Some (e, rest)
+unfolding ends_at
+reads_ends e rest h =
+    then (reads_name e.name (word e.source ∷ arrow ∷ word e.target ∷ rest) h.0) ends_then
+    ∙ then (reads_name e.source (arrow ∷ word e.target ∷ rest) h.1.0) (source_then e.name)
+    ∙ then (reads_name e.target rest h.1.1.0) (target_then e.name e.source)
+
+ends_read : (ls : List Lexeme) (x : Ends × List Lexeme) → ends_at ls ≡ Some x → (ls ≡ ends_spelled x.0 x.1) × AreEndWords x.0
+unfolding ends_at
+ends_read ls x e =
+    let P : Ends × List Lexeme → Type 0 = λ y. (ls ≡ ends_spelled y.0 y.1) × AreEndWords y.0 in
+    let a = bind_some (name_word_at ls) ends_then x e in
+    let s = bind_some (name_word_at a.0.1) (source_then a.0.0) x a.2 in
+    let r = bind_some (next_is arrow s.0.1) (λ r. name_word_at r >>= target_then a.0.0 s.0.0) x s.2 in
+    let t = bind_some (name_word_at r.0) (target_then a.0.0 s.0.0) x r.2 in
+    let name = name_read ls a.0 a.1 in
+    let source = name_read a.0.1 s.0 s.1 in
+    let to = next_read arrow s.0.1 r.0 r.1 in
+    let target = name_read r.0 t.0 t.1 in
+    subst P (some_is _ x t.2)
+    (name.0 ∙ after (word a.0.0) (source.0 ∙ after (word s.0.0) (to ∙ after arrow target.0)), (name.1, (source.1, (target.1, tt))))
+
+-- ---- moves
+
+abbrev command_then : Bool → Ends → List ℕ × List Lexeme → Option Item
+command_then repair ends command = next_is (word (codes "when")) command.1 >>= λ guard. Some (Move repair ends command.0 guard)
+
+abbrev move_then : Bool → Ends × List Lexeme → Option Item
+move_then repair ends = next_is (word (codes "by")) ends.1 >>= λ r. name_word_at r >>= command_then repair ends.0
+
+reads_move : (repair : Bool) (ends : Ends) (command : List ℕ) (guard : List Lexeme) → IsSpelled (Move repair ends command guard)
+    → move_at repair (ends_spelled ends (word (codes "by") ∷ word command ∷ word (codes "when") ∷ guard)) ≡ Some (Move repair ends command guard)
+unfolding move_at
+reads_move repair ends command guard h =
+    then (reads_ends ends (word (codes "by") ∷ word command ∷ word (codes "when") ∷ guard) (h.0, (h.1.0, (h.1.1.0, tt)))) (move_then repair)
+    ∙ then (reads_name command (word (codes "when") ∷ guard) h.1.1.1.0) (command_then repair ends)
+
+move_written : (repair : Bool) (ls : List Lexeme) (i : Item) → move_at repair ls ≡ Some i → IsWritten (word (move_word repair) ∷ ls) i
+unfolding move_at
+move_written repair ls i e =
+    let a = bind_some (ends_at ls) (move_then repair) i e in
+    let r = bind_some (next_is (word (codes "by")) a.0.1) (λ r. name_word_at r >>= command_then repair a.0.0) i a.2 in
+    let c = bind_some (name_word_at r.0) (command_then repair a.0.0) i r.2 in
+    let g = bind_some (next_is (word (codes "when")) c.0.1) (λ guard. Some (Move repair a.0.0 c.0.0 guard)) i c.2 in
+    let ends = ends_read ls a.0 a.1 in
+    let by = next_read (word (codes "by")) a.0.1 r.0 r.1 in
+    let command = name_read r.0 c.0 c.1 in
+    let when = next_read (word (codes "when")) c.0.1 g.0 g.1 in
+    let behind = by ∙ after (word (codes "by")) (command.0 ∙ after (word c.0.0) when) in
+    let w = after (word (move_word repair)) (ends.0 ∙ ap (ends_spelled a.0.0) behind) in
+    same_item (word (move_word repair)) ls (Move repair a.0.0 c.0.0 g.0) i (some_is _ i g.2) (w, (ends.1.0, (ends.1.1.0, (ends.1.1.1.0, (command.1, tt)))))
+
+-- ---- failures
+
+abbrev cost_then : Ends → List ℕ × List Lexeme → Option Item
+cost_then ends cost = ended (Failure ends cost.0) cost.1
+
+abbrev failure_then : Ends × List Lexeme → Option Item
+failure_then ends = next_is (word (codes "cost")) ends.1 >>= λ r. number_at r >>= cost_then ends.0
+
+reads_failure : (ends : Ends) (cost : List ℕ) → IsSpelled (Failure ends cost) → failure_at (ends_spelled ends (word (codes "cost") ∷ number cost ∷ [])) ≡ Some (Failure ends cost)
+unfolding failure_at
+reads_failure ends cost h = then (reads_ends ends (word (codes "cost") ∷ number cost ∷ []) h) failure_then
+
+failure_written : (ls : List Lexeme) (i : Item) → failure_at ls ≡ Some i → IsWritten (word (codes "fail") ∷ ls) i
+unfolding failure_at
+failure_written ls i e =
+    let a = bind_some (ends_at ls) failure_then i e in
+    let r = bind_some (next_is (word (codes "cost")) a.0.1) (λ r. number_at r >>= cost_then a.0.0) i a.2 in
+    let c = bind_some (number_at r.0) (cost_then a.0.0) i r.2 in
+    let d = ended_read (Failure a.0.0 c.0.0) i c.0.1 c.2 in
+    let ends = ends_read ls a.0 a.1 in
+    let keyword = next_read (word (codes "cost")) a.0.1 r.0 r.1 in
+    let cost = number_read r.0 c.0 c.1 in
+    let behind = keyword ∙ after (word (codes "cost")) (cost ∙ after (number c.0.0) d.0) in
+    let w = after (word (codes "fail")) (ends.0 ∙ ap (ends_spelled a.0.0) behind) in
+    same_item (word (codes "fail")) ls (Failure a.0.0 c.0.0) i d.1 (w, ends.1)
+
+-- ---- lines
+
+pub item_again : (i : Item) → IsSpelled i → item_of (line_spelled i) ≡ Some i
+unfolding header_at
+item_again Header h = refl
+item_again (Component name modes start) h = reads_component name modes start h
+item_again (Variable name values sensed) h = reads_variable name values sensed h
+item_again (Rule formula) h = refl
+item_again (Move true ends command guard) h = reads_move true ends command guard h
+item_again (Move false ends command guard) h = reads_move false ends command guard h
+item_again (Failure ends cost) h = reads_failure ends cost h
+item_again Script h = refl
+
+-- a test of the first word
+keyword : (k : List ℕ) (l : Lexeme) (ls : List Lexeme) (i : Item) (x y : Option Item)
+    → cond (is_lexeme (word k) l) x y ≡ Some i → (x ≡ Some i → IsWritten (word k ∷ ls) i) → (y ≡ Some i → IsWritten (l ∷ ls) i) → IsWritten (l ∷ ls) i
+keyword k l ls i x y e f g =
+    let P : Lexeme → Type 0 = λ m. IsWritten (m ∷ ls) i in
+    cond_either (is_lexeme (word k) l) x y (Some i) e (λ t h. subst P (sym (lexeme_is (word k) l t)) (f h)) (λ t h. g h)
+
+no_item : {P : Type 0} (i : Item) → ◌≡◌ {A = Option Item} None (Some i) → P
+no_item i e = absurd cc
+
+rule_written : (ls : List Lexeme) (i : Item) → Some (Rule ls) ≡ Some i → IsWritten (word (codes "rule") ∷ ls) i
+rule_written ls i e = same_item (word (codes "rule")) ls (Rule ls) i (some_is (Rule ls) i e) (refl, tt)
+
+pub item_written : (ls : List Lexeme) (i : Item) → item_of ls ≡ Some i → (ls ≡ line_spelled i) × IsSpelled i
+item_written [] i e = absurd cc
+item_written (l ∷ ls) i e =
+    keyword (codes "titan") l ls i _ _ e (header_written ls i)
+    (λ e. keyword (codes "component") l ls i _ _ e (component_written ls i)
+    (λ e. keyword (codes "var") l ls i _ _ e (variable_written ls i)
+    (λ e. keyword (codes "rule") l ls i _ _ e (rule_written ls i)
+    (λ e. keyword (codes "move") l ls i _ _ e (move_written false ls i)
+    (λ e. keyword (codes "repair") l ls i _ _ e (move_written true ls i)
+    (λ e. keyword (codes "fail") l ls i _ _ e (failure_written ls i)
+    (λ e. keyword (codes "script") l ls i _ _ e (λ h. only (word (codes "script")) Script i ls h (refl, tt))
+    (λ e. no_item i e))))))))

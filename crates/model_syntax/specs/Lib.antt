@@ -1,0 +1,10 @@
+pub mod Chain
+pub mod Codes
+pub mod Grammar
+pub mod Items
+pub mod Lines
+pub mod Lookups
+pub mod ReadCodes
+pub mod Readings
+pub mod Machine
+pub mod Meanings

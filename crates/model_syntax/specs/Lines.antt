@@ -1,0 +1,92 @@
+-- What a line makes of a model.
+use Rattle.std.specs.Prelude.{◌≡◌, ◌≢◌, ◌<◌, ◌^◌, ◌⊎◌, ℕ, Bool, true, false, not, ◌&&◌, List, [], ◌∷◌, map, Option, Some, None, Result, Ok, Err}
+use Rattle.std.specs.Fmt.{decimal}
+use Rattle.cca_base.specs.declared.events.Detail.TheVariants.{Nothing}
+use Rattle.cca_base.specs.declared.events.Stop.{Stop}
+use Rattle.cca_base.specs.declared.events.Stop.TheVariants as stops
+use Rattle.cca_base.specs.Automata.{Automata}
+use Rattle.cca_base.specs.Names.{is_word, is_reserved}
+use Rattle.cca_base.specs.Model.{with_component, with_variable, with_rule, with_move, with_failure}
+use Rattle.text_base.specs.Tokens.{Tok, tokens_of}
+use Rattle.text_base.specs.Lexemes.{Lexeme, lexeme}
+use Rattle.model_syntax.specs.declared.codes.TheConstants.{MALFORMED}
+use Rattle.model_syntax.specs.Grammar.{Whole, spelling}
+use Rattle.model_syntax.specs.Meanings.{whole_formula}
+use Rattle.model_syntax.specs.Items.{Ends, Item, Header, Component, Variable, Rule, Move, Failure, Script, item_of}
+use Rattle.model_syntax.specs.Codes.{ends_of, component_code, new_component, variable_code, new_variable, rule_code, move_code, new_move, with_named, failure_code, new_failure}
+
+-- a word that is not reserved, however long it is
+abbrev pub is_bare_name : List ℕ → Bool
+is_bare_name text = is_word text && not (is_reserved text)
+
+-- what a line leads to: another model, a refusal with its code, or the end of the model
+pub data Next : Type 0 where
+  Goes : (model : Automata) → Next
+  Refused : (code : ℕ) → Next
+  Ended : Next
+
+-- the model, or the code that applies
+abbrev pub unless : Option ℕ → Automata → Next
+unless None m = Goes m
+unless (Some code) m = Refused code
+
+-- a component
+abbrev pub component_next : Automata → List ℕ → List (List ℕ) → List ℕ → Next
+component_next m name modes start = unless (component_code m name modes start) (with_component m (new_component name modes start))
+
+-- a variable
+abbrev pub variable_next : Automata → List ℕ → List (List ℕ) → Bool → Next
+variable_next m name values sensed = unless (variable_code m name values) (with_variable m (new_variable name values sensed))
+
+-- a rule
+abbrev pub rule_next : Automata → Whole → Next
+rule_next m text = unless (rule_code m text) (with_rule m (whole_formula m text))
+
+-- the model with the move, whose command may be new
+abbrev pub with_declared : Automata → Bool → Option (ℕ × ℕ × ℕ) → List ℕ → Whole → Automata
+with_declared m repair None command text = m
+with_declared m repair (Some ends) command text = with_move (with_named m command) (new_move m repair ends command (whole_formula m text))
+
+-- a move or a repair
+abbrev pub move_next : Automata → Bool → Ends → List ℕ → Whole → Next
+move_next m repair ends command text = unless (move_code m repair ends command text) (with_declared m repair (ends_of m ends) command text)
+
+-- the model with the failure
+abbrev pub with_fall : Automata → Option (ℕ × ℕ × ℕ) → ℕ → Automata
+with_fall m None cost = m
+with_fall m (Some ends) cost = with_failure m (new_failure ends cost)
+
+-- a failure
+abbrev pub failure_next : Automata → Ends → ℕ → Next
+failure_next m ends cost = unless (failure_code m ends cost) (with_fall m (ends_of m ends) cost)
+
+-- these lexemes are a formula's text, which leads there; or they are none, and the line is malformed
+pub record IsNextOfText (ls : List Lexeme) (f : Whole → Next) (next : Next) : Type 0 where
+  pub of_text : (text : Whole) → ls ≡ spelling text → next ≡ f text
+  pub or_none : ((text : Whole) × (ls ≡ spelling text)) ⊎ (((text : Whole) → ls ≢ spelling text) × (next ≡ Refused MALFORMED))
+
+-- the digits are a number of at most 128 bits, which leads there; or they are none, and the line is malformed
+abbrev pub IsNextOfNumber : List ℕ → (ℕ → Next) → Next → Type 0
+IsNextOfNumber digits f next =
+    ((n : ℕ) × (n < 2 ^ 128) × (digits ≡ decimal n) × (next ≡ f n)) ⊎ (((n : ℕ) → n < 2 ^ 128 → digits ≢ decimal n) × (next ≡ Refused MALFORMED))
+
+-- what an item of the model leads to
+abbrev pub IsNextOfItem : Automata → Item → Next → Type 0
+IsNextOfItem m Header next = next ≡ Refused MALFORMED
+IsNextOfItem m (Component name modes start) next = next ≡ component_next m name modes start
+IsNextOfItem m (Variable name values sensed) next = next ≡ variable_next m name values sensed
+IsNextOfItem m (Rule formula) next = IsNextOfText formula (rule_next m) next
+IsNextOfItem m (Move repair ends command guard) next = IsNextOfText guard (move_next m repair ends command) next
+IsNextOfItem m (Failure ends cost) next = IsNextOfNumber cost (failure_next m ends) next
+IsNextOfItem m Script next = next ≡ Ended
+
+-- a line of no form is malformed
+abbrev pub IsNextOfForm : Automata → Option Item → Next → Type 0
+IsNextOfForm m None next = next ≡ Refused MALFORMED
+IsNextOfForm m (Some item) next = IsNextOfItem m item next
+
+-- what a call on a model answered is this; the model after a refusal or for want of memory is as before
+abbrev pub AnswersModel : {X : Type 0} → Result X Stop → (old new : Automata) → (Next → Type 0) → Type 0
+AnswersModel (Ok x) old new Is = Is (Goes new)
+AnswersModel (Err stops.Memory) old new Is = new ≡ old
+AnswersModel (Err (stops.Refused refusal)) old new Is = Is (Refused refusal.code) × (refusal.detail ≡ Nothing) × (new ≡ old)

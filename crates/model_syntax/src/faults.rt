@@ -1,0 +1,86 @@
+ghost use Rattle.std.specs.Prelude.{◌≡◌, ◌∷◌, ◌++◌, [], ◌||◌, nat_le, length};
+ghost use Rattle.std.specs.List.{list_any};
+ghost use Rattle.cca_base.specs.Model.{WellFormed};
+ghost use Rattle.model_syntax.specs.Codes.{least, is_long, leads_to, leaves_unmarked, is_ambiguous, is_into_broken, is_unmarked_exit, mends_elsewhere, mends_twice, move_faults};
+ghost use Rattle.model_syntax.specs.declared.codes.TheConstants.{LIMIT as limit_code};
+
+use crate::checks::is_long;
+use crate::codes::{AMBIGUOUS, INTO_BROKEN, LIMIT, TWO_MENDS, UNMARKED_EXIT};
+use cca_base::{MAX_MOVES, Model, Move};
+
+/// Whether another move has the command, and is of another component or leaves the same mode.
+fn is_ambiguous(moves: &[Move], x: &Move) -> bool
+    ensures { result ≡ is_ambiguous moves.now x.now }
+{
+    moves.iter().any(|y| y.command == x.command && (y.component != x.component || y.source == x.source))
+}
+
+/// Whether a move leads to the mode.
+fn leads_to(moves: &[Move], c: u16, mode: u8) -> bool
+    ensures { result ≡ list_any (leads_to c mode) moves.now }
+{
+    moves.iter().any(|y| y.component == c && y.target == mode)
+}
+
+/// Whether an ordinary move leaves the mode.
+fn leaves_unmarked(moves: &[Move], c: u16, mode: u8) -> bool
+    ensures { result ≡ list_any (leaves_unmarked c mode) moves.now }
+{
+    moves.iter().any(|y| !y.repair && (y.component == c && y.source == mode))
+}
+
+/// Whether the move leads to a broken mode, or repairs a mode to which a move leads.
+#[tactic(auto, using(crate::proofs::MoveLemmas::leads_to_push))]
+fn is_into_broken(model: &Model, x: &Move) -> bool
+    ensures { result ≡ is_into_broken model.now.moves x.now }
+{
+    model.broken(x.component, x.target)
+        || (x.repair
+            && (leads_to(model.moves().as_slice(), x.component, x.source) || x.target == x.source))
+}
+
+/// Whether an ordinary move leaves a broken mode, or a repair leaves a mode that an ordinary move leaves.
+fn is_unmarked_exit(model: &Model, x: &Move) -> bool
+    ensures { result ≡ is_unmarked_exit model.now.moves x.now }
+{
+    if x.repair {
+        leaves_unmarked(model.moves().as_slice(), x.component, x.source)
+    } else {
+        model.broken(x.component, x.source)
+    }
+}
+
+/// Whether a repair of the mode leads to another mode than this.
+fn is_mended_elsewhere(moves: &[Move], c: u16, mode: u8, mended: u8) -> bool
+    ensures { result ≡ list_any (mends_elsewhere c mode mended) moves.now }
+{
+    moves.iter().any(|y| y.repair && ((y.component == c && y.source == mode) && y.target != mended))
+}
+
+/// Whether an earlier repair of the repair's source leads to another mode.
+fn mends_twice(moves: &[Move], x: &Move) -> bool
+    ensures { result ≡ mends_twice moves.now x.now }
+{
+    x.repair && is_mended_elsewhere(moves, x.component, x.source, x.target)
+}
+
+/// The least code of a move between modes that are known, and whose guard is sound.
+pub fn move_code(model: &Model, x: &Move, command: &[u8]) -> Option<u8>
+    ensures code { result ≡ least ((limit_code, is_long command.now || nat_le MAX_MOVES (length model.now.moves)) ∷ move_faults model.now x.now) }
+    ensures well_formed { WellFormed model.now }
+{
+    let moves = model.moves().as_slice();
+    if is_long(command) || moves.len() >= MAX_MOVES {
+        Some(LIMIT)
+    } else if is_ambiguous(moves, x) {
+        Some(AMBIGUOUS)
+    } else if is_into_broken(model, x) {
+        Some(INTO_BROKEN)
+    } else if is_unmarked_exit(model, x) {
+        Some(UNMARKED_EXIT)
+    } else if mends_twice(moves, x) {
+        Some(TWO_MENDS)
+    } else {
+        None
+    }
+}

@@ -1,0 +1,89 @@
+ghost use Rattle.std.specs.Prelude.{◌≡◌, ◌<◌, ◌≤◌, length, IfSome, IsTrue};
+ghost use Rattle.cca_base.specs.Model.{WellFormed};
+ghost use Rattle.model_syntax.specs.Lookups.{subject_of, choices_of, value_of, place_of, NamesFit};
+ghost use Rattle.model_syntax.specs.Readings.{named, with_value};
+
+use crate::atom::Atom;
+use cca_base::{MAX_NAME, Model, Name, Subject, ValueSet};
+use indexmap::IndexMap;
+
+/// The place of a name in a list.
+pub fn place_of(names: &[Name], text: &[u8]) -> Option<usize>
+    ensures place { result ≡ place_of names.now text.now }
+    ensures within { IfSome result (λ k. k < length names.now) }
+{
+    names.iter().position(|name| name.bytes() == text)
+}
+
+/// What the name stands for in the model.
+pub fn subject_of(model: &Model, names: &IndexMap<Name, Subject>, text: &[u8]) -> Option<Subject>
+    requires fit { NamesFit names.now model.now }
+    ensures { result ≡ subject_of model.now text.now }
+{
+    if text.len() > MAX_NAME {
+        let _well_formed = model.components();
+        None
+    } else {
+        names.get(&Name::of(text)).copied()
+    }
+}
+
+/// The number of the subject's mode or value of this name.
+pub fn value_of(model: &Model, subject: Subject, text: &[u8]) -> Option<u8>
+    ensures number { result ≡ value_of model.now subject text.now }
+    ensures small { IfSome result (λ k. k < 16) }
+{
+    let place = match subject {
+        Subject::Component(c) => {
+            let components = model.components().as_slice();
+            match components.get(c as usize) {
+                Some(component) => place_of(component.modes.as_slice(), text),
+                None => None,
+            }
+        }
+        Subject::Variable(v) => {
+            let variables = model.variables().as_slice();
+            match variables.get(v as usize) {
+                Some(variable) => place_of(variable.values.as_slice(), text),
+                None => None,
+            }
+        }
+    }?;
+    Some(place as u8)
+}
+
+/// An atom that begins with this name.
+pub fn named(model: &Model, names: &IndexMap<Name, Subject>, text: &[u8]) -> Atom
+    requires fit { NamesFit names.now model.now }
+    ensures { result ≡ named model.now text.now }
+{
+    match subject_of(model, names, text) {
+        None => Atom::Unknown,
+        Some(subject) => Atom::Known {
+            subject,
+            values: ValueSet::empty(),
+            repeated: false,
+        },
+    }
+}
+
+/// The atom with one value more.
+pub fn with_value(model: &Model, atom: Atom, text: &[u8]) -> Atom
+    ensures { result ≡ with_value model.now atom text.now }
+{
+    match atom {
+        Atom::Unknown => Atom::Unknown,
+        Atom::Known {
+            subject,
+            values,
+            repeated,
+        } => match value_of(model, subject, text) {
+            None => Atom::Unknown,
+            Some(k) => Atom::Known {
+                subject,
+                values: values.with(k),
+                repeated: repeated || values.has(k),
+            },
+        },
+    }
+}

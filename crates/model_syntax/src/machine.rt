@@ -1,0 +1,59 @@
+use crate::atom::Atom;
+use crate::parts::Parts;
+use crate::reading::Reading;
+use cca_base::List;
+
+/// The word between two disjunctions.
+#[derive(Clone, Copy)]
+pub enum Link {
+    Implies,
+    Iff,
+}
+
+/// A disjunction before `implies` or `iff`, and that word.
+#[derive(Drop)]
+pub struct Side {
+    pub link: Link,
+    pub reading: Reading,
+}
+
+/// What was read so far between two parentheses.
+#[derive(Drop)]
+pub struct Level {
+    /// The side before `implies` or `iff`.
+    pub left: Option<Side>,
+    /// The conjunctions that have an `or` behind them.
+    pub any: Option<Parts>,
+    /// The factors since the last `or`.
+    pub all: Option<Parts>,
+    /// How many words `not` stand before the factor that comes next.
+    pub nots: usize,
+}
+
+/// What has to come next.
+#[derive(Clone, Copy)]
+pub enum Place {
+    /// A factor.
+    Operand,
+    /// A word between factors, or a closing parenthesis.
+    Operator,
+    /// `=`, `!=` or `in`.
+    Named(Atom),
+    /// The value behind `=` or `!=`.
+    Compared { atom: Atom, differs: bool },
+    /// The brace behind `in`.
+    Opened(Atom),
+    /// A value in braces.
+    Listed(Atom),
+    /// A comma or the closing brace.
+    Followed(Atom),
+}
+
+/// A formula's text, as far as it was read.
+#[derive(Drop)]
+pub struct Machine {
+    /// The levels around this one, outermost first.
+    pub outer: List<Level>,
+    pub level: Level,
+    pub place: Place,
+}
