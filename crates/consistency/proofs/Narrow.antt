@@ -11,7 +11,8 @@ use Rattle.clause_form.specs.Clauses.{is_true, is_met}
 use Rattle.consistency.specs.declared.domain.Domain.{Domain}
 use Rattle.consistency.specs.declared.subjects.SubjectSet.{SubjectSet}
 use Rattle.consistency.specs.Subjects.{is_in}
-use Rattle.consistency.specs.Search.{AreBelow, AllMet, OthersFalse, HasReasons, Agrees, Knows, nothing, values_at}
+use Rattle.clause_form.specs.Formulas.{AreBelow}
+use Rattle.consistency.specs.Search.{AllMet, OthersFalse, HasReasons, Agrees, Knows, nothing, values_at}
 
 -- a true literal of a clause that is met
 pub met_at : (xs : List ℕ) (ls : List Literal) → is_met xs ls ≡ true → (i : ℕ) × (i < length ls) × ((l : Literal) → is_true xs (slice_index_or ls i l) ≡ true)

@@ -7,6 +7,7 @@ use Rattle.cca_base.specs.Sets.{has}
 use Rattle.clause_form.specs.declared.clause.Clause.{Clause}
 use Rattle.consistency.specs.declared.domain.Domain.{Domain}
 use Rattle.consistency.specs.declared.subjects.SubjectSet.{SubjectSet}
+use Rattle.consistency.specs.declared.subjects.TheConstants.{MAX_SUBJECTS}
 use Rattle.consistency.specs.Subjects.{is_in}
 use Rattle.consistency.specs.Search.{IsSolution, IsFirstFrom, IsClash, Agrees, Extends, Knows, nothing, values_at, why_at}
 use Rattle.consistency.proofs.Narrow.{or_l, or_r}
@@ -109,7 +110,7 @@ same_list clauses base prefix xs full h extends = let f = h.full in let e : leng
 pub whole_found : (clauses : List Clause) (base prefix : List ℕ) → length prefix ≡ length base → IsSolution clauses base prefix → IsFirstFrom clauses base prefix prefix
 whole_found clauses base prefix full h = record { solution = h; extends = λ d n. refl; first = λ ys k extends. inl (same_list clauses base prefix ys full k extends) }
 
-pub whole_clash : (clauses : List Clause) (base prefix : List ℕ) (all : SubjectSet) → length prefix ≡ length base → length base ≤ 512 → ((m : ℕ) → m < 512 → is_in all m ≡ true) → (IsSolution clauses base prefix → ⊥) → IsClash clauses base prefix all
+pub whole_clash : (clauses : List Clause) (base prefix : List ℕ) (all : SubjectSet) → length prefix ≡ length base → length base ≤ MAX_SUBJECTS → ((m : ℕ) → m < MAX_SUBJECTS → is_in all m ≡ true) → (IsSolution clauses base prefix → ⊥) → IsClash clauses base prefix all
 whole_clash clauses base prefix all full small every wrong xs h agrees =
     wrong (subst (IsSolution clauses base) (sym (same_list clauses base prefix xs full h (λ d n. agrees d (every d (omega arith)) n))) h)
 

@@ -12,14 +12,6 @@ use Rattle.consistency.specs.declared.search.Outcome.{Outcome}
 use Rattle.consistency.specs.declared.search.Outcome.TheVariants as outcome
 use Rattle.consistency.specs.Subjects.{is_in}
 
--- each subject is one of so many
-abbrev pub AreBelow : ℕ → List Literal → Type 0
-AreBelow n literals = All (λ literal. literal.subject < n) literals
-
--- each subject of each clause is one of so many
-abbrev pub AllBelow : ℕ → List Clause → Type 0
-AllBelow n clauses = All (λ clause. AreBelow n clause.literals) clauses
-
 -- every clause is true
 abbrev pub AllMet : List ℕ → List Clause → Type 0
 AllMet xs clauses = All (λ clause. meets xs clause ≡ true) clauses

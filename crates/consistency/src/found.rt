@@ -5,6 +5,7 @@ ghost use Rattle.cca_base.specs.Model.{HasMode};
 ghost use Rattle.cca_base.specs.State.{HasValue, Follows};
 ghost use Rattle.clause_form.specs.Clauses.{AreClauses};
 ghost use Rattle.consistency.specs.Base.{ArePairs, IsProblemOf};
+ghost use Rattle.consistency.specs.declared.subjects.TheConstants.{MAX_SUBJECTS};
 ghost use Rattle.consistency.specs.Found.{Fits, Counters, NoneFits, FitsAndDenies, IsFirstOf};
 
 use crate::base::base_of;
@@ -31,7 +32,7 @@ fn problem_of(
     seen: &[Pair],
 ) -> Result<Problem, AllocError>
     requires proper { AreClauses clauses }
-    requires small { length clauses.sizes ≤ 512 }
+    requires small { length clauses.sizes ≤ MAX_SUBJECTS }
     requires modes { ArePairs (length clauses.sizes) 0 modes.now }
     requires seen { ArePairs (length clauses.sizes) components seen.now }
     ensures { IfOk result (IsProblemOf clauses components modes.now seen.now) }

@@ -1,6 +1,8 @@
 ghost use Rattle.std.specs.Prelude.{◌<◌, length, IfOk, OnOk};
 ghost use Rattle.cca_base.specs.declared.limits.TheConstants.{MAX_CHOICES};
-ghost use Rattle.consistency.specs.Search.{AllBelow, KeepsAll, IsClashOfAll, Chooses, KeepsMore, IsClashOfMore};
+ghost use Rattle.clause_form.specs.Formulas.{AllBelow};
+ghost use Rattle.consistency.specs.declared.subjects.TheConstants.{MAX_SUBJECTS};
+ghost use Rattle.consistency.specs.Search.{KeepsAll, IsClashOfAll, Chooses, KeepsMore, IsClashOfMore};
 
 use crate::domain::Domain;
 use crate::problem::Problem;
@@ -97,7 +99,7 @@ pub fn settle_all(
 /// Gives the subject the value, whose reason is the subject itself.
 fn choose(domains: &mut [Domain], subject: u16, value: u8)
     requires subject { subject < length domains.old }
-    requires small { subject < 512 }
+    requires small { subject < MAX_SUBJECTS }
     requires value { value < MAX_CHOICES }
     ensures { Chooses domains.old subject value domains.new }
 {
@@ -116,7 +118,7 @@ pub fn extend(
 ) -> Result<Option<SubjectSet>, AllocError>
     requires within { AllBelow (length domains.old) problem.now.clauses }
     requires subject { subject < length domains.old }
-    requires small { subject < 512 }
+    requires small { subject < MAX_SUBJECTS }
     requires value { value < MAX_CHOICES }
     ensures keeps { OnOk result (KeepsMore problem.now.clauses domains.old subject value domains.new) }
     ensures clash { IfOk result (IsClashOfMore problem.now.clauses domains.old subject value) }

@@ -1,6 +1,7 @@
 ghost use Rattle.std.specs.Prelude.{◌≡◌, length, true, false};
 ghost use Rattle.clause_form.specs.Clauses.{is_met};
-ghost use Rattle.consistency.specs.Search.{AreBelow, IsSolution};
+ghost use Rattle.clause_form.specs.Formulas.{AreBelow};
+ghost use Rattle.consistency.specs.Search.{IsSolution};
 ghost use Rattle.consistency.specs.Problem.{IsProblem};
 
 use crate::problem::Problem;

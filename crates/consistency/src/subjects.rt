@@ -19,7 +19,7 @@ pub fn no_subject() -> SubjectSet
 
 /// The set with `n` in it besides.
 pub fn with_subject(set: &SubjectSet, n: u16) -> SubjectSet
-    requires { n < 512 }
+    requires { n < MAX_SUBJECTS }
     ensures { (m : ℕ) → is_in result m ≡ (m == n || is_in set.now m) }
 {
     let mut words = set.words;
@@ -30,7 +30,7 @@ pub fn with_subject(set: &SubjectSet, n: u16) -> SubjectSet
 
 /// The set of all subjects.
 pub fn all_subjects() -> SubjectSet
-    ensures { (n : ℕ) → n < 512 → is_in result n ≡ true }
+    ensures { (n : ℕ) → n < MAX_SUBJECTS → is_in result n ≡ true }
 {
     SubjectSet {
         words: [u64::MAX; 8],

@@ -1,5 +1,6 @@
 ghost use Rattle.std.specs.Prelude.{◌≤◌, length, IfSome};
-ghost use Rattle.consistency.specs.Search.{AreBelow, OthersFalse, HasReasons, Keeps, IsVisit};
+ghost use Rattle.clause_form.specs.Formulas.{AreBelow};
+ghost use Rattle.consistency.specs.Search.{OthersFalse, HasReasons, Keeps, IsVisit};
 
 use crate::domain::Domain;
 use crate::subjects::{SubjectSet, no_subject, union};
