@@ -9,6 +9,14 @@ mod calls;
 #[cfg(test)]
 mod first_path;
 #[cfg(test)]
+mod orders;
+#[cfg(test)]
+mod parts;
+#[cfg(test)]
+mod primes;
+#[cfg(test)]
 mod refusals;
 #[cfg(test)]
 mod row;
+#[cfg(test)]
+mod worlds;
