@@ -1,7 +1,8 @@
+pub mod Picked
 pub mod PlainCompiled
 pub mod PlainEstimates
 pub mod PlainGoals
-pub mod PlainTrace
 pub mod PlainSteps
+pub mod PlainTrace
 pub mod Reply
 pub mod Walks

@@ -59,7 +59,7 @@ module _ (m : Automata) (plain : IsPlain m) where
   all_suffice move among pairs =
       subst (Follows m (source_pair move ∷ pairs)) (sym (All-contains (λ x. x.guard ≡ True) m.moves move plain.no_guards among)) (true_follows m (source_pair move ∷ pairs))
 
-  nothing_is_prime : (move : Move) → Contains m.moves move → PrimeImplicant m move []
+  pub nothing_is_prime : (move : Move) → Contains m.moves move → PrimeImplicant m move []
   nothing_is_prime move among = record {
     rising = λ i j d lt h. absurd (omega arith);
     modes = λ k d h. absurd (omega arith);
@@ -72,7 +72,7 @@ module _ (m : Automata) (plain : IsPlain m) where
   no_pair move among cube prime p occurs =
       contains_none p (All-contains (Contains []) cube p (prime.minimal [] (λ k d h. absurd (omega arith)) (all_suffice move among [])) occurs)
 
-  only_nothing : (move : Move) → Contains m.moves move → (cube : List Pair) → PrimeImplicant m move cube → [] ≡ cube
+  pub only_nothing : (move : Move) → Contains m.moves move → (cube : List Pair) → PrimeImplicant m move cube → [] ≡ cube
   only_nothing move among [] prime = refl
   only_nothing move among (p ∷ cube) prime = absurd (no_pair move among (p ∷ cube) prime p (contains_here p p cube refl))
 

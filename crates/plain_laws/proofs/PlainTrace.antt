@@ -15,7 +15,7 @@ use Rattle.cca_base.specs.State.{IsState, start_modes}
 use Rattle.cca_base.specs.Successors.{Nominal}
 use Rattle.cca_base.specs.Estimates.{Estimate}
 use Rattle.cca_base.specs.Orders.{IsSorted, numbers_below}
-use Rattle.cca_base.specs.Goals.{Good}
+use Rattle.cca_base.specs.Choice.{Chosen}
 use Rattle.cca_base.specs.Sets.{has}
 use Rattle.cca_base.specs.Trace.{Situation, start, AllMayCome, MayBeGoal, Changes, Observed, IsReply, ShowsEstimate, command_of}
 use Rattle.cca_base.specs.Runs.{Moment, Ticks}
@@ -30,7 +30,7 @@ use Rattle.plain_laws.specs.PlainTrace.{IsPlainEvent, ReportsAreTrace}
 use Rattle.plain_laws.proofs.Walks.{Split, find_split, split_contains}
 use Rattle.plain_laws.proofs.PlainEstimates.{nominal_is_estimate, replies_are_obeyed, stays}
 use Rattle.plain_laws.proofs.PlainGoals.{goals_are_sorted}
-use Rattle.plain_laws.proofs.Reply.{replies_are_good}
+use Rattle.plain_laws.proofs.Picked.{replies_are_chosen}
 
 -- ---- goals kept in order
 
@@ -93,22 +93,22 @@ nothing_seen m x e f = record {
 }
 
 module _ (m : Automata) (good : WellFormed m) (plain : IsPlain m) where
-  good_reply : (s : List ℕ) (goal : Option (List Pair)) → IsState m s → IfSome goal (λ pairs. IsCube pairs × All (λ p. HasMode m p.item p.value) pairs) → IsReply (Good m) s goal (reply_for m s goal)
+  good_reply : (s : List ℕ) (goal : Option (List Pair)) → IsState m s → IfSome goal (λ pairs. IsCube pairs × All (λ p. HasMode m p.item p.value) pairs) → IsReply (Chosen (plainly_compiled m)) s goal (reply_for m s goal)
   good_reply s None state fits = refl
-  good_reply s (Some pairs) state fits = replies_are_good m s pairs good plain state fits.0 fits.1
+  good_reply s (Some pairs) state fits = replies_are_chosen m s pairs good plain state fits.0 fits.1
 
   -- where a tick leads
   abbrev ticked : Situation → Standing → Situation
   ticked x y = record x { estimate = y.modes; command = command_of (reply_at m y); plant = after_reply m.moves y.modes (reply_at m y); pending = []; ticks = x.ticks + 1 }
 
   module _ (x : Situation) (y : Standing) (h : Stands m x y) where
-    tick_shows : ShowsEstimate m (Good m) x 0 y.modes (reply_at m y) (ticked x y)
+    tick_shows : ShowsEstimate m (Chosen (plainly_compiled m)) x 0 y.modes (reply_at m y) (ticked x y)
     tick_shows = record {
       going = h.going;
       seen = [];
       observed = nothing_seen m x h.nothing_pending h.nothing_mirrored;
       estimate = nominal_is_estimate m x.estimate y.modes x.command good plain h.estimate h.nominal;
-      replies = subst (λ (g : Option (List Pair)). IsReply (Good m) y.modes g (reply_at m y)) (sym h.goal) (good_reply y.modes y.goal h.state h.fits);
+      replies = subst (λ (g : Option (List Pair)). IsReply (Chosen (plainly_compiled m)) y.modes g (reply_at m y)) (sym h.goal) (good_reply y.modes y.goal h.state h.fits);
       plant = after_reply m.moves y.modes (reply_at m y);
       moves = subst (λ (s : List ℕ). Nominal m s (command_of (reply_at m y)) (after_reply m.moves y.modes (reply_at m y))) (sym h.plant) (replies_are_obeyed m y.modes (reply_at m y) good plain h.state);
       after = refl;
@@ -162,7 +162,7 @@ module _ (m : Automata) (good : WellFormed m) (plain : IsPlain m) where
   -- the ticks of some events
   pub record Made (x : Situation) (y : Standing) (since events : List Event) : Type 0 where
     pub ticks : List Moment
-    pub made : Ticks (plainly_compiled m) (Good m) x since events ticks
+    pub made : Ticks (plainly_compiled m) (Chosen (plainly_compiled m)) x since events ticks
     pub reported : reports_from m y events ≡ map (λ t. t.report) ticks
 
   ticks_made : (x : Situation) (y : Standing) (since events : List Event) → Stands m x y → All (IsPlainEvent m) events → Made x y since events

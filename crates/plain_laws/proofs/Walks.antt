@@ -173,12 +173,12 @@ module _ (moves : List Move) (c b : ℕ) where
         (find_is_some (λ x. leaves c a x && leads_within moves c b n x.target) moves now)
   ]
 
-  at_end : (n a : ℕ) → a ≡ b → leads_within moves c b n a ≡ true
+  pub at_end : (n a : ℕ) → a ≡ b → leads_within moves c b n a ≡ true
   unfolding leads_within
   at_end zero a e = eq-eqb a b e
   at_end (suc n) a e = or_left (leads_within moves c b n a) (list_any (λ x. leaves c a x && leads_within moves c b n x.target) moves) (at_end n a e)
 
-  one_more : (n a : ℕ) (x : Move) → Contains moves x → x.component ≡ c → x.source ≡ a → leads_within moves c b n x.target ≡ true → leads_within moves c b (suc n) a ≡ true
+  pub one_more : (n a : ℕ) (x : Move) → Contains moves x → x.component ≡ c → x.source ≡ a → leads_within moves c b n x.target ≡ true → leads_within moves c b (suc n) a ≡ true
   unfolding leads_within
   one_more n a x among own from rest =
       or_right (leads_within moves c b n a) (list_any (λ y. leaves c a y && leads_within moves c b n y.target) moves)

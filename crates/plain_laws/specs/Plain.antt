@@ -9,6 +9,7 @@ use Rattle.cca_base.specs.Automata.{Automata}
 use Rattle.cca_base.specs.Model.{WellFormed, HasMode}
 use Rattle.cca_base.specs.Cube.{IsCube}
 use Rattle.cca_base.specs.State.{IsState}
+use Rattle.cca_base.specs.Choice.{Chosen}
 use Rattle.cca_base.specs.Goals.{Good}
 use Rattle.plain_laws.specs.Planner.{reply_to}
 
@@ -37,3 +38,8 @@ plainly_compiled m = record {
 -- a plain model that uses each command is accepted, and this is what is compiled from it
 abbrev pub PlainIsCompiled : Type 0
 PlainIsCompiled = (m : Automata) → WellFormed m → IsPlain m → IsComplete m → IsCompiled (plainly_compiled m)
+
+-- in a plain model each reply of the plain planner is good, and its command is the one that is picked
+abbrev pub RepliesAreChosen : Type 0
+RepliesAreChosen = (m : Automata) (s : List ℕ) (goal : List Pair) → WellFormed m → IsPlain m → IsState m s → IsCube goal → All (λ p. HasMode m p.item p.value) goal
+    → Chosen (plainly_compiled m) s goal (reply_to m.moves s goal)

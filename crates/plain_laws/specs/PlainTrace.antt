@@ -7,7 +7,7 @@ use Rattle.cca_base.specs.Model.{WellFormed}
 use Rattle.cca_base.specs.Trace.{MayBeGoal, AllMayCome, start}
 use Rattle.cca_base.specs.Orders.{IsSorted}
 use Rattle.cca_base.specs.Runs.{Trace}
-use Rattle.cca_base.specs.Goals.{Good}
+use Rattle.cca_base.specs.Choice.{Chosen}
 use Rattle.plain_laws.specs.Plain.{IsPlain, plainly_compiled}
 use Rattle.plain_laws.specs.Executive.{begin, reports_from}
 
@@ -21,10 +21,10 @@ IsPlainEvent m (event.Fault p) = ⊥
 IsPlainEvent m (event.Mirror v) = ⊥
 IsPlainEvent m event.Reset = ⊥
 
--- in a plain model the reports of such events are their trace with good replies
+-- in a plain model the reports of such events are their trace in which each reply is good and each command the one that is picked
 abbrev pub ReportsAreTrace : Type 0
 ReportsAreTrace = (m : Automata) (events : List Event) → WellFormed m → IsPlain m → All (IsPlainEvent m) events
-    → Trace (plainly_compiled m) (Good m) events (reports_from m (begin m) events)
+    → Trace (plainly_compiled m) (Chosen (plainly_compiled m)) events (reports_from m (begin m) events)
 
 -- such events may come one after the other, from the start on
 abbrev pub EventsMayCome : Type 0

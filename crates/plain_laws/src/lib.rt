@@ -2,13 +2,14 @@
 //! and that each reply of the plain planner is good. No code of its own.
 #![tactic(auto)]
 
-ghost use Rattle.plain_laws.specs.Plain.{RepliesAreGood, PlainIsCompiled};
+ghost use Rattle.plain_laws.specs.Plain.{RepliesAreGood, RepliesAreChosen, PlainIsCompiled};
 ghost use Rattle.plain_laws.specs.PlainTicks.{NominalIsEstimate, RepliesAreObeyed, GoalsAreSorted};
 ghost use Rattle.plain_laws.specs.PlainTrace.{EventsMayCome, ReportsAreTrace};
 
-/// In a plain model each reply of the plain planner is good.
+/// In a plain model each reply of the plain planner is good, and its command is the one that is picked.
 pub fn replies_are_good()
-    ensures { RepliesAreGood }
+    ensures good { RepliesAreGood }
+    ensures chosen { RepliesAreChosen }
 {}
 
 /// A plain model that uses each command is accepted.
@@ -23,7 +24,7 @@ pub fn plain_ticks()
     ensures sorted { GoalsAreSorted }
 {}
 
-/// The plain executive's reports are the trace of its events, with good replies; its events may come.
+/// The plain executive's reports are the trace of its events, with good replies and the picked commands; its events may come.
 pub fn reports_are_trace()
     ensures trace { ReportsAreTrace }
     ensures come { EventsMayCome }
