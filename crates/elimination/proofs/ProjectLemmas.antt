@@ -1,12 +1,12 @@
 -- One subject projected away, and then several.
-use Rattle.std.proofs.Common.{◌≡◌, ℕ, zero, suc, ◌+◌, ◌<◌, ◌≤◌, ◌≢◌, Bool, true, false, not, cond, ◌&&◌, ◌||◌, eqb, List, [], ◌∷◌, length, Option, Some, None, refl, sym, ◌∙◌, ap, subst, arith, set, get_or, ◌⊎◌, inl, inr, add-one, length-set, get_or-set_other, get_or-set_same, eq-eqb}
-use Rattle.std.specs.Prelude.{IsSome, MatchOption}
-use Rattle.std.specs.List.{list_all, list_any, filter}
+use Rattle.std.proofs.Common.{◌≡◌, ℕ, zero, suc, ◌+◌, ◌<◌, ◌≤◌, ◌≢◌, Bool, true, false, not, cond, ◌&&◌, ◌||◌, List, [], ◌∷◌, length, Option, Some, None, refl, sym, ◌∙◌, ap, subst, arith, set, get_or, ◌⊎◌, inl, inr, length-set, get_or-set_other, get_or-set_same}
+use Rattle.std.specs.Prelude.{IsSome}
+use Rattle.std.specs.List.{list_all, filter}
 use mathlib.Core.Bool.{or-true, and-false}
 use Rattle.cca_base.specs.Sets.{has}
-use Rattle.elimination.specs.Partial.{IsWithin, IsTotal, HasOutside, given}
-use Rattle.elimination.specs.Rows.{fits, row_open, all_open, is_wide, any_below, is_zero, fix_row, CanMeet, mentions}
-use Rattle.elimination.proofs.RowLemmas.{and_parts, eqb_same, fits_empty, list_all-filter, length-within, list_all_implies}
+use Rattle.elimination.specs.Partial.{IsWithin, IsTotal, HasOutside}
+use Rattle.elimination.specs.Rows.{fits, row_open, all_open, is_wide, any_below, is_zero, fix_row, CanMeet}
+use Rattle.elimination.proofs.RowLemmas.{and_parts, eqb_same, fits_empty, length-within, list_all_implies}
 
 -- ---- rows that name the subject, and the others
 

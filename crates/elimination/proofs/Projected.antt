@@ -1,17 +1,15 @@
 -- Rows without the last subjects as clauses over the first.
-use Rattle.std.proofs.Common.{◌≡◌, ℕ, zero, suc, ◌<◌, ◌≤◌, Bool, true, List, [], ◌∷◌, ◌++◌, length, Option, Some, None, refl, sym, ◌∙◌, ap, subst, arith, get_or, take, drop, replicate, ◌⊎◌, inl, inr, length-take, min, IsTrue, ◌↔◌}
+use Rattle.std.proofs.Common.{◌≡◌, ℕ, zero, suc, ◌<◌, ◌≤◌, true, List, [], ◌∷◌, ◌++◌, length, Option, None, refl, sym, ◌∙◌, ap, subst, arith, get_or, take, drop, replicate, inl, inr, length-take}
 use Rattle.std.specs.List.{list_all}
 use Rattle.std.proofs.lemmas.List.{get_or_past}
 use Rattle.std.specs.Prelude.{IsSome}
 use Rattle.clause_form.specs.declared.clause.Clauses.{Clauses}
-use Rattle.clause_form.specs.declared.clause.Clause.{Clause}
 use Rattle.clause_form.specs.Clauses.{AreValues, all_met}
-use Rattle.elimination.specs.Partial.{IsWithin, IsTotal, HasOutside, given}
+use Rattle.elimination.specs.Partial.{IsWithin, HasOutside, given}
 use Rattle.elimination.specs.Rows.{all_open, row_open, is_zero, CanMeet}
 use Rattle.elimination.specs.Projection.{CanBeMet, IsProjection}
 use Rattle.elimination.proofs.RowLemmas.{length-within}
-use Rattle.elimination.proofs.ProjectLemmas.{same_lists}
-use Rattle.elimination.proofs.ValueLemmas.{within_values, values_given, total_given, given_of, length_given, within_first, all_open-first_only, within-append, within_rest, given_start, starts_with}
+use Rattle.elimination.proofs.ValueLemmas.{within_values, values_given, total_given, given_of, within_first, all_open-first_only, within-append, within_rest, given_start, starts_with}
 
 -- the first rows mean what all clauses do, the second are without the subjects from keep on, and the kept clauses mean the same
 pub record AreKept (all : Clauses) (rows more : List (List ℕ)) (keep : ℕ) (kept : Clauses) : Type 0 where

@@ -1,13 +1,12 @@
 -- Values for all subjects, as lists of numbers and as partial values.
-use Rattle.std.proofs.Common.{◌≡◌, ℕ, zero, suc, ◌+◌, ◌<◌, ◌≤◌, Bool, true, false, ◌&&◌, ◌||◌, List, [], ◌∷◌, ◌++◌, length, Option, Some, None, refl, sym, ◌∙◌, ap, subst, arith, bit_or, set, get_or, take, drop, map, replicate, ◌⊎◌, inl, inr, eq-eqb, length-set, add-one}
-use Rattle.std.specs.List.{list_all, list_any, zip}
-use Rattle.std.specs.Prelude.{IsSome, MatchOption, unwrap_or, All, Contains}
+use Rattle.std.proofs.Common.{◌≡◌, ℕ, zero, suc, ◌+◌, ◌<◌, ◌≤◌, Bool, true, false, ◌||◌, List, [], ◌∷◌, ◌++◌, length, Option, Some, None, refl, sym, ◌∙◌, ap, arith, bit_or, set, get_or, take, drop, replicate, add-one}
+use Rattle.std.specs.List.{list_all}
 use Rattle.cca_base.specs.Sets.{has}
 use Rattle.cca_base.proofs.SetLemmas.{has-or}
 use Rattle.clause_form.specs.Clauses.{AreValues}
 use Rattle.elimination.specs.Partial.{IsWithin, IsTotal, given}
-use Rattle.elimination.specs.Rows.{fits, row_open, all_open, union_rows, is_zero, is_wide}
-use Rattle.elimination.proofs.RowLemmas.{eqb_same, fits_empty, and_parts}
+use Rattle.elimination.specs.Rows.{fits, row_open, all_open, union_rows, is_zero}
+use Rattle.elimination.proofs.RowLemmas.{eqb_same, and_parts}
 
 -- ---- unions, subject by subject
 

@@ -1,5 +1,5 @@
 -- Values for some of the subjects.
-use Rattle.std.specs.Prelude.{◌≡◌, ℕ, zero, suc, ◌<◌, ◌≤◌, ◌⊎◌, List, [], ◌∷◌, length, Option, Some, None, IsSome, MatchOption, map, slice_index_or}
+use Rattle.std.specs.Prelude.{ℕ, zero, suc, ◌<◌, ◌≤◌, ◌⊎◌, List, [], ◌∷◌, length, Option, Some, None, IsSome, MatchOption, map, slice_index_or}
 
 -- a value for each subject
 abbrev pub Values : Type 0

@@ -1,5 +1,5 @@
 -- From clauses over states to the move's prime implicants.
-use Rattle.std.proofs.Common.{◌≡◌, ℕ, ◌+◌, ◌<◌, ◌≤◌, ◌≢◌, Bool, true, false, not, ◌&&◌, eqb, List, [], ◌∷◌, ◌++◌, length, Option, Some, None, refl, sym, ◌∙◌, ap, subst, arith, set, get_or, take, drop, filter, zero, suc, All, AllPairs, Contains, slice_get, IsTrue, ◌↔◌, ◌⊎◌, inl, inr, eq-eqb, get_or-set_other, get_or-set_same, length-set, length-append}
+use Rattle.std.proofs.Common.{◌≡◌, ℕ, ◌<◌, ◌≤◌, ◌≢◌, Bool, true, false, not, ◌&&◌, eqb, List, [], ◌∷◌, ◌++◌, length, Some, None, refl, sym, ◌∙◌, ap, subst, arith, set, get_or, take, drop, filter, zero, suc, All, Contains, slice_get, IsTrue, ◌↔◌, ◌⊎◌, inl, inr, get_or-set_other, get_or-set_same, length-set, length-append}
 use Rattle.std.specs.List.{list_all}
 use Rattle.std.proofs.lemmas.List.{length-map, set-get_or, set-append_left}
 use Rattle.std.proofs.Math.Seq.{take-append_seam, drop-append_seam}
@@ -12,8 +12,8 @@ use Rattle.cca_base.specs.declared.formula.Formula.{Formula}
 use Rattle.cca_base.specs.Automata.{Automata}
 use Rattle.cca_base.specs.Model.{HasMode, IsMove, WellFormed, mode_counts, value_counts}
 use Rattle.cca_base.specs.Formula.{truth, is_within}
-use Rattle.cca_base.specs.Cube.{IsRising, IsPart, Lacks}
-use Rattle.cca_base.specs.State.{IsState, IsWorld, Extends, Holds, Follows}
+use Rattle.cca_base.specs.Cube.{IsPart, Lacks}
+use Rattle.cca_base.specs.State.{IsState, IsWorld, Extends}
 use Rattle.cca_base.specs.Implicants.{source_pair, Suffices, PrimeImplicant}
 use Rattle.cca_base.specs.Accepted.{AreWays}
 use Rattle.cca_base.specs.declared.limits.TheConstants.{MAX_WAYS}

@@ -1,19 +1,17 @@
 -- What the found keys say of the clauses.
-use Rattle.std.proofs.Common.{◌≡◌, ℕ, zero, suc, ◌+◌, ◌<◌, ◌≤◌, Bool, true, false, ◌&&◌, ◌||◌, leb, ltb, List, [], ◌∷◌, length, Option, Some, None, refl, sym, ◌∙◌, ap, subst, arith, get_or, set, map, Vec, Global, All, Contains, ◌⊎◌, inl, inr, lt-ltb, le-leb, IsTrue, ◌↔◌}
+use Rattle.std.proofs.Common.{◌≡◌, ℕ, suc, ◌+◌, ◌<◌, ◌≤◌, Bool, true, false, ◌&&◌, ◌||◌, leb, ltb, List, [], ◌∷◌, length, Option, Some, None, refl, sym, ◌∙◌, ap, subst, arith, get_or, set, map, Vec, Global, All, Contains, inl, inr, lt-ltb, le-leb}
 use Rattle.std.specs.List.{list_all}
 use Rattle.std.specs.Option.{is_none}
 use Rattle.std.proofs.lemmas.List.Folds.{list_all_at}
 use Rattle.cca_base.specs.declared.cube.Pair.{Pair}
 use Rattle.cca_base.proofs.Members.{all_from, contains_cases, contains_here, contains_there, contains_none}
 use Rattle.clause_form.specs.declared.clause.Clauses.{Clauses}
-use Rattle.clause_form.specs.Clauses.{AreClauses}
-use Rattle.elimination.specs.Partial.{IsWithin}
 use Rattle.elimination.specs.Rows.{all_open, row_open, is_zero}
 use Rattle.elimination.proofs.RowLemmas.{list_all_get, eqb_same, and_parts}
 use Rattle.prime_implicants.specs.Found.{IsFoundable, is_needed, Key, key_from, key_of, all_keys, pairs_of_key, are_listed_from, is_proper, cubes_of_keys, AreOrdered, AreMany}
 use Rattle.prime_implicants.specs.Primes.{IsPrime, AreAllPrimes, AreMorePrimes}
 use Rattle.prime_implicants.proofs.ChoiceLemmas.{AreComplete, prime_if, found_if, below_size, passes_below, find_false, row_open-drop}
-use Rattle.prime_implicants.proofs.PairLemmas.{pair_of, given_pairs, values_in, some_inside, below_or_not}
+use Rattle.prime_implicants.proofs.PairLemmas.{values_in, some_inside, below_or_not}
 use Rattle.prime_implicants.proofs.PrimeLemmas.{AreRowsOf, inside, cube_is_prime, partial_is_prime, cube_again}
 use Rattle.prime_implicants.proofs.Counting.{not_among_fewer}
 use Rattle.prime_implicants.proofs.ListedLemmas.{most_true}

@@ -1,9 +1,9 @@
 -- Choices of values that make a row false.
 use Rattle.elimination.specs.Partial.{IsWithin, IsTotal}
-use Rattle.elimination.specs.Rows.{fits, row_open, all_open, mentions}
+use Rattle.elimination.specs.Rows.{fits, row_open, all_open}
 use Rattle.prime_implicants.specs.Found.{CoversAt, Covers, all_below, is_needed, IsFoundable, AgreesTo, IsChoice, IsChoiceFrom, IsBlockedByRows, IsPrimeByRows}
-use Rattle.std.proofs.Common.{◌≡◌, ℕ, zero, suc, ◌+◌, ◌<◌, ◌≤◌, ◌≢◌, Bool, true, false, not, cond, ◌&&◌, ◌||◌, eqb, List, [], ◌∷◌, length, Option, Some, None, refl, sym, ◌∙◌, ap, subst, arith, set, get_or, ◌⊎◌, inl, inr, add-one}
-use Rattle.std.specs.List.{list_all, list_any, filter}
+use Rattle.std.proofs.Common.{◌≡◌, ℕ, zero, suc, ◌+◌, ◌<◌, ◌≤◌, ◌≢◌, Bool, true, false, ◌&&◌, ◌||◌, eqb, List, [], ◌∷◌, length, Option, Some, None, refl, sym, ◌∙◌, ap, subst, arith, set, get_or, ◌⊎◌, inl, inr}
+use Rattle.std.specs.List.{list_all}
 use Rattle.std.proofs.lemmas.Bool.Decides.{nat_tests}
 use Rattle.std.specs.Option.{is_none}
 use Rattle.std.specs.Prelude.{MatchOption, IfSome}
@@ -11,7 +11,7 @@ use Rattle.std.proofs.Common.{get_or-set_other, get_or-set_same}
 use Rattle.elimination.proofs.RowLemmas.{length-within}
 use mathlib.Core.Bool.{and-false}
 use Rattle.cca_base.specs.Sets.{has}
-use Rattle.elimination.proofs.RowLemmas.{and_parts, eqb_same, fits_empty, list_all_implies}
+use Rattle.elimination.proofs.RowLemmas.{and_parts, eqb_same}
 use Rattle.prime_implicants.proofs.Completeness.{all_open_wider, false_if, was_true, blocked_if, extends_self}
 use Rattle.std.proofs.lemmas.List.Folds.{list_all_at}
 use Rattle.std.proofs.Common.{replicate}

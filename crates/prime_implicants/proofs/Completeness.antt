@@ -1,10 +1,9 @@
 -- Blocked cubes make a row false.
 use Rattle.elimination.specs.Partial.{IsWithin, HasFrom, IsTotal}
-use Rattle.elimination.specs.Rows.{fits, row_open, all_open, is_wide, any_below, mentions}
+use Rattle.elimination.specs.Rows.{fits, row_open, all_open, any_below, mentions}
 use Rattle.prime_implicants.specs.Found.{CoversAt, Covers, IsBlockedByRows}
-use Rattle.std.proofs.Common.{◌≡◌, ℕ, zero, suc, ◌+◌, ◌<◌, ◌≤◌, ◌≢◌, Bool, true, false, not, cond, ◌&&◌, ◌||◌, eqb, List, [], ◌∷◌, length, Option, Some, None, refl, sym, ◌∙◌, ap, subst, arith, set, get_or, ◌⊎◌, inl, inr, add-one}
-use Rattle.std.specs.Prelude.{IsSome, MatchOption}
-use Rattle.std.specs.List.{list_all, list_any, filter}
+use Rattle.std.proofs.Common.{◌≡◌, ℕ, zero, suc, ◌<◌, ◌≤◌, Bool, true, false, not, cond, ◌&&◌, ◌||◌, eqb, List, [], ◌∷◌, length, Option, Some, None, refl, sym, ◌∙◌, ap, subst, arith, set, get_or, ◌⊎◌, inl, inr}
+use Rattle.std.specs.List.{filter}
 use Rattle.cca_base.specs.Sets.{has}
 use Rattle.elimination.proofs.RowLemmas.{and_parts, eqb_same, fits_empty, list_all-filter, list_all_implies}
 use Rattle.elimination.proofs.RowLemmas.{length-within}

@@ -1,6 +1,6 @@
 -- What keys that pass all tests stand for.
-use Rattle.std.proofs.Common.{◌≡◌, ℕ, zero, suc, ◌+◌, ◌<◌, ◌≤◌, Bool, true, false, not, ◌&&◌, ◌||◌, eqb, ltb, leb, List, [], ◌∷◌, length, Option, Some, None, refl, sym, ◌∙◌, ap, subst, arith, get_or, set, map, filter, Vec, Global, All, AllPairs, Contains, ◌⊎◌, inl, inr, eq-eqb, lt-ltb, le-leb, IsTrue, ◌↔◌}
-use Rattle.std.specs.Option.{is_some, is_none}
+use Rattle.std.proofs.Common.{◌≡◌, ℕ, suc, ◌<◌, Bool, true, false, not, ◌&&◌, ◌||◌, eqb, ltb, List, [], ◌∷◌, length, Option, Some, None, refl, sym, ◌∙◌, ap, subst, arith, filter, Vec, Global, All, Contains, inl, inr, eq-eqb, lt-ltb}
+use Rattle.std.specs.Option.{is_some}
 use Rattle.std.specs.List.{list_all, list_any, AllByRecursion}
 use Rattle.std.specs.List.Sorted.{IsStrictlySortedBy}
 use Rattle.std.specs.Cmp.Lexicographic.{slice_cmp}
@@ -17,7 +17,7 @@ use Rattle.elimination.specs.Partial.{IsWithin}
 use Rattle.elimination.specs.Rows.{all_open}
 use Rattle.elimination.proofs.RowLemmas.{and_parts, eqb_same, length-within, list_all_get}
 use Rattle.prime_implicants.specs.Found.{IsFoundable, all_below, is_needed, Key, key_from, key_of, all_keys, pairs_listed, pairs_of_key, cubes_of_keys, AreOrdered}
-use Rattle.prime_implicants.proofs.PairLemmas.{pair_of, given_pairs, values_in, length-values_in, matches_values, matches_given, rising_given, rising_agree, partial_same, nothing_there, some_inside}
+use Rattle.prime_implicants.proofs.PairLemmas.{pair_of, given_pairs, values_in, length-values_in, matches_values, matches_given, rising_given, rising_agree, partial_same, some_inside}
 
 -- ---- a key and its pairs
 

@@ -7,7 +7,7 @@ use Rattle.std.specs.BTreeSet.{insert_key}
 use Rattle.std.specs.Ordering.{match_ordering}
 use Rattle.std.specs.declared.cmp.Ordering.{Ordering}
 use Rattle.std.specs.declared.cmp.Ordering.TheVariants.{Less, Equal, Greater}
-use mathlib.Core.Bool.{and_comm, and_assoc, and-true}
+use mathlib.Core.Bool.{and_comm, and-true}
 
 same_and : (a b c : Bool) → a ≡ c → (a && b) ≡ ((a && b) && c)
 same_and true b c e = sym (ap (λ z. b && z) (sym e) ∙ and-true b)

@@ -1,20 +1,19 @@
 -- Prime partial values and prime cubes are the same.
-use Rattle.std.proofs.Common.{◌≡◌, ℕ, zero, suc, ◌+◌, ◌<◌, ◌≤◌, Bool, true, false, List, [], ◌∷◌, length, Option, Some, None, refl, sym, ◌∙◌, ap, subst, arith, get_or, All, Contains, IsTrue, ◌↔◌, ◌⊎◌, inl, inr}
+use Rattle.std.proofs.Common.{◌≡◌, ℕ, ◌<◌, Bool, true, false, List, length, Option, Some, None, refl, sym, ◌∙◌, ap, subst, arith, get_or, All, Contains, inl, inr}
 use Rattle.std.proofs.lemmas.List.{get_or_past}
 use Rattle.cca_base.specs.declared.cube.Pair.{Pair}
-use Rattle.cca_base.specs.Cube.{IsRising, IsPart}
-use Rattle.cca_base.specs.State.{Extends}
+use Rattle.cca_base.specs.Cube.{IsPart}
 use Rattle.cca_base.proofs.Members.{all_from}
 use Rattle.clause_form.specs.declared.clause.Clauses.{Clauses}
-use Rattle.clause_form.specs.Clauses.{AreValues, all_met}
-use Rattle.elimination.specs.Partial.{IsWithin, IsTotal, given}
+use Rattle.clause_form.specs.Clauses.{all_met}
+use Rattle.elimination.specs.Partial.{IsWithin, given}
 use Rattle.elimination.specs.Rows.{all_open}
 use Rattle.elimination.proofs.RowLemmas.{length-within}
 use Rattle.elimination.proofs.ValueLemmas.{within_values, values_given, total_given, given_of, length_given}
 use Rattle.prime_implicants.specs.Found.{Covers, IsBlockedByRows, IsPrimeByRows}
 use Rattle.prime_implicants.specs.Primes.{IsBlocked, IsPrime}
 use Rattle.prime_implicants.proofs.ChoiceLemmas.{below_size, same_length}
-use Rattle.prime_implicants.proofs.PairLemmas.{pair_of, all_of, Matches, AgreeInPairs, given_pairs, matches_given, rising_given, values_in, length-values_in, matches_values, rising_agree, rising_same, to_extends, of_extends, covers_if, covers_value, partial_same, within_if, nothing_there, below_or_not, some_inside}
+use Rattle.prime_implicants.proofs.PairLemmas.{pair_of, all_of, Matches, AgreeInPairs, given_pairs, matches_given, rising_given, values_in, length-values_in, matches_values, rising_agree, rising_same, to_extends, of_extends, covers_if, covers_value, partial_same, within_if, below_or_not, some_inside}
 
 -- the rows are true of values for all subjects exactly where the clauses are
 abbrev pub AreRowsOf : Clauses → List (List ℕ) → Type 0

@@ -1,5 +1,5 @@
 -- Partial values that nothing meeting all rows has, the minimal ones, and their keys.
-use Rattle.std.specs.Prelude.{◌≡◌, ℕ, zero, suc, Bool, true, false, not, ◌==◌, ◌<◌, ◌≤◌, ◌&&◌, ◌||◌, List, [], ◌∷◌, length, Option, Some, None, IsSome, map, filter, slice_index, slice_index_or, slice_set, ◌≢◌, nat_lt, nat_le}
+use Rattle.std.specs.Prelude.{◌≡◌, ℕ, zero, suc, Bool, true, false, ◌<◌, ◌≤◌, ◌&&◌, ◌||◌, List, [], ◌∷◌, length, Option, Some, None, map, filter, slice_index, slice_index_or, slice_set, ◌≢◌, nat_lt, nat_le}
 use Rattle.std.specs.Option.{is_none, is_some}
 use Rattle.std.proofs.Common.{Vec, Global}
 use Rattle.std.specs.List.Sorted.{IsStrictlySortedBy}
@@ -8,7 +8,7 @@ use Rattle.std.specs.Ordering.{nat_cmp}
 use Rattle.std.specs.List.{list_all}
 use Rattle.cca_base.specs.Sets.{has}
 use Rattle.cca_base.specs.declared.cube.Pair.{Pair}
-use Rattle.elimination.specs.Partial.{IsTotal, IsWithin, Partial}
+use Rattle.elimination.specs.Partial.{IsTotal, IsWithin}
 use Rattle.elimination.specs.Rows.{all_open}
 
 -- the first has the second's value, if it has one

@@ -1,4 +1,4 @@
-use Rattle.std.proofs.Common.{rules, arith, ◌≡◌, ◌<◌, ◌∙◌, ◌||◌, ap, sym, length, get_or, take}
+use Rattle.std.proofs.Common.{rules, arith, ◌<◌, ◌∙◌, ◌||◌, ap, sym, length, get_or, take}
 use Rattle.std.proofs.lemmas.List.{get_or_read}
 use Rattle.cca_base.specs.Sets.{has}
 use Rattle.clause_form.specs.Clauses.{is_met}

@@ -1,6 +1,5 @@
-use Rattle.std.proofs.Common.{arith, ◌≡◌, ◌∙◌, ap, bit_or, length, get_or, set, sym, ◌||◌}
+use Rattle.std.proofs.Common.{◌≡◌, ◌∙◌, ap, bit_or, get_or, set}
 use Rattle.std.proofs.lemmas.List.{get_or_read}
-use Rattle.cca_base.specs.Sets.{has}
 use Rattle.elimination.specs.Partial.{given}
 use Rattle.elimination.specs.Rows.{row_open}
 use Rattle.elimination.proofs.ValueLemmas.{row_open-widened}

@@ -1,6 +1,5 @@
-use Rattle.std.proofs.Common.{rules, arith, length, ◌≡◌, ◌∙◌, ◌<◌, ◌&&◌, ◌||◌, ap, sym, get_or, take, List, ℕ, Bool, true}
+use Rattle.std.proofs.Common.{rules, length, ◌≡◌, ◌∙◌, ◌<◌, ◌&&◌, ◌||◌, ap, sym, take, List, ℕ, Bool, true}
 use Rattle.std.specs.List.{list_all}
-use Rattle.std.proofs.lemmas.List.{get_or_read}
 use Rattle.elimination.specs.Rows.{is_wide, all_open, row_open, union_rows}
 use Rattle.elimination.proofs.RowLemmas.{wide-all, gone_through, list_all_step, list_all_get}
 use Rattle.elimination.proofs.gathering.either.Goals as goal

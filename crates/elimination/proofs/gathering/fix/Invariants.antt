@@ -1,4 +1,4 @@
-use Rattle.std.proofs.Common.{◌≡◌, ℕ, Bool, true, Some, slice_set, take}
+use Rattle.std.proofs.Common.{◌≡◌, Bool, true, Some, slice_set, take}
 use Rattle.std.specs.List.{list_all}
 use Rattle.elimination.specs.Partial.{Partial}
 use Rattle.elimination.specs.Rows.{all_open, Sets, is_sized, fix_row}

@@ -1,6 +1,6 @@
-use Rattle.std.proofs.Common.{rules, arith, length, ◌≡◌, ◌∙◌, ◌<◌, ◌&&◌, ◌||◌, ap, sym, set, Some, List, ℕ, Bool, true, false, replicate, ◌∷◌, []}
+use Rattle.std.proofs.Common.{rules, length, ◌≡◌, ◌∙◌, ◌&&◌, ◌||◌, ap, sym, set, Some, ℕ, Bool, true, replicate, ◌∷◌, []}
 use Rattle.std.specs.List.{list_all}
-use Rattle.elimination.specs.Rows.{is_wide, all_open, row_open, any_below, is_sized, is_zero}
+use Rattle.elimination.specs.Rows.{is_wide, all_open, any_below, is_zero}
 use Rattle.elimination.proofs.RowLemmas.{wide-all, rows_in, rows_sized, wide-fixed, length-within, row_open-never, wide-never, any_below-step, zero-never, zero-all}
 use Rattle.elimination.proofs.gathering.gather.Goals as goal
 

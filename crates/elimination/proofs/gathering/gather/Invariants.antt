@@ -1,4 +1,4 @@
-use Rattle.std.proofs.Common.{◌≡◌, ℕ, true, ◌||◌, length, Some, slice_set}
+use Rattle.std.proofs.Common.{◌≡◌, ℕ, true, length, Some, slice_set}
 use Rattle.std.specs.List.{list_all}
 use Rattle.elimination.specs.Partial.{IsWithin, Partial}
 use Rattle.elimination.specs.Rows.{all_open, is_wide, any_below, is_zero, fix_row}

@@ -1,4 +1,4 @@
-use Rattle.std.proofs.Common.{rules, arith, ◌≡◌, ◌∙◌, ap, sym, ◌&&◌, true, false, length, subst, OnOk}
+use Rattle.std.proofs.Common.{rules, ◌≡◌, ◌∙◌, ap, sym, ◌&&◌, true, length, subst}
 use Rattle.std.specs.List.{list_all}
 use Rattle.elimination.specs.Rows.{all_open, row_open, is_wide, union_rows, is_always}
 use Rattle.elimination.proofs.RowLemmas.{unless_always, row_open-always, union_open, wide-union, widths-of}

@@ -1,4 +1,4 @@
-use Rattle.std.proofs.Common.{rules, length}
+use Rattle.std.proofs.Common.{length}
 use Rattle.elimination.specs.Rows.{is_wide}
 use Rattle.elimination.proofs.RowLemmas.{wide-unions}
 use Rattle.elimination.proofs.gathering.join_row.Goals as goal

@@ -1,7 +1,7 @@
-use Rattle.std.proofs.Common.{◌≡◌, true, Bool, ◌&&◌, ◌||◌, length, take}
+use Rattle.std.proofs.Common.{◌≡◌, true, Bool, ◌&&◌, ◌||◌, take}
 use Rattle.std.specs.List.{list_all}
 use Rattle.elimination.specs.Partial.{IsWithin, Partial}
-use Rattle.elimination.specs.Rows.{all_open, row_open, is_wide, union_rows, Sets}
+use Rattle.elimination.specs.Rows.{all_open, row_open, union_rows, Sets}
 use Rattle.elimination.proofs.gathering.join_row.Given as goal
 
 abbrev pub invariant-loop-other : goal.invariant-loop-other

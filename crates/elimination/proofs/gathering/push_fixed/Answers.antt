@@ -1,7 +1,7 @@
-use Rattle.std.proofs.Common.{rules, arith, ◌≡◌, ◌∙◌, ap, sym, ◌&&◌, true, false, length, get_or, set, eqb, List, ℕ, ◌++◌, ◌∷◌, []}
+use Rattle.std.proofs.Common.{rules, ◌≡◌, ◌∙◌, ap, sym, ◌&&◌, true, false, get_or, set, ◌++◌, ◌∷◌, []}
 use Rattle.std.proofs.lemmas.List.{get_or_read}
 use Rattle.cca_base.specs.Sets.{has}
-use Rattle.elimination.specs.Rows.{all_open, row_open}
+use Rattle.elimination.specs.Rows.{all_open}
 use Rattle.elimination.proofs.RowLemmas.{has_set, lacks_set, unless_always, eqb_same, all_open-push}
 use Rattle.elimination.proofs.gathering.push_fixed.Goals as goal
 

@@ -1,7 +1,6 @@
-use Rattle.std.proofs.Common.{rules, arith, ◌≡◌, ◌≤◌, length, le-leb, subst, sym, true, ap, ◌∙◌}
+use Rattle.std.proofs.Common.{arith, ◌≡◌, length, le-leb, true}
 use Rattle.std.specs.List.{list_all}
-use Rattle.elimination.specs.Partial.{given}
-use Rattle.elimination.specs.Rows.{is_wide, all_open, is_zero}
+use Rattle.elimination.specs.Rows.{is_wide}
 use Rattle.elimination.proofs.RowLemmas.{list_all_implies, widths-of}
 use Rattle.elimination.proofs.Projected.{exact}
 use Rattle.elimination.proofs.projection.project.Goals as goal

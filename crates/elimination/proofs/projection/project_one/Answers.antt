@@ -1,6 +1,6 @@
-use Rattle.std.proofs.Common.{rules, arith, length, ◌≡◌, ◌∙◌, ◌&&◌, ap, sym, refl, set, get_or, not, Some, List, ℕ, Bool, true, false}
+use Rattle.std.proofs.Common.{rules, length, ◌≡◌, ◌∙◌, ◌&&◌, ap, sym, set, get_or, Some, true}
 use Rattle.std.specs.List.{list_all, filter}
-use Rattle.elimination.specs.Rows.{is_wide, all_open, row_open, any_below, is_zero, fix_row, mentions}
+use Rattle.elimination.specs.Rows.{is_wide, all_open, any_below, is_zero, fix_row, mentions}
 use Rattle.elimination.proofs.RowLemmas.{rows_in, list_all-filter}
 use Rattle.elimination.proofs.ProjectLemmas.{split, row_open-unnamed, any_same, any_and, zero_unfixed, filter_gives, not_not}
 use Rattle.elimination.proofs.projection.project_one.Goals as goal

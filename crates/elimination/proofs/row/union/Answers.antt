@@ -1,4 +1,4 @@
-use Rattle.std.proofs.Common.{rules, arith, ◌≡◌, ◌<◌, ◌∙◌, ◌++◌, ◌∷◌, [], ap, sym, bit_or, length, get_or, take, List, ℕ}
+use Rattle.std.proofs.Common.{rules, arith, ◌≡◌, ◌<◌, ◌∙◌, ◌++◌, ◌∷◌, [], ap, sym, bit_or, length, get_or, take}
 use Rattle.std.proofs.lemmas.List.{get_or_read}
 use Rattle.elimination.specs.Rows.{union_rows}
 use Rattle.elimination.proofs.ValueLemmas.{union_rows-step}

@@ -1,5 +1,5 @@
-use Rattle.std.proofs.Common.{rules, ◌≡◌, ◌<◌, ◌∙◌, ◌&&◌, ◌||◌, ◌++◌, ◌∷◌, [], ap, sym, true, false, set, filter, List, length, All}
-use Rattle.std.specs.List.{list_all, list_any}
+use Rattle.std.proofs.Common.{rules, ◌≡◌, ◌<◌, ◌∙◌, ◌&&◌, ◌||◌, ◌++◌, ◌∷◌, [], ap, sym, true, false, set, filter, All}
+use Rattle.std.specs.List.{list_any}
 use Rattle.std.proofs.lemmas.List.Folds.{list_all-append}
 use Rattle.std.proofs.lemmas.List.Elements.{All-push, All-filter}
 use mathlib.Core.Bool.{and-true}

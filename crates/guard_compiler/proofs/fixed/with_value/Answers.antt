@@ -1,4 +1,4 @@
-use Rattle.std.proofs.Common.{rules, arith, ◌≡◌, ◌∙◌, ◌<◌, ◌&&◌, length, ap, sym, get_or, set, subst, take}
+use Rattle.std.proofs.Common.{arith, ◌∙◌, ◌<◌, ◌&&◌, length, ap, sym, set, subst, take}
 use Rattle.std.specs.Prelude.{All}
 use Rattle.clause_form.specs.declared.clause.Clause.{Clause}
 use Rattle.clause_form.specs.declared.clause.Literal.{Literal}

@@ -1,4 +1,4 @@
-use Rattle.std.proofs.Common.{◌≡◌, take, not, eqb}
+use Rattle.std.proofs.Common.{◌≡◌, take}
 use Rattle.std.specs.List.{filter}
 use Rattle.guard_compiler.proofs.FixedLemmas.{is_other}
 use Rattle.guard_compiler.proofs.fixed.without.Given as goal

@@ -1,7 +1,5 @@
-use Rattle.std.proofs.Common.{rules, arith, ◌≡◌, ◌≤◌, ◌∙◌, length, ap, sym, subst, slice_get, Some, refl, true}
-use Rattle.cca_base.specs.declared.model.Move.{Move}
+use Rattle.std.proofs.Common.{◌≡◌, ◌≤◌, ◌∙◌, length, ap, sym, subst, slice_get, Some, refl, true}
 use Rattle.cca_base.specs.Formula.{is_within}
-use Rattle.cca_base.specs.Model.{IsMove}
 use Rattle.cca_base.specs.Accepted.{AreWays}
 use Rattle.cca_base.specs.declared.limits.TheConstants.{MAX_WAYS}
 use Rattle.guard_compiler.specs.Ways.{HasManyWays}

@@ -1,9 +1,7 @@
-use Rattle.elimination.specs.Partial.{IsWithin, Partial}
 use Rattle.elimination.specs.Rows.{all_open}
-use Rattle.prime_implicants.specs.Found.{all_below, is_needed, IsFoundable, AgreesTo, IsChoiceFrom, Key, key_of, all_keys}
-use Rattle.std.proofs.Common.{rules, arith, ◌≡◌, ℕ, Bool, true, false, ◌<◌, ◌≤◌, ◌+◌, length, Some, None, sym, ◌∙◌, ap, subst}
+use Rattle.prime_implicants.specs.Found.{all_below, is_needed, key_of}
+use Rattle.std.proofs.Common.{rules, arith, ◌≡◌, true, false, ◌<◌, ◌≤◌, length, Some, None, sym, ◌∙◌, ap, subst}
 use Rattle.elimination.proofs.RowLemmas.{length-within, eqb_same}
-use Rattle.std.specs.BTreeSet.{btree_set_len}
 use Rattle.prime_implicants.proofs.ChoiceLemmas.{whole, ended, step_empty, later, chosen, below_size, agree_set, free_set, not_same, set_none}
 use Rattle.cca_base.specs.Sets.{has}
 use Rattle.prime_implicants.proofs.Completeness.{within-set}

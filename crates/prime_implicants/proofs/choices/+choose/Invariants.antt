@@ -1,7 +1,6 @@
 use Rattle.elimination.specs.Partial.{Partial}
 use Rattle.prime_implicants.specs.Found.{IsFoundable, AgreesTo, IsChoiceFrom, Key, key_of, all_keys}
 use Rattle.std.proofs.Common.{◌≡◌, ℕ, Bool, true, false, ◌<◌, ◌≤◌, ◌+◌, ◌-◌, length, Some, None, get_or}
-use Rattle.std.specs.List.{list_all}
 use Rattle.cca_base.specs.Sets.{has}
 use Rattle.std.specs.BTreeSet.{btree_set_len}
 use Rattle.prime_implicants.proofs.choices.+choose.Given as goal

@@ -1,7 +1,6 @@
 use Rattle.elimination.specs.Rows.{is_wide, row_open}
-use Rattle.prime_implicants.specs.Found.{IsChoiceFrom, key_of}
-use Rattle.std.proofs.Common.{rules, arith, length, ◌≡◌, ◌<◌, ◌≤◌, ◌⊎◌, inl, inr, ap, sym, subst, ◌∙◌, ℕ, true, false, get_or, List, []}
-use Rattle.std.specs.List.{list_all}
+use Rattle.prime_implicants.specs.Found.{IsChoiceFrom}
+use Rattle.std.proofs.Common.{rules, arith, length, ◌≡◌, ◌<◌, ◌≤◌, ◌⊎◌, inl, inr, ap, sym, subst, ◌∙◌, false, get_or, []}
 use Rattle.elimination.proofs.RowLemmas.{list_all_get, eqb_same, length-within}
 use Rattle.prime_implicants.proofs.ChoiceLemmas.{is_choice, find_false}
 use Rattle.std.specs.BTreeSet.{btree_set_len}

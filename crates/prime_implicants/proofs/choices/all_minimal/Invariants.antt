@@ -1,8 +1,7 @@
 use Rattle.elimination.specs.Partial.{Partial}
 use Rattle.elimination.specs.Rows.{row_open}
 use Rattle.prime_implicants.specs.Found.{IsFoundable, Key, key_of, all_keys}
-use Rattle.std.proofs.Common.{◌≡◌, ℕ, Bool, true, false, ◌<◌, ◌≤◌, length, replicate, Option, None, get_or, [], List}
-use Rattle.std.specs.List.{list_all}
+use Rattle.std.proofs.Common.{◌≡◌, ℕ, Bool, true, false, ◌<◌, ◌≤◌, get_or, []}
 use Rattle.std.specs.BTreeSet.{btree_set_len}
 use Rattle.prime_implicants.proofs.choices.all_minimal.Given as goal
 

@@ -1,5 +1,5 @@
-use Rattle.std.proofs.Common.{rules, arith, length, ◌≡◌, replicate, None, ◌<◌, ◌≤◌, ℕ}
-use Rattle.prime_implicants.proofs.ChoiceLemmas.{within_nothing, free_nothing}
+use Rattle.std.proofs.Common.{rules}
+use Rattle.prime_implicants.proofs.ChoiceLemmas.{within_nothing}
 use Rattle.prime_implicants.proofs.choices.choose_row.Goals as goal
 
 pub choose-requires-clause-within : goal.choose-requires-clause-within

@@ -1,5 +1,5 @@
-use Rattle.elimination.specs.Rows.{is_wide, is_in, is_zero, mentions}
-use Rattle.std.proofs.Common.{rules, arith, length, ◌≡◌, ◌∙◌, ap, true, List, ℕ}
+use Rattle.elimination.specs.Rows.{is_wide, is_zero, mentions}
+use Rattle.std.proofs.Common.{rules, length, ◌≡◌, true}
 use Rattle.std.specs.List.{list_all, filter}
 use Rattle.elimination.proofs.RowLemmas.{rows_in, list_all-filter}
 use Rattle.elimination.proofs.ProjectLemmas.{all_stay}

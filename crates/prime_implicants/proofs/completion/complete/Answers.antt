@@ -1,7 +1,4 @@
-use Rattle.elimination.specs.Partial.{IsWithin, Partial, HasFrom, IsTotal}
-use Rattle.elimination.specs.Rows.{all_open}
-use Rattle.prime_implicants.specs.Found.{IsBlockedByRows}
-use Rattle.std.proofs.Common.{rules, refl, arith, length, ◌≡◌, ◌∙◌, ◌≤◌, ap, sym, add-one, ◌+◌, suc, false, true}
+use Rattle.std.proofs.Common.{refl, arith, ◌∙◌, add-one}
 use Rattle.elimination.proofs.RowLemmas.{length-within}
 use Rattle.prime_implicants.proofs.Completeness.{start, complete_step, same_step, from_end, IsClosed}
 use Rattle.prime_implicants.proofs.completion.complete.Goals as goal

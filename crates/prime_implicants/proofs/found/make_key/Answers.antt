@@ -1,5 +1,5 @@
 use Rattle.prime_implicants.specs.Found.{key_from}
-use Rattle.std.proofs.Common.{rules, ◌≡◌, ◌∙◌, ◌∷◌, ◌++◌, ap, sym, length, ◌<◌, take, get_or, None, []}
+use Rattle.std.proofs.Common.{rules, ◌≡◌, ◌∙◌, ◌∷◌, ◌++◌, ap, sym, length, ◌<◌, get_or, None, []}
 use Rattle.std.specs.List.{filter}
 use Rattle.std.specs.Option.{is_some}
 use Rattle.prime_implicants.proofs.KeyLemmas.{key_step}

@@ -1,8 +1,7 @@
-use Rattle.std.proofs.Common.{rules, arith, ◌≡◌, ◌≤◌, ◌∙◌, length, ap, sym, subst}
-use Rattle.prime_implicants.specs.Found.{all_keys, is_proper, AreMany, AreOrdered}
+use Rattle.std.proofs.Common.{◌≤◌, length}
+use Rattle.prime_implicants.specs.Found.{is_proper, AreMany, AreOrdered}
 use Rattle.prime_implicants.specs.Primes.{AreAllPrimes, AreMorePrimes}
 use Rattle.prime_implicants.proofs.AnswerLemmas.{AreFinished, AreSound, HasEvery, all_primes, more_primes, not_more, proper_key}
-use Rattle.prime_implicants.proofs.ChoiceLemmas.{AreComplete}
 use Rattle.prime_implicants.proofs.implicants.primes.Goals.{After-drop-rows-in-Some, After-drop-rows-2}
 use Rattle.prime_implicants.proofs.implicants.primes.Goals as goal
 
