@@ -1,6 +1,7 @@
-ghost use Rattle.std.specs.Prelude.{◌≤◌, length, IfOk};
-ghost use Rattle.causal_graph.specs.Answers.{IsOrder};
-ghost use Rattle.causal_graph.specs.Needs.{AreRows};
+ghost use Rattle.std.specs.Prelude.{◌≤◌, ◌↔◌, length, IfOk};
+ghost use Rattle.cca_base.specs.Relations.{IsAcyclicBy};
+ghost use Rattle.causal_graph.specs.Answers.{IsEffects, IsOrder};
+ghost use Rattle.causal_graph.specs.Needs.{AreRows, RowNeeds};
 
 use crate::answer::Order;
 use crate::cycle::shown_cycle;
@@ -13,7 +14,8 @@ use std::alloc::{AllocError, Global};
 pub fn order(alloc: Global, needs: &List<List<u16>>) -> Result<Order, AllocError>
     requires few { length needs.now ≤ 65536 }
     requires rows { AreRows needs.now }
-    ensures { IfOk result (IsOrder needs.now) }
+    ensures order { IfOk result (IsOrder needs.now) }
+    ensures acyclic { IfOk result (λ o. IsEffects o ↔ IsAcyclicBy (RowNeeds needs.now)) }
 {
     match effects_first(alloc, needs)? {
         Some(list) => Ok(Order::Effects(list)),
