@@ -9,8 +9,8 @@ use crate::effects::effects_first;
 use cca_base::List;
 use std::alloc::{AllocError, Global};
 
-/// The order of the components, of which row c of `needs` lists those that c needs. It is `Effects` exactly where no
-/// component is its own ancestor. The error is want of memory.
+/// The order of the components, or the shown cycle. Row c of `needs` lists the components that c needs, in any order. The
+/// answer is `Effects` exactly where no component is its own ancestor. The error is want of memory.
 pub fn order(alloc: Global, needs: &List<List<u16>>) -> Result<Order, AllocError>
     requires few { length needs.now ≤ 65536 }
     requires rows { AreRows needs.now }
