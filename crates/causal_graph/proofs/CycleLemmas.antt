@@ -1,19 +1,19 @@
 -- The shown cycle: a way back that always goes to the least next row that is one nearer.
-use Rattle.std.proofs.Common.{◌≡◌, ◌≢◌, ◌<◌, ◌≤◌, ◌+◌, ◌-◌, ◌⊎◌, ℕ, zero, suc, List, [], ◌∷◌, ◌++◌, length, slice_index, get_or, All, AllPairs, Contains, inl, inr, refl, sym, ap, subst, ◌∙◌, arith}
+use Rattle.std.proofs.Common.{◌≡◌, ◌≢◌, ◌<◌, ◌≤◌, ◌+◌, ◌-◌, ◌⊎◌, ℕ, List, [], ◌∷◌, ◌++◌, length, slice_index, get_or, All, AllPairs, Contains, inl, inr, refl, sym, ap, subst, ◌∙◌, arith}
 use Rattle.std.specs.Ordering.{nat_cmp, ordering_then}
 use Rattle.std.specs.Cmp.Lexicographic.{slice_cmp}
 use Rattle.std.specs.declared.cmp.Ordering.{Ordering}
 use Rattle.std.specs.declared.cmp.Ordering.TheVariants.{Less, Equal, Greater}
-use Rattle.std.proofs.lemmas.Bool.{cases_lt, cases_order, eq-eqb, ne_eqb, le-ltb, lt-ltb}
+use Rattle.std.proofs.lemmas.Bool.{cases_lt, cases_order, eq-eqb, ne_eqb, le-ltb}
 use Rattle.std.proofs.lemmas.List.{append-nil, append_assoc, length_push}
 use Rattle.std.proofs.lemmas.List.Elements.{All-weaker, All-cons, All-nil}
 use Rattle.std.proofs.lemmas.List.Kept.{AllPairs-cons}
 use Rattle.cca_base.proofs.Members.{contains_cases, contains_here, contains_there, contains_none}
 use Rattle.cca_base.proofs.RelationLemmas.{ancestor_direct, ancestor_join}
 use Rattle.cca_base.specs.Estimates.{IsEarlier}
-use Rattle.cca_base.specs.Relations.{PathBy, AncestorBy, IsCycleBy, IsShownCycleBy}
+use Rattle.cca_base.specs.Relations.{PathBy, AncestorBy, IsShownCycleBy}
 use Rattle.causal_graph.specs.Needs.{RowNeeds, AreRows}
-use Rattle.causal_graph.specs.Search.{AreDistances, IsNearest, IsFirstCycle, IsStuck, HasStuck}
+use Rattle.causal_graph.specs.Search.{AreDistances, IsNearest, IsFirstCycle, HasStuck}
 use Rattle.causal_graph.proofs.EffectsLemmas.{needed_within}
 
 -- ---- lists entry by entry
@@ -149,12 +149,17 @@ module _ (rows : List (List ℕ)) (t : ℕ) (distances : List ℕ) (are : AreDis
         (far.0, append_assoc cycle (e ∷ []) rest ∙ far.1, far.2);
   }
 
+  finished : (cycle between : List ℕ) → cycle ++ [] ≡ t ∷ between → Greedy t between → IsFirstCycle rows t (cycle ++ t ∷ [])
+  finished cycle between is g =
+      let whole : t ∷ between ≡ cycle = sym is ∙ append-nil cycle in
+      subst (λ l. IsFirstCycle rows t (l ++ t ∷ [])) whole (first_cycle between g)
+
   pub stepping_done : (cycle : List ℕ) (here left : ℕ) → Stepping cycle here left → left ≤ 1 → IsFirstCycle rows t (cycle ++ t ∷ [])
   stepping_done cycle here left h last =
       let way = are.reached here (omega (arith, h.left_is, h.positive)) in
       let one : at here ≡ 1 = omega (arith, h.left_is, h.positive, last) in
       let far = h.so_far [] (last_of here way.0 way.1 (omega (arith, way.2, one)), one) in
-      subst (λ l. IsFirstCycle rows t (l ++ t ∷ [])) (sym (sym (append-nil cycle) ∙ far.1)) (first_cycle far.0 far.2)
+      finished cycle far.0 far.1 far.2
 
 -- ---- the search for the least row on a cycle
 

@@ -1,16 +1,15 @@
 -- Rows that are taken effects first.
-use Rattle.std.proofs.Common.{◌≡◌, ◌<◌, ◌≤◌, ◌==◌, ℕ, zero, suc, Bool, not, List, [], ◌∷◌, ◌++◌, length, slice_index, get_or, take, drop, All, AllPairs, Contains, filter, refl, sym, ap, subst, ◌∙◌, inl, inr, arith}
+use Rattle.std.proofs.Common.{◌≡◌, ◌<◌, ◌≤◌, ◌==◌, ℕ, zero, suc, Bool, not, List, [], ◌∷◌, ◌++◌, length, get_or, All, AllPairs, Contains, filter, sym, ap, subst, ◌∙◌, inl, inr, arith}
 use Rattle.std.specs.Prelude.{remove}
 use Rattle.std.proofs.lemmas.Bool.{cases_lt, ne_eqb, not_from_false, cond-true}
 use Rattle.std.proofs.lemmas.List.{append-nil, append_assoc, get_or_default, nil_from_length}
-use Rattle.std.proofs.lemmas.List.Elements.{All-contains, All-tail, All-filter, Contains-get_or}
+use Rattle.std.proofs.lemmas.List.Elements.{All-contains, All-filter}
 use Rattle.std.proofs.lemmas.List.Kept.{AllPairs-filter}
-use Rattle.cca_base.proofs.Members.{all_from, contains_cases, contains_none}
 use Rattle.cca_base.proofs.Pairwise.{AllPairs-head, AllPairs-tail}
-use Rattle.cca_base.proofs.RelationLemmas.{numbers_are_below, numbers_rise, numbers_within, below_contains, takes_out, order_acyclic}
+use Rattle.cca_base.proofs.RelationLemmas.{numbers_are_below, numbers_rise, below_contains, takes_out, order_acyclic}
 use Rattle.cca_base.specs.Relations.{numbers_below, PathBy, IsAcyclicBy, IsFreeBy, TakesEffectsFirstBy, IsEffectsFirstBy}
 use Rattle.causal_graph.specs.Needs.{RowNeeds, AreRows}
-use Rattle.causal_graph.specs.Search.{IsSet, AreNeeded, IsFirstUnset, IsStuck, HasStuck}
+use Rattle.causal_graph.specs.Search.{IsSet, AreNeeded, IsFirstUnset, HasStuck}
 use Rattle.causal_graph.proofs.DistanceLemmas.{row_within}
 
 -- rising numbers without the one at a place

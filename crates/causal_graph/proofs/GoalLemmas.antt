@@ -4,11 +4,9 @@ use Rattle.std.proofs.lemmas.Bool.{cases_order, eq-eqb, not_from_true, false≢t
 use Rattle.std.proofs.lemmas.List.{append-nil, append_assoc, take_more, take_all, drop_more, drop_all, get_or_default}
 use Rattle.std.proofs.lemmas.List.Elements.{All-contains, All-nil, All-push, Contains-push, Contains-push_cases, Contains-append_left}
 use Rattle.std.proofs.lemmas.List.Kept.{AllPairs-cons}
-use Rattle.cca_base.proofs.Members.{all_from, contains_cases, contains_here, contains_there, contains_none, from_filter}
+use Rattle.cca_base.proofs.Members.{all_from, contains_cases, contains_none, from_filter}
 use Rattle.cca_base.proofs.RelationLemmas.{all_taken, below_contains}
-use Rattle.cca_base.specs.Accepted.{CompiledParts, IsCompiled}
 use Rattle.cca_base.specs.Cube.{IsCube, Lacks}
-use Rattle.cca_base.specs.Implicants.{Needs}
 use Rattle.cca_base.specs.Orders.{AreInOrder, IsSorted}
 use Rattle.cca_base.specs.Relations.{numbers_below, TakesEffectsFirstBy}
 use Rattle.cca_base.specs.declared.cube.Pair.{Pair}

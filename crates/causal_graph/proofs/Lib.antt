@@ -9,3 +9,4 @@ pub mod ReachLemmas
 pub mod CycleLemmas
 pub mod GoalLemmas
 pub mod PermutationLemmas
+pub mod ModelLemmas

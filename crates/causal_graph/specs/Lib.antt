@@ -1,3 +1,4 @@
 pub mod Needs
 pub mod Answers
 pub mod Search
+pub mod Laws

@@ -31,7 +31,7 @@ fn needed(
 {
     let mut flags = vec![in alloc; false; needs.len()]?;
     for c in remaining {
-        let _ = mark(needs.get(*c as usize).as_slice(), flags.as_mut_slice());
+        mark(needs.get(*c as usize).as_slice(), flags.as_mut_slice());
     }
     Ok(flags)
 }

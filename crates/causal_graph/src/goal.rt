@@ -23,9 +23,10 @@ pub fn sort_goal(alloc: Global, compiled: &Compiled, pairs: &List<Pair>) -> Resu
     requires within { All (λ p. p.item < length compiled.now.model.components) pairs.now }
     ensures { IfOk result (λ goal. IsSorted compiled.now.order pairs.now goal.pairs) }
 {
+    let order = compiled.order();
     let mut sorted = List::new(alloc);
-    for c in compiled.order().as_slice() {
-        if let Some(pair) = pair_of(pairs.as_slice(), *c) {
+    for i in 0..order.len() {
+        if let Some(pair) = pair_of(pairs.as_slice(), *order.get(i)) {
             sorted.push(pair)?;
         }
     }

@@ -8,10 +8,12 @@ mod distance;
 mod effects;
 mod flags;
 mod goal;
+mod laws;
 mod ordering;
 mod reach;
 
 pub use answer::Order;
 pub use goal::sort_goal;
+pub use laws::answers_are_of_models;
 pub use ordering::order;
 pub use reach::ancestors;

@@ -1,6 +1,7 @@
-ghost use Rattle.std.specs.Prelude.{◌≤◌, length, IfOk};
-ghost use Rattle.causal_graph.specs.Answers.{IsOrder};
-ghost use Rattle.causal_graph.specs.Needs.{AreRows};
+ghost use Rattle.std.specs.Prelude.{◌≤◌, ◌↔◌, length, IfOk};
+ghost use Rattle.cca_base.specs.Relations.{IsAcyclicBy};
+ghost use Rattle.causal_graph.specs.Answers.{IsEffects, IsOrder};
+ghost use Rattle.causal_graph.specs.Needs.{AreRows, RowNeeds};
 
 use crate::answer::Order;
 use crate::cycle::shown_cycle;
@@ -8,12 +9,13 @@ use crate::effects::effects_first;
 use cca_base::List;
 use std::alloc::{AllocError, Global};
 
-/// The order of the components, of which row c of `needs` lists those that c needs. It is `Effects` exactly where no
-/// component is its own ancestor. The error is want of memory.
+/// The order of the components, or the shown cycle. Row c of `needs` lists the components that c needs, in any order. The
+/// answer is `Effects` exactly where no component is its own ancestor. The error is want of memory.
 pub fn order(alloc: Global, needs: &List<List<u16>>) -> Result<Order, AllocError>
     requires few { length needs.now ≤ 65536 }
     requires rows { AreRows needs.now }
-    ensures { IfOk result (IsOrder needs.now) }
+    ensures order { IfOk result (IsOrder needs.now) }
+    ensures acyclic { IfOk result (λ o. IsEffects o ↔ IsAcyclicBy (RowNeeds needs.now)) }
 {
     match effects_first(alloc, needs)? {
         Some(list) => Ok(Order::Effects(list)),

@@ -29,13 +29,13 @@ fn reached(alloc: Global, needs: &List<List<u16>>, c: u16) -> Result<Vec<bool>, 
     ensures { IfOk result (λ v. AreReached needs.now c v.items) }
 {
     let mut flags = vec![in alloc; false; needs.len()]?;
-    let _ = mark(needs.get(c as usize).as_slice(), flags.as_mut_slice());
+    mark(needs.get(c as usize).as_slice(), flags.as_mut_slice());
     'rounds: while spread(needs, flags.as_mut_slice()) {}
     Ok(flags)
 }
 
-/// The components that `c` reaches by one or more needs, rising, each once. Row d of `needs` lists those that d needs. The
-/// error is want of memory.
+/// The components that `c` reaches by one or more needs, rising, each once. Row d of `needs` lists the components that d
+/// needs, in any order. The error is want of memory.
 pub fn ancestors(alloc: Global, needs: &List<List<u16>>, c: u16) -> Result<List<u16>, AllocError>
     requires few { length needs.now ≤ 65536 }
     requires rows { AreRows needs.now }

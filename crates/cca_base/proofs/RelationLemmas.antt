@@ -5,7 +5,7 @@ use Rattle.std.proofs.lemmas.List.Elements.{All-contains, All-head, All-tail, Co
 use Rattle.std.proofs.lemmas.List.Kept.{AllPairs-cons}
 use Rattle.cca_base.proofs.Members.{all_from, contains_cases, contains_here, contains_there, contains_none, to_filter, from_filter}
 use Rattle.cca_base.proofs.Pairwise.{AllPairs-head, AllPairs-tail}
-use Rattle.cca_base.specs.Relations.{numbers_below, PathBy, AncestorBy, IsFreeBy, TakesEffectsFirstBy}
+use Rattle.cca_base.specs.Relations.{numbers_below, PathBy, AncestorBy, IsAcyclicBy, IsFreeBy, TakesEffectsFirstBy, IsCycleBy, IsShownCycleBy}
 
 -- ---- numbers in order
 
@@ -104,3 +104,43 @@ module _ (relation : ℕ → ℕ → Type 0) where
       order_acyclic left order h.3
       (λ d u there needs. other_stays e u remaining (other d u (before d there) needs) (closed d u (before d there) needs))
       c between (other_stays e c remaining (other last.0 c last.1 last.2) among) path
+
+-- ---- relations that say the same
+
+-- a path of one relation is one of another that has all its needs
+pub path_along : (R S : ℕ → ℕ → Type 0) → ((c u : ℕ) → R c u → S c u) → (c : ℕ) (between : List ℕ) (u : ℕ) → PathBy R c between u → PathBy S c between u
+path_along R S along c [] u h = along c u h
+path_along R S along c (d ∷ between) u h = (along c d h.0, path_along R S along d between u h.1)
+
+pub ancestor_along : (R S : ℕ → ℕ → Type 0) → ((c u : ℕ) → R c u → S c u) → (c u : ℕ) → AncestorBy R c u → AncestorBy S c u
+ancestor_along R S along c u h = (h.0, path_along R S along c h.0 u h.1)
+
+module _ (R S : ℕ → ℕ → Type 0) (same : (c u : ℕ) → R c u ↔ S c u) where
+  free_same : (remaining : List ℕ) (c : ℕ) → IsFreeBy R remaining c → IsFreeBy S remaining c
+  free_same remaining c h d among needs = h d among ((same d c).1 needs)
+
+  free_back : (remaining : List ℕ) (c : ℕ) → IsFreeBy S remaining c → IsFreeBy R remaining c
+  free_back remaining c h d among needs = h d among ((same d c).0 needs)
+
+  pub takes_same : (remaining order : List ℕ) → TakesEffectsFirstBy R remaining order → TakesEffectsFirstBy S remaining order
+  takes_same remaining [] h = h
+  takes_same remaining (c ∷ order) h =
+      (h.0, free_same remaining c h.1, λ d lt among free_d. h.2 d lt among (free_back remaining d free_d), takes_same (filter (λ d. not (d == c)) remaining) order h.3)
+
+  pub acyclic_same : IsAcyclicBy R → IsAcyclicBy S
+  acyclic_same h c way = h c (ancestor_along S R (λ d u. (same d u).1) c c way)
+
+  cycle_same : (list : List ℕ) (first : ℕ) → IsCycleBy R list first → IsCycleBy S list first
+  cycle_same list first h = record { between = h.between; ends = h.ends; differ = h.differ; needs = path_along R S (λ d u. (same d u).0) first h.between first h.needs }
+
+  cycle_back : (list : List ℕ) (first : ℕ) → IsCycleBy S list first → IsCycleBy R list first
+  cycle_back list first h = record { between = h.between; ends = h.ends; differ = h.differ; needs = path_along S R (λ d u. (same d u).1) first h.between first h.needs }
+
+  pub shown_same : (list : List ℕ) → IsShownCycleBy R list → IsShownCycleBy S list
+  shown_same list h = record {
+    first = h.first;
+    cycle = cycle_same list h.first h.cycle;
+    least = λ c way. h.least c (ancestor_along S R (λ d u. (same d u).1) c c way);
+    shortest = λ other o. h.shortest other (cycle_back other h.first o);
+    earliest = λ other o long earlier. h.earliest other (cycle_back other h.first o) long earlier;
+  }

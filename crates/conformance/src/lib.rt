@@ -9,6 +9,8 @@ mod calls;
 #[cfg(test)]
 mod first_path;
 #[cfg(test)]
+mod graph;
+#[cfg(test)]
 mod orders;
 #[cfg(test)]
 mod parts;

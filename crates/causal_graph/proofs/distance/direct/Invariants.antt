@@ -1,4 +1,4 @@
-use Rattle.std.proofs.Common.{◌≡◌, take}
+use Rattle.std.proofs.Common.{take}
 use Rattle.causal_graph.specs.Search.{AreDirect}
 use Rattle.causal_graph.proofs.distance.direct.Given as goal
 

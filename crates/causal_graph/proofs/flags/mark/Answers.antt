@@ -1,4 +1,4 @@
-use Rattle.std.proofs.Common.{ℕ, get_or, subst, arith}
+use Rattle.std.proofs.Common.{subst, arith}
 use Rattle.std.proofs.lemmas.List.{take_all}
 use Rattle.causal_graph.specs.Search.{Marks}
 use Rattle.causal_graph.proofs.FlagLemmas.{marked_none, marked_new, marked_old}
