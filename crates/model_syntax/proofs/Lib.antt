@@ -18,3 +18,4 @@ pub mod ReadLemmas
 pub mod FailureLemmas
 pub mod MoveLemmas
 pub mod CommandLemmas
+pub mod MoveReadLemmas

@@ -1,19 +1,21 @@
 -- What a line makes of a model.
-use Rattle.std.specs.Prelude.{◌≡◌, ◌≢◌, ◌<◌, ◌^◌, ◌⊎◌, ℕ, Bool, true, false, not, ◌&&◌, List, [], ◌∷◌, map, Option, Some, None, Result, Ok, Err}
+use Rattle.std.specs.Prelude.{◌≡◌, ◌≢◌, ◌<◌, ◌^◌, ◌⊎◌, ℕ, Bool, true, false, not, ◌&&◌, ◌||◌, nat_le, length, List, [], ◌∷◌, map, Option, Some, None, Result, Ok, Err}
 use Rattle.std.specs.Fmt.{decimal}
 use Rattle.cca_base.specs.declared.events.Detail.TheVariants.{Nothing}
 use Rattle.cca_base.specs.declared.events.Stop.{Stop}
 use Rattle.cca_base.specs.declared.events.Stop.TheVariants as stops
+use Rattle.cca_base.specs.declared.model.Move.{Move as Way}
+use Rattle.cca_base.specs.declared.limits.TheConstants.{MAX_MOVES}
 use Rattle.cca_base.specs.Automata.{Automata}
 use Rattle.cca_base.specs.Names.{is_word, is_reserved}
 use Rattle.cca_base.specs.Model.{with_component, with_variable, with_rule, with_move, with_failure}
 use Rattle.text_base.specs.Tokens.{Tok, tokens_of}
 use Rattle.text_base.specs.Lexemes.{Lexeme, lexeme}
-use Rattle.model_syntax.specs.declared.codes.TheConstants.{MALFORMED}
+use Rattle.model_syntax.specs.declared.codes.TheConstants.{MALFORMED, LIMIT}
 use Rattle.model_syntax.specs.Grammar.{Whole, spelling}
 use Rattle.model_syntax.specs.Meanings.{whole_formula}
 use Rattle.model_syntax.specs.Items.{Ends, Item, Header, Component, Variable, Rule, Move, Failure, Script, item_of}
-use Rattle.model_syntax.specs.Codes.{ends_of, component_code, new_component, variable_code, new_variable, rule_code, move_code, new_move, with_named, failure_code, new_failure}
+use Rattle.model_syntax.specs.Codes.{least, is_long, move_faults, ends_of, component_code, new_component, variable_code, new_variable, rule_code, move_code, new_move, with_named, failure_code, new_failure}
 
 -- a word that is not reserved, however long it is
 abbrev pub is_bare_name : List ℕ → Bool
@@ -50,6 +52,10 @@ with_declared m repair (Some ends) command text = with_move (with_named m comman
 -- a move or a repair
 abbrev pub move_next : Automata → Bool → Ends → List ℕ → Whole → Next
 move_next m repair ends command text = unless (move_code m repair ends command text) (with_declared m repair (ends_of m ends) command text)
+
+-- a move whose guard is sound, unless a code applies
+abbrev pub taken_move : Automata → Way → List ℕ → Next
+taken_move m x command = unless (least ((LIMIT, is_long command || nat_le MAX_MOVES (length m.moves)) ∷ move_faults m x)) (with_move (with_named m command) x)
 
 -- the model with the failure
 abbrev pub with_fall : Automata → Option (ℕ × ℕ × ℕ) → ℕ → Automata
