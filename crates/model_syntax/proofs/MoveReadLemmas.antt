@@ -15,15 +15,18 @@ use Rattle.model_syntax.specs.Grammar.{Whole}
 use Rattle.model_syntax.specs.Items.{Ends}
 use Rattle.model_syntax.specs.Meanings.{reading_of, whole_formula, IsReadingOf}
 use Rattle.model_syntax.specs.Codes.{least, is_long, ends_of, command_number, with_named, move_code, move_code_from, move_faults, new_move}
-use Rattle.model_syntax.specs.Lines.{Next, Goes, Refused, unless, with_declared, move_next, taken_move, IsNextOfText, AnswersModel}
+use Rattle.model_syntax.specs.Lines.{Next, Goes, Refused, unless, with_declared, move_next, taken_move, IsNextOfText, FailsModel, AnswersModel}
 use Rattle.model_syntax.specs.ReadCodes.{move_code_read}
 use Rattle.model_syntax.proofs.ReadLemmas.{some_read, sound_formula, move_code_is}
 
+fails_weaker : (e : Stop) (old new : Automata) (P Q : Next → Type 0) → ((next : Next) → P next → Q next) → FailsModel e old new P → FailsModel e old new Q
+fails_weaker stops.Memory old new P Q f h = h
+fails_weaker (stops.Refused refusal) old new P Q f h = (f (Refused refusal.code) h.0, h.1, h.2)
+
 -- what is answered is also this
 pub answers_weaker : {X : Type 0} (r : Result X Stop) (old new : Automata) (P Q : Next → Type 0) → ((next : Next) → P next → Q next) → AnswersModel r old new P → AnswersModel r old new Q
-answers_weaker (Ok x) old new P Q f h = f _ h
-answers_weaker (Err stops.Memory) old new P Q f h = h
-answers_weaker (Err (stops.Refused refusal)) old new P Q f h = (f _ h.0, h.1, h.2)
+answers_weaker (Ok x) old new P Q f h = f (Goes new) h
+answers_weaker (Err e) old new P Q f h = fails_weaker e old new P Q f h
 
 move_from : (m : Automata) (repair : Bool) (ends : Ends) (command : List ℕ) (text : Whole) (o : Option (ℕ × ℕ × ℕ)) → ends_of m ends ≡ o
     → move_next m repair ends command text ≡ unless (move_code_from m repair o command text) (with_declared m repair o command text)

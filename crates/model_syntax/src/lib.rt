@@ -9,6 +9,8 @@ mod faults;
 mod formula;
 mod item;
 mod level;
+mod item_lines;
+mod line_end;
 mod lines;
 mod lookup;
 mod machine;
