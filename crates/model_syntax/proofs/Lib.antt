@@ -19,3 +19,5 @@ pub mod FailureLemmas
 pub mod MoveLemmas
 pub mod CommandLemmas
 pub mod MoveReadLemmas
+pub mod WordLemmas
+pub mod LineLemmas

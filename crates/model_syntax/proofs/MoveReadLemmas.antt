@@ -1,11 +1,10 @@
 -- What a line with a move leads to, by what was read of its guard.
-use Rattle.std.proofs.Common.{◌≡◌, ℕ, Bool, ◌||◌, List, [], ◌∷◌, length, Option, Some, None, Result, Ok, Err, refl, sym, ap, subst, ◌∙◌}
+use Rattle.std.proofs.Common.{◌≡◌, ℕ, Bool, ◌||◌, List, ◌∷◌, length, Option, Some, None, Result, Ok, Err, sym, ap, ◌∙◌}
 use Rattle.std.specs.Prelude.{nat_le}
 use Rattle.cca_base.specs.declared.events.Stop.{Stop}
 use Rattle.cca_base.specs.declared.events.Stop.TheVariants as stops
 use Rattle.cca_base.specs.declared.formula.Formula.{Formula}
 use Rattle.cca_base.specs.declared.limits.TheConstants.{MAX_MOVES}
-use Rattle.cca_base.specs.declared.model.Move.{Move}
 use Rattle.cca_base.specs.Automata.{Automata}
 use Rattle.cca_base.specs.Model.{with_move}
 use Rattle.text_base.specs.Lexemes.{Lexeme}
@@ -13,7 +12,7 @@ use Rattle.model_syntax.specs.declared.reading.Reading.{Reading}
 use Rattle.model_syntax.specs.declared.reading.Reading.TheVariants.{Sound, Faulty}
 use Rattle.model_syntax.specs.Grammar.{Whole}
 use Rattle.model_syntax.specs.Items.{Ends}
-use Rattle.model_syntax.specs.Meanings.{reading_of, whole_formula, IsReadingOf}
+use Rattle.model_syntax.specs.Meanings.{reading_of, IsReadingOf}
 use Rattle.model_syntax.specs.Codes.{least, is_long, ends_of, command_number, with_named, move_code, move_code_from, move_faults, new_move}
 use Rattle.model_syntax.specs.Lines.{Next, Goes, Refused, unless, with_declared, move_next, taken_move, IsNextOfText, FailsModel, AnswersModel}
 use Rattle.model_syntax.specs.ReadCodes.{move_code_read}
@@ -55,5 +54,5 @@ module _ (m : Automata) (ls : List Lexeme) (repair : Bool) (ends : Ends) (comman
       taken
       ∙ ap (λ (k : ℕ). taken_move m (record { component = c; source = a; target = b; command = k; repair = repair; guard = f }) command) n
       ∙ ap (λ (g : Formula). unless (least ((4, is_long command || nat_le MAX_MOVES (length m.moves)) ∷ move_faults m (new_move m repair (c, a, b) command f)))
-        (with_move (with_named m command) (new_move m repair (c, a, b) command g))) (sound_formula m text f d same)
+      (with_move (with_named m command) (new_move m repair (c, a, b) command g))) (sound_formula m text f d same)
       ∙ sym (read_from m repair ends command text (Some (c, a, b)) (Sound f d) (sym e) same))

@@ -35,13 +35,26 @@ pub fn item_line(
 {
     match item {
         Item::Header => return Err(refused(MALFORMED)),
-        Item::Component { name, modes, start } =>
-            component_line(alloc, model, names, name, modes.as_slice(), start)?,
-        Item::Variable { name, values, sensed } =>
-            variable_line(alloc, model, names, name, values.as_slice(), sensed)?,
+        Item::Component { name, modes, start } => component_line(
+            alloc,
+            model,
+            names,
+            name,
+            modes.as_slice(),
+            start,
+        )?,
+        Item::Variable {
+            name,
+            values,
+            sensed,
+        } => variable_line(alloc, model, names, name, values.as_slice(), sensed)?,
         Item::Rule(formula) => rule_line(alloc, model, names, formula)?,
-        Item::Move { repair, ends, command, guard } =>
-            move_line(alloc, model, names, numbers, repair, ends, command, guard)?,
+        Item::Move {
+            repair,
+            ends,
+            command,
+            guard,
+        } => move_line(alloc, model, names, numbers, repair, ends, command, guard)?,
         Item::Failure { ends, cost } => failure_line(model, names, ends, cost)?,
         Item::Script => return Ok(LineEnd::Script),
     }

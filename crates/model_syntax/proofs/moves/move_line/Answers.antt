@@ -1,7 +1,7 @@
-use Rattle.std.proofs.Common.{◌≡◌, map, sym, ap, subst, ◌∙◌, refl}
+use Rattle.std.proofs.Common.{map, ◌∙◌, refl}
 use Rattle.text_base.specs.Lexemes.{lexeme_of}
 use Rattle.model_syntax.specs.Items.{shown_ends}
-use Rattle.model_syntax.specs.Lines.{IsNextOfText, move_next, taken_move}
+use Rattle.model_syntax.specs.Lines.{IsNextOfText, move_next}
 use Rattle.model_syntax.proofs.NamesLemmas.{same_names}
 use Rattle.model_syntax.proofs.ReadLemmas.{sound_is_formula}
 use Rattle.model_syntax.proofs.MoveReadLemmas.{answers_weaker, ends_unknown, guard_faulty, guard_sound}
