@@ -1,5 +1,5 @@
 -- Commands that are looked up and aren't there.
-use Rattle.std.proofs.Common.{◌≡◌, ℕ, ◌<◌, ◌≤◌, false, List, [], length, None, sym}
+use Rattle.std.proofs.Common.{◌≡◌, ℕ, ◌<◌, false, List, length, None}
 use Rattle.std.proofs.lemmas.List.Elements.{All-weaker}
 use Rattle.std.specs.Str.{bytes_eq}
 use Rattle.cca_base.specs.Automata.{Automata}

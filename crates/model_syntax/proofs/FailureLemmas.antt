@@ -1,15 +1,14 @@
 -- What a line with a failure leads to.
-use Rattle.std.proofs.Common.{◌≡◌, ◌≢◌, ℕ, ◌<◌, ◌≤◌, ◌^◌, Bool, true, false, not, cond, ◌||◌, ◌&&◌, List, [], ◌∷◌, length, Option, Some, None, inl, inr, refl, sym, ap, subst, ◌∙◌, arith}
+use Rattle.std.proofs.Common.{◌≡◌, ℕ, ◌<◌, ◌≤◌, ◌^◌, Bool, true, false, not, cond, ◌||◌, List, length, Option, Some, None, inl, sym, ap, ◌∙◌}
 use Rattle.std.specs.Prelude.{nat_le, nat_lt}
 use Rattle.std.specs.Fmt.{decimal}
 use Rattle.std.proofs.lemmas.Bool.{and_parts, ltb-true, leb-true}
-use Rattle.cca_base.specs.declared.model.Failure.{Failure}
 use Rattle.cca_base.specs.declared.limits.TheConstants.{MAX_FAILURES, MAX_COST}
 use Rattle.cca_base.specs.Automata.{Automata}
 use Rattle.cca_base.specs.Model.{WellFormed, HasMode, with_failure}
 use Rattle.cca_base.proofs.Growth.{failure_kept}
 use Rattle.model_syntax.specs.Items.{Ends}
-use Rattle.model_syntax.specs.Codes.{least, ends_of, is_cost, failure_code, failure_code_from, new_failure}
+use Rattle.model_syntax.specs.Codes.{ends_of, is_cost, failure_code, failure_code_from, new_failure}
 use Rattle.model_syntax.specs.Lines.{Next, Goes, Refused, unless, with_fall, failure_next, IsNextOfNumber}
 use Rattle.model_syntax.proofs.AdditionLemmas.{below, or_parts, not_parts}
 

@@ -18,3 +18,6 @@ pub mod ReadLemmas
 pub mod FailureLemmas
 pub mod MoveLemmas
 pub mod CommandLemmas
+pub mod MoveReadLemmas
+pub mod WordLemmas
+pub mod LineLemmas

@@ -1,6 +1,6 @@
 -- Moves, repairs and commands of a model that grows by a move.
-use Rattle.std.proofs.Common.{◌≡◌, ◌≢◌, ℕ, ◌+◌, ◌-◌, ◌<◌, ◌≤◌, zero, suc, Bool, true, false, not, cond, ◌&&◌, ◌||◌, ◌==◌, ◌⊎◌, eqb, get_or, List, [], ◌∷◌, ◌++◌, length, map, take, Option, Some, None, IsTrue, All, Contains, inl, inr, refl, sym, ap, subst, ◌∙◌, arith}
-use Rattle.std.specs.Prelude.{nat_le, nat_eq, position, is_some, unwrap_or}
+use Rattle.std.proofs.Common.{◌≡◌, ◌≢◌, ℕ, ◌-◌, ◌<◌, Bool, true, false, not, cond, ◌&&◌, ◌||◌, ◌==◌, ◌⊎◌, eqb, get_or, List, [], ◌∷◌, ◌++◌, length, take, Option, Some, None, IsTrue, All, Contains, inl, inr, refl, sym, ap, subst, ◌∙◌, arith}
+use Rattle.std.specs.Prelude.{nat_le, nat_eq, is_some, unwrap_or}
 use Rattle.std.specs.List.{list_any}
 use Rattle.std.specs.Str.{bytes_eq}
 use Rattle.std.specs.Cmp.Lexicographic.{pointwise}
@@ -11,9 +11,8 @@ use Rattle.std.proofs.lemmas.List.Elements.{All-nil, All-cons, All-head, All-tai
 use Rattle.std.proofs.lemmas.List.Folds.{list_any-append}
 use Rattle.std.proofs.lemmas.List.Quantifiers.{position-Some}
 use Rattle.std.proofs.lemmas.Slice.Eq.{bytes_eq-Decides}
-use Rattle.indexmap.specs.IndexMap.{get, IsUnchanged, Updates}
+use Rattle.indexmap.specs.IndexMap.{IsUnchanged, Updates}
 use Rattle.std.specs.Map.{lookup}
-use Rattle.cca_base.specs.declared.formula.Formula.{Formula}
 use Rattle.cca_base.specs.declared.model.Move.{Move}
 use Rattle.cca_base.specs.declared.limits.TheConstants.{MAX_MOVES}
 use Rattle.cca_base.specs.Automata.{Automata}
@@ -23,7 +22,7 @@ use Rattle.model_syntax.specs.Lookups.{place_of, or_else, NumbersFit}
 use Rattle.model_syntax.specs.Codes.{least, is_long, command_number, with_named, leads_to, leaves_unmarked, is_ambiguous, is_into_broken, is_unmarked_exit, mends_twice, move_faults}
 use Rattle.model_syntax.specs.Lines.{is_bare_name}
 use Rattle.model_syntax.proofs.AdditionLemmas.{or_parts, not_parts, least_none, below, is_named}
-use Rattle.model_syntax.proofs.NamesLemmas.{Names, not_some}
+use Rattle.model_syntax.proofs.NamesLemmas.{Names}
 use Rattle.model_syntax.proofs.PositionLemmas.{position_push, none_passes}
 
 -- ---- what leads to a repaired mode
@@ -62,9 +61,9 @@ eqb_sym : (a b : ℕ) → eqb a b ≡ eqb b a
 eqb_sym a b = elim (cases_Bool (eqb a b)) [
   | inl e ↦ e ∙ sym (eq-eqb b a (sym (eqb-true a b e)))
   | inr e ↦ elim (cases_Bool (eqb b a)) [
-      | inl f ↦ absurd (false≢true (sym e ∙ eq-eqb a b (sym (eqb-true b a f))))
-      | inr f ↦ e ∙ sym f
-    ]
+    | inl f ↦ absurd (false≢true (sym e ∙ eq-eqb a b (sym (eqb-true b a f))))
+    | inr f ↦ e ∙ sym f
+  ]
 ]
 
 both_sym : (a b c d : ℕ) → (eqb a b && eqb c d) ≡ (eqb b a && eqb d c)
@@ -73,9 +72,9 @@ both_sym a b c d = ap (λ x. x && eqb c d) (eqb_sym a b) ∙ ap (λ x. eqb b a &
 -- ---- a repair
 
 module _ (moves : List Move) (x : Move) (h : RepairsFit moves) (repair : x.repair ≡ true) (into : is_broken moves x.component x.target ≡ false)
-  (led : list_any (leads_to x.component x.source) (moves ++ x ∷ []) ≡ false)
-  (unmarked : list_any (leaves_unmarked x.component x.source) moves ≡ false)
-  (one : list_any (λ y. y.repair && ((y.component == x.component && y.source == x.source) && not (y.target == x.target))) moves ≡ false) where
+    (led : list_any (leads_to x.component x.source) (moves ++ x ∷ []) ≡ false)
+    (unmarked : list_any (leaves_unmarked x.component x.source) moves ≡ false)
+    (one : list_any (λ y. y.repair && ((y.component == x.component && y.source == x.source) && not (y.target == x.target))) moves ≡ false) where
   -- whether x repairs a mode
   repairs_it : (c mode : ℕ) → is_repair_of c mode x ≡ (x.component == c && x.source == mode)
   repairs_it c mode = ap (λ b. b && (x.component == c && x.source == mode)) repair
@@ -102,7 +101,7 @@ module _ (moves : List Move) (x : Move) (h : RepairsFit moves) (repair : x.repai
       let same_c : y.component ≡ x.component = eqb-true y.component c its_ends.0 ∙ sym (eqb-true x.component c ends.0) in
       let same_s : y.source ≡ x.source = eqb-true y.source mode its_ends.1 ∙ sym (eqb-true x.source mode ends.1) in
       let not_other = at_member (λ y. (y.repair && ((y.component == x.component && y.source == x.source) && not (y.target == x.target))) ≡ false) moves y
-          (all_of_any (λ y. y.repair && ((y.component == x.component && y.source == x.source) && not (y.target == x.target))) moves one) p.of_model in
+      (all_of_any (λ y. y.repair && ((y.component == x.component && y.source == x.source) && not (y.target == x.target))) moves one) p.of_model in
       let step = and_false y.repair _ not_other its.0 in
       let last = and_false (y.component == x.component && y.source == x.source) _ step (and_from (y.component == x.component) (y.source == x.source) (eq-eqb y.component x.component same_c) (eq-eqb y.source x.source same_s)) in
       sym p.target ∙ eqb-true y.target x.target (not_parts (y.target == x.target) last)
@@ -120,13 +119,13 @@ module _ (moves : List Move) (x : Move) (h : RepairsFit moves) (repair : x.repai
   repair_fits = record {
     one_target = λ c mode a b p q. elim (mended_by c mode a p) [
       | inl old ↦ elim (mended_by c mode b q) [
-          | inl also ↦ h.one_target c mode a b old also
-          | inr new ↦ same_target c mode a old new.0 ∙ sym new.1
-        ]
+        | inl also ↦ h.one_target c mode a b old also
+        | inr new ↦ same_target c mode a old new.0 ∙ sym new.1
+      ]
       | inr new ↦ elim (mended_by c mode b q) [
-          | inl old ↦ new.1 ∙ sym (same_target c mode b old new.0)
-          | inr also ↦ new.1 ∙ sym also.1
-        ]
+        | inl old ↦ new.1 ∙ sym (same_target c mode b old new.0)
+        | inr also ↦ new.1 ∙ sym also.1
+      ]
     ];
     none_into = λ k d within.
         broken_after _ _ ∙ or_intro (is_broken moves _ _) _ (none_into_before k d within) (not_into k d within);

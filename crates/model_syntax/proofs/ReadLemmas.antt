@@ -1,6 +1,6 @@
 -- What a line with a formula leads to, by what was read of its text.
-use Rattle.std.proofs.Common.{◌≡◌, ℕ, ◌<◌, ◌≤◌, Bool, true, false, cond, ◌||◌, List, [], ◌∷◌, length, Option, Some, None, inl, inr, refl, sym, ap, subst, ◌∙◌, arith}
-use Rattle.std.specs.Prelude.{nat_le, nat_lt}
+use Rattle.std.proofs.Common.{◌≡◌, ℕ, ◌≤◌, Bool, true, false, cond, ◌||◌, List, [], ◌∷◌, length, Option, Some, None, inl, inr, refl, sym, ap, subst, ◌∙◌, arith}
+use Rattle.std.specs.Prelude.{nat_le}
 use Rattle.cca_base.specs.declared.formula.Formula.{Formula}
 use Rattle.cca_base.specs.declared.limits.TheConstants.{MAX_RULES, MAX_MOVES, MAX_DEPTH}
 use Rattle.cca_base.specs.Automata.{Automata}
@@ -9,9 +9,9 @@ use Rattle.cca_base.specs.Model.{WellFormed, IsFormula, with_rule}
 use Rattle.cca_base.proofs.Growth.{rule_kept}
 use Rattle.text_base.specs.Lexemes.{Lexeme}
 use Rattle.model_syntax.specs.declared.reading.Reading.{Reading}
-use Rattle.model_syntax.specs.declared.reading.Reading.TheVariants.{Sound, Faulty}
-use Rattle.model_syntax.specs.Grammar.{Whole, spelling}
-use Rattle.model_syntax.specs.Meanings.{verdict, reading_of, IsReadingOf, is_unknown, has_twice, whole_comparisons, whole_depth, whole_formula}
+use Rattle.model_syntax.specs.declared.reading.Reading.TheVariants.{Sound}
+use Rattle.model_syntax.specs.Grammar.{Whole}
+use Rattle.model_syntax.specs.Meanings.{verdict, reading_of, IsReadingOf, whole_depth, whole_formula}
 use Rattle.model_syntax.specs.Codes.{least, names_unknown, lists_twice, is_deep, is_long, rule_code, move_code_from, move_faults, new_move}
 use Rattle.model_syntax.specs.Lines.{Next, Goes, Refused, IsNextOfText, rule_next, unless}
 use Rattle.model_syntax.specs.ReadCodes.{rule_code_read, move_code_read}

@@ -1,16 +1,15 @@
 -- The printed text of a formula is no deeper than a text that spells it.
-use Rattle.std.proofs.Common.{◌≡◌, ℕ, ◌+◌, ◌<◌, ◌≤◌, Bool, true, false, cond, List, [], ◌∷◌, ◌++◌, map, Option, Some, None, inl, inr, refl, sym, ap, subst, ◌∙◌, arith}
+use Rattle.std.proofs.Common.{◌≡◌, ℕ, ◌+◌, ◌≤◌, true, false, cond, List, [], ◌∷◌, ◌++◌, map, Option, Some, None, inl, inr, ap, ◌∙◌, arith}
 use Rattle.std.specs.Prelude.{nat_le, max}
 use Rattle.std.proofs.lemmas.Bool.{le-leb, leb-true, cases_Bool}
-use Rattle.std.proofs.lemmas.Bool.Decides.{nat_tests}
 use Rattle.std.proofs.lemmas.List.{map_push}
 use Rattle.cca_base.specs.declared.formula.Formula.{Formula, roll-Formula}
 use Rattle.cca_base.specs.declared.formula.Formula.TheOpen.{Formula-F}
-use Rattle.cca_base.specs.declared.formula.Formula.TheFolds.{fold-Formula, fold-roll-Formula, map-Formula}
+use Rattle.cca_base.specs.declared.formula.Formula.TheFolds.{fold-Formula, fold-roll-Formula}
 use Rattle.cca_base.specs.declared.formula.Subject.{Subject}
 use Rattle.cca_base.specs.Automata.{Automata}
 use Rattle.cca_base.specs.Formula.{Printed, part_depth, deepest, printed_step, depth}
-use Rattle.model_syntax.specs.Grammar.{NameWord, Factor, Conjunction, Disjunction, Whole, True, False, Equal, Differs, In, Not, Parens, Single, And, Case, Or, Plain, Implies, Iff}
+use Rattle.model_syntax.specs.Grammar.{Factor, Conjunction, Disjunction, Whole, True, False, Equal, Differs, In, Not, Parens, Single, And, Case, Or, Plain, Implies, Iff}
 use Rattle.model_syntax.specs.Lookups.{subject_of}
 use Rattle.model_syntax.specs.Meanings.{words, has_among, is_among, factor_depth, deepest_factor, conjunction_depth, deepest_case, disjunction_depth, whole_depth, factor_formula, conjuncts, conjunction_formula, disjuncts, disjunction_formula, whole_formula}
 

@@ -1,12 +1,11 @@
 -- A text whose names are declared spells a formula of the model, whose printed text is no deeper.
-use Rattle.std.proofs.Common.{◌≡◌, ◌≢◌, ℕ, ◌+◌, ◌<◌, ◌≤◌, ◌^◌, zero, suc, Bool, true, false, not, cond, ◌&&◌, ◌||◌, List, [], ◌∷◌, ◌++◌, length, map, get_or, Option, Some, None, slice_get, slice_index, inl, inr, refl, sym, ap, subst, ◌∙◌, arith}
-use Rattle.std.specs.Prelude.{nat_le, nat_lt, max, is_some}
+use Rattle.std.proofs.Common.{◌≡◌, ℕ, ◌+◌, ◌<◌, ◌^◌, Bool, true, false, not, ◌&&◌, ◌||◌, List, [], ◌∷◌, ◌++◌, length, map, Option, Some, None, slice_get, slice_index, inl, inr, refl, sym, ap, subst, ◌∙◌, arith}
+use Rattle.std.specs.Prelude.{nat_le, nat_lt, is_some}
 use Rattle.std.specs.List.{list_all, list_any}
 use Rattle.std.specs.Option.{option_map_or}
 use Rattle.std.specs.Str.{bytes_eq}
 use Rattle.std.proofs.Math.Pow.{pow-lt, pow_pos}
-use Rattle.std.proofs.lemmas.Bool.{and_parts, and_from, lt-ltb, le-ltb, le-leb, leb-true, cases_lt, cases_Bool, eq-eqb}
-use Rattle.std.proofs.lemmas.Bool.Decides.{nat_tests}
+use Rattle.std.proofs.lemmas.Bool.{and_from, lt-ltb, le-leb, cases_lt, eq-eqb}
 use Rattle.std.proofs.lemmas.Nat.{or_lt}
 use Rattle.std.proofs.lemmas.Option.{slice_get_within, get_or_from_slice_get}
 use Rattle.std.proofs.lemmas.List.{get_or-map, map_push, length_push, length-map}
@@ -14,18 +13,18 @@ use Rattle.std.proofs.lemmas.List.Folds.{list_any-append, list_all-append}
 use Rattle.std.proofs.lemmas.List.Quantifiers.{position-Some}
 use Rattle.cca_base.specs.declared.formula.Formula.{Formula, roll-Formula}
 use Rattle.cca_base.specs.declared.formula.Formula.TheOpen.{Formula-F}
-use Rattle.cca_base.specs.declared.formula.Formula.TheFolds.{fold-Formula, fold-roll-Formula, map-Formula}
+use Rattle.cca_base.specs.declared.formula.Formula.TheFolds.{fold-roll-Formula}
 use Rattle.cca_base.specs.declared.formula.Subject.{Subject}
 use Rattle.cca_base.specs.declared.formula.Subject.TheVariants.{Component, Variable}
 use Rattle.cca_base.specs.declared.model.Variable.{Variable as Quantity}
 use Rattle.cca_base.specs.Automata.{Automata}
 use Rattle.cca_base.specs.Sets.{has, with_number}
-use Rattle.cca_base.specs.Formula.{fits, fits_step, is_choice_of, subject_value, Printed, part_depth, deepest, printed_step, depth}
-use Rattle.cca_base.specs.Model.{mode_counts, value_counts, HasMode}
+use Rattle.cca_base.specs.Formula.{fits, fits_step, is_choice_of, subject_value}
+use Rattle.cca_base.specs.Model.{mode_counts, value_counts}
 use Rattle.cca_base.proofs.SetLemmas.{has-with_number, has-empty}
-use Rattle.model_syntax.specs.Grammar.{NameWord, Factor, Conjunction, Disjunction, Whole, True, False, Equal, Differs, In, Not, Parens, Single, And, Case, Or, Plain, Implies, Iff}
+use Rattle.model_syntax.specs.Grammar.{Factor, Conjunction, Disjunction, Whole, True, False, Equal, Differs, In, Not, Parens, Single, And, Case, Or, Plain, Implies, Iff}
 use Rattle.model_syntax.specs.Lookups.{subject_of, value_of, place_of}
-use Rattle.model_syntax.specs.Meanings.{Comparison, words, lacks_value, is_unknown, with_found, with_numbers, has_among, is_among, factor_depth, deepest_factor, conjunction_depth, deepest_case, disjunction_depth, whole_depth, factor_comparisons, conjunction_comparisons, disjunction_comparisons, whole_comparisons, factor_formula, conjuncts, conjunction_formula, disjuncts, disjunction_formula, whole_formula}
+use Rattle.model_syntax.specs.Meanings.{Comparison, words, lacks_value, is_unknown, with_found, with_numbers, has_among, is_among, factor_comparisons, conjunction_comparisons, disjunction_comparisons, whole_comparisons, factor_formula, conjuncts, conjunction_formula, disjuncts, disjunction_formula, whole_formula}
 use Rattle.model_syntax.proofs.EndLemmas.{mode_of_component}
 use Rattle.model_syntax.proofs.AdditionLemmas.{or_parts, not_parts}
 

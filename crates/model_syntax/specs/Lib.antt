@@ -5,6 +5,7 @@ pub mod Items
 pub mod Lines
 pub mod Lookups
 pub mod ReadCodes
+pub mod Reader
 pub mod Readings
 pub mod Machine
 pub mod Meanings

@@ -1,19 +1,24 @@
 -- What a line makes of a model.
-use Rattle.std.specs.Prelude.{◌≡◌, ◌≢◌, ◌<◌, ◌^◌, ◌⊎◌, ℕ, Bool, true, false, not, ◌&&◌, List, [], ◌∷◌, map, Option, Some, None, Result, Ok, Err}
+use Rattle.std.specs.Prelude.{◌≡◌, ◌≢◌, ◌<◌, ◌^◌, ◌⊎◌, ℕ, Bool, true, false, not, ◌&&◌, ◌||◌, nat_le, length, List, [], ◌∷◌, map, Option, Some, None, Result, Ok, Err}
+use Rattle.std.specs.List.{list_all}
 use Rattle.std.specs.Fmt.{decimal}
 use Rattle.cca_base.specs.declared.events.Detail.TheVariants.{Nothing}
 use Rattle.cca_base.specs.declared.events.Stop.{Stop}
 use Rattle.cca_base.specs.declared.events.Stop.TheVariants as stops
+use Rattle.cca_base.specs.declared.model.Move.{Move as Way}
+use Rattle.cca_base.specs.declared.limits.TheConstants.{MAX_MOVES}
 use Rattle.cca_base.specs.Automata.{Automata}
 use Rattle.cca_base.specs.Names.{is_word, is_reserved}
 use Rattle.cca_base.specs.Model.{with_component, with_variable, with_rule, with_move, with_failure}
 use Rattle.text_base.specs.Tokens.{Tok, tokens_of}
 use Rattle.text_base.specs.Lexemes.{Lexeme, lexeme}
-use Rattle.model_syntax.specs.declared.codes.TheConstants.{MALFORMED}
+use Rattle.model_syntax.specs.declared.codes.TheConstants.{MALFORMED, LIMIT}
+use Rattle.model_syntax.specs.declared.line_end.LineEnd.{LineEnd}
+use Rattle.model_syntax.specs.declared.line_end.LineEnd.TheVariants as ends
 use Rattle.model_syntax.specs.Grammar.{Whole, spelling}
 use Rattle.model_syntax.specs.Meanings.{whole_formula}
 use Rattle.model_syntax.specs.Items.{Ends, Item, Header, Component, Variable, Rule, Move, Failure, Script, item_of}
-use Rattle.model_syntax.specs.Codes.{ends_of, component_code, new_component, variable_code, new_variable, rule_code, move_code, new_move, with_named, failure_code, new_failure}
+use Rattle.model_syntax.specs.Codes.{least, is_long, move_faults, ends_of, component_code, new_component, variable_code, new_variable, rule_code, move_code, new_move, with_named, failure_code, new_failure}
 
 -- a word that is not reserved, however long it is
 abbrev pub is_bare_name : List ℕ → Bool
@@ -51,6 +56,10 @@ with_declared m repair (Some ends) command text = with_move (with_named m comman
 abbrev pub move_next : Automata → Bool → Ends → List ℕ → Whole → Next
 move_next m repair ends command text = unless (move_code m repair ends command text) (with_declared m repair (ends_of m ends) command text)
 
+-- a move whose guard is sound, unless a code applies
+abbrev pub taken_move : Automata → Way → List ℕ → Next
+taken_move m x command = unless (least ((LIMIT, is_long command || nat_le MAX_MOVES (length m.moves)) ∷ move_faults m x)) (with_move (with_named m command) x)
+
 -- the model with the failure
 abbrev pub with_fall : Automata → Option (ℕ × ℕ × ℕ) → ℕ → Automata
 with_fall m None cost = m
@@ -85,8 +94,84 @@ abbrev pub IsNextOfForm : Automata → Option Item → Next → Type 0
 IsNextOfForm m None next = next ≡ Refused MALFORMED
 IsNextOfForm m (Some item) next = IsNextOfItem m item next
 
--- what a call on a model answered is this; the model after a refusal or for want of memory is as before
+-- a call that failed: the model is as before, and a refusal is this
+abbrev pub FailsModel : Stop → (old new : Automata) → (Next → Type 0) → Type 0
+FailsModel stops.Memory old new Is = new ≡ old
+FailsModel (stops.Refused refusal) old new Is = Is (Refused refusal.code) × (refusal.detail ≡ Nothing) × (new ≡ old)
+
+-- what a call on a model answered is this
 abbrev pub AnswersModel : {X : Type 0} → Result X Stop → (old new : Automata) → (Next → Type 0) → Type 0
 AnswersModel (Ok x) old new Is = Is (Goes new)
-AnswersModel (Err stops.Memory) old new Is = new ≡ old
-AnswersModel (Err (stops.Refused refusal)) old new Is = Is (Refused refusal.code) × (refusal.detail ≡ Nothing) × (new ≡ old)
+AnswersModel (Err e) old new Is = FailsModel e old new Is
+
+-- what an item's line answered is this
+abbrev pub AnswersItem : Result LineEnd Stop → (old new : Automata) → (Next → Type 0) → Type 0
+AnswersItem (Ok ends.Going) old new Is = Is (Goes new)
+AnswersItem (Ok ends.Script) old new Is = Is Ended × (new ≡ old)
+AnswersItem (Err e) old new Is = FailsModel e old new Is
+
+-- the words in place of names are words, and no list is empty
+abbrev pub HasBareNames : Item → Type 0
+HasBareNames Header = Unit {0}
+HasBareNames (Component name modes start) = list_all is_bare_name (name ∷ modes) ≡ true
+HasBareNames (Variable name values sensed) = (list_all is_bare_name (name ∷ values) ≡ true) × (0 < length values)
+HasBareNames (Rule formula) = Unit {0}
+HasBareNames (Move repair ends command guard) = is_bare_name command ≡ true
+HasBareNames (Failure ends cost) = Unit {0}
+HasBareNames Script = Unit {0}
+
+-- ---- readers
+
+-- the model of the lines so far, and whether `titan 1` was read
+pub record Reading : Type 0 where
+  pub model : Automata
+  pub begun : Bool
+
+-- what a line leads to: another reading, a refusal with its code, or the end of the model
+pub data Outcome : Type 0 where
+  Reads : (reading : Reading) → Outcome
+  Refuses : (code : ℕ) → Outcome
+  Finishes : Outcome
+
+-- the outcome of a line behind `titan 1`
+abbrev pub outcome : Next → Outcome
+outcome (Goes m) = Reads (record { model = m; begun = true })
+outcome (Refused code) = Refuses code
+outcome Ended = Finishes
+
+-- the first line with tokens
+abbrev pub opening : Automata → Option Item → Outcome
+opening m None = Refuses MALFORMED
+opening m (Some Header) = Reads (record { model = m; begun = true })
+opening m (Some (Component name modes start)) = Refuses MALFORMED
+opening m (Some (Variable name values sensed)) = Refuses MALFORMED
+opening m (Some (Rule formula)) = Refuses MALFORMED
+opening m (Some (Move repair ends command guard)) = Refuses MALFORMED
+opening m (Some (Failure ends cost)) = Refuses MALFORMED
+opening m (Some Script) = Refuses MALFORMED
+
+-- what a line with tokens leads to
+abbrev pub LeadsByForm : Bool → Automata → Option Item → Outcome → Type 0
+LeadsByForm true m form o = (next : Next) × IsNextOfForm m form next × (o ≡ outcome next)
+LeadsByForm false m form o = o ≡ opening m form
+
+-- a line without tokens is skipped, unless it has a bad byte
+abbrev pub LeadsByTokens : Reading → Result (List Tok) ℕ → Outcome → Type 0
+LeadsByTokens s (Err at) o = o ≡ Refuses MALFORMED
+LeadsByTokens s (Ok []) o = o ≡ Reads s
+LeadsByTokens s (Ok (t ∷ ts)) o = LeadsByForm s.begun s.model (item_of (map lexeme (t ∷ ts))) o
+
+-- what a line leads to
+abbrev pub Leads : Reading → List ℕ → Outcome → Type 0
+Leads s line o = LeadsByTokens s (tokens_of line) o
+
+-- a call that failed: the reader is as before, and a refusal is this
+abbrev pub FailsLine : Stop → (old new : Reading) → (Outcome → Type 0) → Type 0
+FailsLine stops.Memory old new Is = new ≡ old
+FailsLine (stops.Refused refusal) old new Is = Is (Refuses refusal.code) × (refusal.detail ≡ Nothing) × (new ≡ old)
+
+-- what reading a line answered is this
+abbrev pub AnswersLine : Result LineEnd Stop → (old new : Reading) → (Outcome → Type 0) → Type 0
+AnswersLine (Ok ends.Going) old new Is = Is (Reads new)
+AnswersLine (Ok ends.Script) old new Is = Is Finishes × (new ≡ old)
+AnswersLine (Err e) old new Is = FailsLine e old new Is

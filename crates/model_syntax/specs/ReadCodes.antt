@@ -1,5 +1,5 @@
 -- The codes of lines with a formula, by what was read of its text.
-use Rattle.std.specs.Prelude.{ℕ, Bool, ◌||◌, if◌then◌else◌, nat_le, List, [], ◌∷◌, length, Option, Some, None}
+use Rattle.std.specs.Prelude.{ℕ, Bool, ◌||◌, if◌then◌else◌, nat_le, List, ◌∷◌, length, Option, Some, None}
 use Rattle.cca_base.specs.declared.limits.TheConstants.{MAX_RULES, MAX_MOVES}
 use Rattle.cca_base.specs.Automata.{Automata}
 use Rattle.model_syntax.specs.declared.reading.Reading.{Reading}

@@ -12,7 +12,8 @@ use cca_base::{MAX_MOVES, Model, Move};
 fn is_ambiguous(moves: &[Move], x: &Move) -> bool
     ensures { result ≡ is_ambiguous moves.now x.now }
 {
-    moves.iter().any(|y| y.command == x.command && (y.component != x.component || y.source == x.source))
+    moves.iter().any(|y| y.command == x.command
+        && (y.component != x.component || y.source == x.source))
 }
 
 /// Whether a move leads to the mode.
@@ -26,7 +27,9 @@ fn leads_to(moves: &[Move], c: u16, mode: u8) -> bool
 fn leaves_unmarked(moves: &[Move], c: u16, mode: u8) -> bool
     ensures { result ≡ list_any (leaves_unmarked c mode) moves.now }
 {
-    moves.iter().any(|y| !y.repair && (y.component == c && y.source == mode))
+    moves
+        .iter()
+        .any(|y| !y.repair && (y.component == c && y.source == mode))
 }
 
 /// Whether the move leads to a broken mode, or repairs a mode to which a move leads.

@@ -7,7 +7,7 @@ ghost use Rattle.model_syntax.specs.declared.codes.TheConstants.{LIMIT as limit_
 ghost use Rattle.model_syntax.specs.Items.{shown_ends};
 ghost use Rattle.model_syntax.specs.Lookups.{NamesFit, NumbersFit, place_of};
 ghost use Rattle.model_syntax.specs.Codes.{least, is_long, move_faults, command_number, with_named};
-ghost use Rattle.model_syntax.specs.Lines.{is_bare_name, AnswersModel, IsNextOfText, move_next};
+ghost use Rattle.model_syntax.specs.Lines.{is_bare_name, AnswersModel, IsNextOfText, move_next, taken_move};
 
 use crate::checks::ends_of;
 use crate::codes::{MALFORMED, NAME_UNKNOWN};
@@ -122,9 +122,87 @@ fn add_declared(
     ensures fit { NumbersFit numbers.new model.new.commands }
     ensures complete { IsComplete model.new }
     ensures few { length model.new.commands ≤ length model.new.moves }
+    ensures components { model.new.components ≡ model.old.components }
+    ensures variables { model.new.variables ≡ model.old.variables }
 {
     match number_of(model, numbers, command) {
         Some(_) => model.add_move(x),
         None => add_with_command(model, numbers, x, command),
+    }
+}
+
+/// Adds a move whose guard is sound, if no code applies to it.
+fn take_move(
+    model: &mut Model,
+    numbers: &mut IndexMap<Name, u16>,
+    x: Move,
+    command: &[u8],
+) -> Result<(), Stop>
+    requires fit { NumbersFit numbers.old model.old.commands }
+    requires guard { IsFormula model.old x.guard }
+    requires source { HasMode model.old x.component x.source }
+    requires target { HasMode model.old x.component x.target }
+    requires complete { IsComplete model.old }
+    requires number { x.command ≡ command_number model.old command.now }
+    requires bare { is_bare_name command.now ≡ true }
+    requires few { length model.old.commands ≤ length model.old.moves }
+    ensures next { AnswersModel result model.old model.new (λ next. next ≡ taken_move model.old x command.now) }
+    ensures fit { NumbersFit numbers.new model.new.commands }
+    ensures complete { IsComplete model.new }
+    ensures few { length model.new.commands ≤ length model.new.moves }
+    ensures components { model.new.components ≡ model.old.components }
+    ensures variables { model.new.variables ≡ model.old.variables }
+{
+    match move_code(model, &x, command) {
+        Some(code) => Err(refused(code)),
+        None => {
+            add_declared(model, numbers, x, command)?;
+            Ok(())
+        }
+    }
+}
+
+/// A line with a move or a repair.
+pub fn move_line(
+    alloc: Global,
+    model: &mut Model,
+    names: &IndexMap<Name, Subject>,
+    numbers: &mut IndexMap<Name, u16>,
+    repair: bool,
+    ends: Ends,
+    command: &[u8],
+    guard: &[Token],
+) -> Result<(), Stop>
+    requires names { NamesFit names.now model.old }
+    requires fit { NumbersFit numbers.old model.old.commands }
+    requires complete { IsComplete model.old }
+    requires few { length model.old.commands ≤ length model.old.moves }
+    requires bare { is_bare_name command.now ≡ true }
+    ensures next { AnswersModel result model.old model.new (IsNextOfText (map lexeme_of guard.now) (move_next model.old repair (shown_ends ends.entry) command.now)) }
+    ensures names { NamesFit names.now model.new }
+    ensures fit { NumbersFit numbers.new model.new.commands }
+    ensures complete { IsComplete model.new }
+    ensures few { length model.new.commands ≤ length model.new.moves }
+{
+    let Some(reading) = read_formula(alloc, model, names, guard)? else {
+        return Err(refused(MALFORMED));
+    };
+    let Some((component, source, target)) = ends_of(model, names, ends) else {
+        return Err(refused(NAME_UNKNOWN));
+    };
+    match reading {
+        Reading::Faulty(code) => Err(refused(code)),
+        Reading::Sound { formula, depth: _ } => {
+            let number = command_number(model, numbers, command);
+            let x = Move {
+                component,
+                source,
+                target,
+                command: number,
+                repair,
+                guard: formula,
+            };
+            take_move(model, numbers, x, command)
+        }
     }
 }

@@ -1,7 +1,6 @@
-use Rattle.std.proofs.Common.{◌≡◌, map, sym, ap, subst, ◌∙◌, refl}
+use Rattle.std.proofs.Common.{map, sym, subst, refl}
 use Rattle.text_base.specs.Lexemes.{lexeme_of}
 use Rattle.model_syntax.specs.Lines.{Goes, IsNextOfText, rule_next}
-use Rattle.model_syntax.specs.ReadCodes.{rule_code_read}
 use Rattle.model_syntax.proofs.ReadLemmas.{rule_refused, rule_full, rule_added, rule_well_formed}
 use Rattle.model_syntax.proofs.lines.rule_line.Goals as goal
 

@@ -1,0 +1,101 @@
+ghost use Rattle.std.specs.Prelude.{◌≡◌, false, IfOk};
+ghost use Rattle.cca_base.specs.Model.{IsComplete, empty_model};
+ghost use Rattle.std.specs.Prelude.{Ok, map};
+ghost use Rattle.std.specs.List.{AllByRecursion};
+ghost use Rattle.text_base.specs.Tokens.{IsOfItsKind, shown};
+ghost use Rattle.model_syntax.specs.Lines.{AnswersLine, Leads, LeadsByTokens};
+
+use crate::codes::MALFORMED;
+use crate::line_end::LineEnd;
+use crate::refused::refused;
+use crate::token_lines::tokens_line;
+use cca_base::{Model, Name, Stop, Subject};
+use indexmap::IndexMap;
+use std::alloc::{AllocError, Global};
+use text_base::{Token, TokenFault, tokens};
+
+/// A model, as far as its lines were read.
+pub struct ModelReader {
+    alloc: Global,
+    model: Model,
+    names: IndexMap<Name, Subject>,
+    commands: IndexMap<Name, u16>,
+    begun: bool,
+}
+
+impl std::marker::Model for ModelReader {
+    ghost use Rattle.model_syntax.specs.Lines.{Reading as LinesReading};
+    ghost use Rattle.model_syntax.specs.Reader.{IsRead};
+    ghost use Rattle.cca_base.specs.contracts.formula.Formula as formula;
+    ghost use Rattle.std.specs.Coded.{codes};
+
+    ghost Value = { LinesReading };
+
+    ghost coded = { Prim.hlevel (codes, formula.the_row.coded) };
+
+    ghost view = { λ r. record { model = r.model; begun = r.begun } };
+
+    ghost invariant = { λ r. IsRead r.model r.names r.commands };
+}
+
+impl ModelReader {
+    /// The reader before the first line.
+    pub fn open(alloc: Global) -> Result<ModelReader, AllocError>
+        ensures { IfOk result (λ r. r ≡ record { model = empty_model; begun = false }) }
+    {
+        Ok(ModelReader {
+            alloc,
+            model: Model::empty(alloc),
+            names: IndexMap::new(alloc),
+            commands: IndexMap::new(alloc),
+            begun: false,
+        })
+    }
+
+    /// The model of the lines read so far.
+    pub fn model(&self) -> &Model
+        ensures { result.now ≡ self.now.model }
+    {
+        &self.model
+    }
+
+    /// Reads one line, without its end. After a refusal or want of memory the reader is as before.
+    pub fn line(&mut self, text: &[u8]) -> Result<LineEnd, Stop>
+        ensures { AnswersLine result self.old self.new (Leads self.old text.now) }
+    {
+        match tokens(self.alloc, text) {
+            Ok(tokens) => self.tokens_line(tokens.as_slice()),
+            Err(TokenFault::Bad(_)) => Err(refused(MALFORMED)),
+            Err(TokenFault::Memory) => Err(Stop::Memory),
+        }
+    }
+
+    fn tokens_line(&mut self, tokens: &[Token]) -> Result<LineEnd, Stop>
+        requires { AllByRecursion IsOfItsKind (map shown tokens.now) }
+        ensures { AnswersLine result self.old self.new (LeadsByTokens self.old (Ok (map shown tokens.now))) }
+    {
+        tokens_line(
+            self.alloc,
+            &mut self.model,
+            &mut self.names,
+            &mut self.commands,
+            &mut self.begun,
+            tokens,
+        )
+    }
+
+    /// The model of all lines.
+    pub fn finish(self) -> Model
+        ensures model { result ≡ self.model }
+        ensures complete { IsComplete result }
+    {
+        let ModelReader {
+            alloc: _,
+            model,
+            names: _,
+            commands: _,
+            begun: _,
+        } = self;
+        model
+    }
+}

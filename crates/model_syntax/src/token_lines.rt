@@ -1,0 +1,89 @@
+ghost use Rattle.std.specs.Prelude.{◌≡◌, ◌≤◌, ◌∷◌, Some, Ok, length, map};
+ghost use Rattle.std.specs.List.{AllByRecursion};
+ghost use Rattle.cca_base.specs.Automata.{Automata};
+ghost use Rattle.cca_base.specs.Model.{IsComplete};
+ghost use Rattle.text_base.specs.Tokens.{IsOfItsKind, shown};
+ghost use Rattle.text_base.specs.Lexemes.{lexeme_of};
+ghost use Rattle.model_syntax.specs.Items.{item_of, shown_item};
+ghost use Rattle.model_syntax.specs.Lookups.{NamesFit, NumbersFit};
+ghost use Rattle.model_syntax.specs.Lines.{AnswersLine, HasBareNames, LeadsByForm, LeadsByTokens, opening};
+
+use crate::codes::MALFORMED;
+use crate::item::{Item, item_of};
+use crate::item_lines::item_line;
+use crate::line_end::LineEnd;
+use crate::refused::refused;
+use cca_base::{Model, Name, Stop, Subject};
+use indexmap::IndexMap;
+use std::alloc::Global;
+use text_base::Token;
+
+/// The first line with tokens, by its item.
+fn opening_line(begun: &mut bool, item: Item) -> Result<LineEnd, Stop>
+    ensures { (m : Automata) → AnswersLine result (record { model = m; begun = begun.old }) (record { model = m; begun = begun.new }) (λ o. o ≡ opening m (Some (shown_item item.entry))) }
+{
+    match item {
+        Item::Header => {
+            *begun = true;
+            Ok(LineEnd::Going)
+        }
+        _ => Err(refused(MALFORMED)),
+    }
+}
+
+/// A line with tokens that has a form.
+#[tactic(auto, using(crate::proofs::LineLemmas::item_answers))]
+fn form_line(
+    alloc: Global,
+    model: &mut Model,
+    names: &mut IndexMap<Name, Subject>,
+    numbers: &mut IndexMap<Name, u16>,
+    begun: &mut bool,
+    item: Item,
+) -> Result<LineEnd, Stop>
+    requires names { NamesFit names.old model.old }
+    requires fit { NumbersFit numbers.old model.old.commands }
+    requires complete { IsComplete model.old }
+    requires few { length model.old.commands ≤ length model.old.moves }
+    requires bare { HasBareNames (shown_item item) }
+    ensures next { AnswersLine result (record { model = model.old; begun = begun.old }) (record { model = model.new; begun = begun.new }) (LeadsByForm begun.old model.old (Some (shown_item item.entry))) }
+    ensures names { NamesFit names.new model.new }
+    ensures fit { NumbersFit numbers.new model.new.commands }
+    ensures complete { IsComplete model.new }
+    ensures few { length model.new.commands ≤ length model.new.moves }
+{
+    if *begun {
+        item_line(alloc, model, names, numbers, item)
+    } else {
+        opening_line(begun, item)
+    }
+}
+
+/// A line, by its tokens.
+pub fn tokens_line(
+    alloc: Global,
+    model: &mut Model,
+    names: &mut IndexMap<Name, Subject>,
+    numbers: &mut IndexMap<Name, u16>,
+    begun: &mut bool,
+    tokens: &[Token],
+) -> Result<LineEnd, Stop>
+    requires names { NamesFit names.old model.old }
+    requires fit { NumbersFit numbers.old model.old.commands }
+    requires complete { IsComplete model.old }
+    requires few { length model.old.commands ≤ length model.old.moves }
+    requires kinds { AllByRecursion IsOfItsKind (map shown tokens.now) }
+    ensures next { AnswersLine result (record { model = model.old; begun = begun.old }) (record { model = model.new; begun = begun.new }) (LeadsByTokens (record { model = model.old; begun = begun.old }) (Ok (map shown tokens.now))) }
+    ensures names { NamesFit names.new model.new }
+    ensures fit { NumbersFit numbers.new model.new.commands }
+    ensures complete { IsComplete model.new }
+    ensures few { length model.new.commands ≤ length model.new.moves }
+{
+    if tokens.is_empty() {
+        return Ok(LineEnd::Going);
+    }
+    match item_of(alloc, tokens)? {
+        None => Err(refused(MALFORMED)),
+        Some(item) => form_line(alloc, model, names, numbers, begun, item),
+    }
+}
