@@ -101,7 +101,10 @@ fn a_goal_names_effects_first(rt: HostRuntime) -> Result<(), Fail> {
     let alloc = rt.alloc();
     let compiled = cases_compiled(alloc)?;
     let goal = sort_goal(alloc, &compiled, &pairs(alloc, &[(1, 1), (2, 1)])?)?;
-    assert_eq!(rt; goal.pairs.as_slice(), pairs(alloc, &[(2, 1), (1, 1)])?.as_slice());
+    assert_eq!(rt;
+        goal.pairs.as_slice(),
+        pairs(alloc, &[(2, 1), (1, 1)])?.as_slice()
+    );
     Ok(())
 }
 

@@ -43,10 +43,7 @@ pub fn has_value(variable: u16, value: u8) -> Formula {
 }
 
 pub fn iff(alloc: Global, a: Formula, b: Formula) -> Result<Formula, AllocError> {
-    Ok(Formula::Iff(
-        Boxed::new(alloc, a)?,
-        Boxed::new(alloc, b)?,
-    ))
+    Ok(Formula::Iff(Boxed::new(alloc, a)?, Boxed::new(alloc, b)?))
 }
 
 pub fn both(alloc: Global, a: Formula, b: Formula) -> Result<Formula, AllocError> {
@@ -122,7 +119,10 @@ fn clause(alloc: Global, row: &[(u16, &[u8])]) -> Result<Clause, AllocError> {
 pub fn all_true(clauses: &Clauses, values: &[u8]) -> bool {
     for clause in clauses.clauses.as_slice() {
         let literals = clause.literals.as_slice();
-        if !literals.iter().any(|l| l.values.has(values[l.subject as usize])) {
+        if !literals
+            .iter()
+            .any(|l| l.values.has(values[l.subject as usize]))
+        {
             return false;
         }
     }

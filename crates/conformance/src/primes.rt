@@ -32,7 +32,11 @@ fn wide_guard(alloc: Global) -> Result<Formula, AllocError> {
 #[test]
 fn a_projection_keeps_what_some_value_meets(rt: HostRuntime) -> Result<(), Fail> {
     let alloc = rt.alloc();
-    let given = clauses(alloc, &[2, 2], &[&[(0, &[0]), (1, &[0])], &[(0, &[0]), (1, &[1])]])?;
+    let given = clauses(
+        alloc,
+        &[2, 2],
+        &[&[(0, &[0]), (1, &[0])], &[(0, &[0]), (1, &[1])]],
+    )?;
     let kept = project(alloc, &given, 1)?;
     assert!(rt; all_true(&kept, &[0]));
     assert!(rt; !all_true(&kept, &[1]));
@@ -47,7 +51,10 @@ fn the_one_cube_or_more_than_none(rt: HostRuntime) -> Result<(), Fail> {
         return Err("more than one".into());
     };
     assert_eq!(rt; cubes.len(), 1);
-    assert_eq!(rt; cubes.get(0).as_slice(), [Pair { item: 0, value: 2 }].as_slice());
+    assert_eq!(rt;
+        cubes.get(0).as_slice(),
+        [Pair { item: 0, value: 2 }].as_slice()
+    );
     assert!(rt; matches!(primes(alloc, &given, 0)?, Primes::More));
     Ok(())
 }
@@ -75,7 +82,10 @@ fn cases_over_all_modes_need_none_of_them(rt: HostRuntime) -> Result<(), Fail> {
     let model = with_move(model, either(alloc, one, other)?)?;
     let cubes = ways(alloc, &model, 0).ok().ok_or("refused")?;
     assert_eq!(rt; cubes.len(), 1);
-    assert_eq!(rt; cubes.get(0).as_slice(), [Pair { item: 1, value: 1 }].as_slice());
+    assert_eq!(rt;
+        cubes.get(0).as_slice(),
+        [Pair { item: 1, value: 1 }].as_slice()
+    );
     Ok(())
 }
 
@@ -85,8 +95,14 @@ fn as_many_ways_as_there_may_be(rt: HostRuntime) -> Result<(), Fail> {
     let model = with_move(wide_model(alloc)?, wide_guard(alloc)?)?;
     let cubes = ways(alloc, &model, 0).ok().ok_or("refused")?;
     assert_eq!(rt; cubes.len(), 256);
-    assert_eq!(rt; cubes.get(0).as_slice(), cube(alloc, &[(0, 0), (1, 0), (2, 0), (3, 0)])?.as_slice());
-    assert_eq!(rt; cubes.get(255).as_slice(), cube(alloc, &[(0, 3), (1, 3), (2, 3), (3, 3)])?.as_slice());
+    assert_eq!(rt;
+        cubes.get(0).as_slice(),
+        cube(alloc, &[(0, 0), (1, 0), (2, 0), (3, 0)])?.as_slice()
+    );
+    assert_eq!(rt;
+        cubes.get(255).as_slice(),
+        cube(alloc, &[(0, 3), (1, 3), (2, 3), (3, 3)])?.as_slice()
+    );
     Ok(())
 }
 
@@ -120,7 +136,13 @@ fn a_guard_over_a_variable_of_two_components(rt: HostRuntime) -> Result<(), Fail
     let model = with_move(model, has_value(0, 1))?;
     let cubes = ways(alloc, &model, 0).ok().ok_or("refused")?;
     assert_eq!(rt; cubes.len(), 2);
-    assert_eq!(rt; cubes.get(0).as_slice(), [Pair { item: 0, value: 1 }].as_slice());
-    assert_eq!(rt; cubes.get(1).as_slice(), [Pair { item: 1, value: 1 }].as_slice());
+    assert_eq!(rt;
+        cubes.get(0).as_slice(),
+        [Pair { item: 0, value: 1 }].as_slice()
+    );
+    assert_eq!(rt;
+        cubes.get(1).as_slice(),
+        [Pair { item: 1, value: 1 }].as_slice()
+    );
     Ok(())
 }

@@ -14,7 +14,6 @@ use Rattle.cca_base.specs.Cube.{IsBeforeCube}
 use Rattle.cca_base.specs.State.{IsState}
 use Rattle.cca_base.specs.Implicants.{PrimeImplicant}
 use Rattle.cca_base.specs.Orders.{IsFirstMissing}
-
 use Rattle.cca_base.specs.Choice.{IsWithinReach, IsOpenAt, Walk, IsDistance, ComesNearer, IsChosen, Picks, Now, PicksForGoal}
 use Rattle.cca_base.specs.Trace.{command_of}
 use Rattle.cca_base.specs.Runs.{is_send}
