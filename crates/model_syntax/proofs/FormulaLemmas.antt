@@ -27,6 +27,12 @@ run_is_reading m ls o e = record {
   spelled = λ r f. let found = only_text_is_read m ls r (sym e ∙ f) in (found.text, found.spelled);
 }
 
+-- a text is read in one way
+pub one_way : (m : Automata) (s t : Whole) → spelling s ≡ spelling t → reading_of m s ≡ reading_of m t
+one_way m s t e =
+    some_is (reading_of m s) (reading_of m t)
+    (ap (λ (z : Reading). Some z) (sym (text_verdict m s)) ∙ sym (text_is_read m s) ∙ ap (run m start) e ∙ text_is_read m t ∙ ap (λ (z : Reading). Some z) (text_verdict m t))
+
 -- ---- how many words `not` wait
 
 module _ (t : State) (n : ℕ) where
