@@ -11,8 +11,9 @@ use Rattle.model_syntax.specs.declared.machine.Level.{Level}
 use Rattle.model_syntax.specs.declared.machine.Place.{Place}
 use Rattle.model_syntax.specs.declared.machine.Place.TheVariants.{Operand, Operator, Named, Compared, Opened, Listed, Followed}
 use Rattle.model_syntax.specs.Chain.{◌>>=◌}
+use Rattle.model_syntax.specs.Grammar.{Whole, spelling}
 use Rattle.model_syntax.specs.Machine.{State, start, step, step_at, run, ended, cases_read, side_read, level_read, link_from, close_from}
-use Rattle.model_syntax.specs.Meanings.{IsReadingOf}
+use Rattle.model_syntax.specs.Meanings.{IsReadingOf, reading_of}
 use Rattle.model_syntax.proofs.Complete.{text_is_read}
 use Rattle.model_syntax.proofs.Sound.{only_text_is_read}
 use Rattle.model_syntax.proofs.Verdicts.{text_verdict}
@@ -26,6 +27,12 @@ run_is_reading m ls o e = record {
   read_of = λ text same. e ∙ ap (run m start) same ∙ text_is_read m text ∙ ap (λ (z : Reading). Some z) (text_verdict m text);
   spelled = λ r f. let found = only_text_is_read m ls r (sym e ∙ f) in (found.text, found.spelled);
 }
+
+-- a text is read in one way
+pub one_way : (m : Automata) (s t : Whole) → spelling s ≡ spelling t → reading_of m s ≡ reading_of m t
+one_way m s t e =
+    some_is (reading_of m s) (reading_of m t)
+    (ap (λ (z : Reading). Some z) (sym (text_verdict m s)) ∙ sym (text_is_read m s) ∙ ap (run m start) e ∙ text_is_read m t ∙ ap (λ (z : Reading). Some z) (text_verdict m t))
 
 -- ---- how many words `not` wait
 

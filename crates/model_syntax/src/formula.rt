@@ -2,7 +2,9 @@ ghost use Rattle.std.specs.Prelude.{◌≡◌, map, IfOk};
 ghost use Rattle.text_base.specs.Lexemes.{lexeme_of};
 ghost use Rattle.model_syntax.specs.Lookups.{NamesFit};
 ghost use Rattle.model_syntax.specs.Machine.{start, state_of, ended, run};
-ghost use Rattle.model_syntax.specs.Meanings.{IsReadingOf};
+ghost use Rattle.cca_base.specs.Automata.{Automata};
+ghost use Rattle.model_syntax.specs.Grammar.{Whole, spelling};
+ghost use Rattle.model_syntax.specs.Meanings.{IsReadingOf, reading_of};
 
 use crate::level::level_read;
 use crate::machine::{Machine, Place};
@@ -87,3 +89,8 @@ pub fn read_formula(
 {
     run(alloc, model, names, tokens)
 }
+
+/// A text is read in one way: two formulas' texts that are spelled alike are read alike.
+pub fn texts_are_read_one_way()
+    ensures { (m : Automata) (s t : Whole) → spelling s ≡ spelling t → reading_of m s ≡ reading_of m t }
+{}

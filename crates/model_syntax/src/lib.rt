@@ -1,4 +1,5 @@
-//! The text of models: each line gives its item or its least code, and what is printed is read back as the same model.
+//! The lines of a model, read one after the other. A line makes of the model exactly what its form says, or is refused with
+//! the least code that applies, and then the reader is as it was.
 #![tactic(auto)]
 
 mod additions;
@@ -22,5 +23,7 @@ mod refused;
 mod steps;
 mod token_lines;
 
+pub use formula::texts_are_read_one_way;
+pub use item::lines_are_spelled;
 pub use line_end::LineEnd;
 pub use model_reader::ModelReader;

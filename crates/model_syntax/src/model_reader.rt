@@ -15,6 +15,7 @@ use std::alloc::{AllocError, Global};
 use text_base::{Token, TokenFault, tokens};
 
 /// A model, as far as its lines were read.
+#[derive(Drop)]
 pub struct ModelReader {
     alloc: Global,
     model: Model,
