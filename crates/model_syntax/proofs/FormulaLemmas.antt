@@ -11,8 +11,9 @@ use Rattle.model_syntax.specs.declared.machine.Level.{Level}
 use Rattle.model_syntax.specs.declared.machine.Place.{Place}
 use Rattle.model_syntax.specs.declared.machine.Place.TheVariants.{Operand, Operator, Named, Compared, Opened, Listed, Followed}
 use Rattle.model_syntax.specs.Chain.{◌>>=◌}
+use Rattle.model_syntax.specs.Grammar.{Whole, spelling}
 use Rattle.model_syntax.specs.Machine.{State, start, step, step_at, run, ended, cases_read, side_read, level_read, link_from, close_from}
-use Rattle.model_syntax.specs.Meanings.{IsReadingOf}
+use Rattle.model_syntax.specs.Meanings.{IsReadingOf, reading_of}
 use Rattle.model_syntax.proofs.Complete.{text_is_read}
 use Rattle.model_syntax.proofs.Sound.{only_text_is_read}
 use Rattle.model_syntax.proofs.Verdicts.{text_verdict}
