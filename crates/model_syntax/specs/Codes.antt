@@ -129,11 +129,11 @@ mends_elsewhere c mode mended move = move.repair && ((move.component == c && mov
 abbrev pub mends_twice : List Move → Move → Bool
 mends_twice moves x = x.repair && list_any (mends_elsewhere x.component x.source x.target) moves
 
--- the least code of a move between modes that are known
+-- what may be wrong with a move between modes that are known
 abbrev pub move_faults : Automata → Move → List (ℕ × Bool)
 move_faults m x = (AMBIGUOUS, is_ambiguous m.moves x) ∷ (INTO_BROKEN, is_into_broken m.moves x) ∷ (UNMARKED_EXIT, is_unmarked_exit m.moves x) ∷ (TWO_MENDS, mends_twice m.moves x) ∷ []
 
--- the least code of a line with a move or a repair; its ends may be unknown
+-- the least code of a line with a move or a repair, whose ends may be unknown
 abbrev pub move_code_from : Automata → Bool → Option (ℕ × ℕ × ℕ) → List ℕ → Whole → Option ℕ
 move_code_from m repair None command text = Some NAME_UNKNOWN
 move_code_from m repair (Some ends) command text = least ((NAME_UNKNOWN, names_unknown m text)
@@ -141,6 +141,7 @@ move_code_from m repair (Some ends) command text = least ((NAME_UNKNOWN, names_u
     ∷ (LIMIT, is_deep text || (is_long command || nat_le MAX_MOVES (length m.moves)))
     ∷ move_faults m (new_move m repair ends command (whole_formula m text)))
 
+-- the same by the words of its ends
 unfoldable pub move_code : Automata → Bool → Ends → List ℕ → Whole → Option ℕ
 move_code m repair ends command text = move_code_from m repair (ends_of m ends) command text
 
@@ -157,6 +158,7 @@ abbrev pub failure_code_from : Automata → Option (ℕ × ℕ × ℕ) → ℕ �
 failure_code_from m None cost = Some NAME_UNKNOWN
 failure_code_from m (Some ends) cost = least ((LIMIT, not (is_cost cost) || nat_le MAX_FAILURES (length m.failures)) ∷ [])
 
+-- the same by the words of its ends
 unfoldable pub failure_code : Automata → Ends → ℕ → Option ℕ
 failure_code m ends cost = failure_code_from m (ends_of m ends) cost
 

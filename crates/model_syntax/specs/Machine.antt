@@ -78,6 +78,7 @@ link_from s l (Some left) = None
 link_from s l None =
     side_read s.level.any s.level.all >>= λ x. Some (record s { level = record { left = Some (record { link = l; reading = x }); any = None; all = None; nots = 0 }; place = Operand })
 
+-- the same from a state
 abbrev pub link_step : State → Link → Option State
 link_step s l = link_from s l s.level.left
 
@@ -87,6 +88,7 @@ close_from k [] = None
 close_from k (around ∷ outer) =
     level_read k >>= λ x. Some (record { outer = outer; level = completed around (enclosed x); place = Operator })
 
+-- the same from a state
 abbrev pub close_step : State → Option State
 close_step s = close_from s.level s.outer
 
@@ -172,7 +174,7 @@ step_at m s (Followed atom) l = followed_step s atom l
 unfoldable pub step : Automata → State → Lexeme → Option State
 step m s l = step_at m s s.place l
 
--- behind the last token
+-- behind the last token: the outermost level has to be at its end
 abbrev pub ended_at : Place → List Level → Level → Option Reading
 ended_at Operator [] k = level_read k
 ended_at Operator (around ∷ outer) k = None
@@ -183,6 +185,7 @@ ended_at (Opened atom) outer k = None
 ended_at (Listed atom) outer k = None
 ended_at (Followed atom) outer k = None
 
+-- what a text says that ends there, if one may
 unfoldable pub ended : State → Option Reading
 ended s = ended_at s.place s.outer s.level
 
