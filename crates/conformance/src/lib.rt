@@ -11,14 +11,6 @@ mod first_path;
 #[cfg(test)]
 mod graph;
 #[cfg(test)]
-mod orders;
-#[cfg(test)]
-mod parts;
-#[cfg(test)]
-mod primes;
-#[cfg(test)]
 mod refusals;
 #[cfg(test)]
 mod row;
-#[cfg(test)]
-mod worlds;
