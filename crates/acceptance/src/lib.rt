@@ -1,5 +1,5 @@
-//! Which models are accepted. A caller gets the compiled model exactly where it is, and else the first rule that the
-//! model breaks with an example.
+//! The first test of which models are accepted. A caller gets the first state in mode order that has no world, and None
+//! exactly where every state has one.
 #![tactic(auto)]
 
 mod falsified;

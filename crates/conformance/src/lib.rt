@@ -1,5 +1,5 @@
-//! Worked rows of the program, run on the top call, and each call below it that takes memory, once with enough of it.
-//! This crate has no code of its own: a caller gets its tests alone.
+//! Worked rows of the program, run on the top call, and calls of the layers below it, with enough memory. This crate has
+//! no code of its own: a caller gets its tests alone.
 #![tactic(auto)]
 
 #[cfg(test)]
