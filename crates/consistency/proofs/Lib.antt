@@ -6,3 +6,7 @@ pub mod Lists
 pub mod Bridge
 pub mod Orders
 pub mod Firsts
+pub mod StatePairs
+pub mod Trying
+pub mod Fitting
+pub mod ConflictLemmas

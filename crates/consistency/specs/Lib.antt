@@ -3,3 +3,4 @@ pub mod Search
 pub mod Problem
 pub mod Found
 pub mod Base
+pub mod Conflict

@@ -1,0 +1,72 @@
+ghost use Rattle.std.specs.Prelude.{◌≡◌, [], ◌++◌, ◌↔◌, All, IfOk, IfSome, IsNone};
+ghost use Rattle.cca_base.specs.Cube.{IsCube};
+ghost use Rattle.cca_base.specs.Model.{HasMode};
+ghost use Rattle.cca_base.specs.Repairs.{pairs_of};
+ghost use Rattle.cca_base.specs.Shown.{CanShow, IsConflict, KeepsOfClash};
+ghost use Rattle.cca_base.specs.State.{HasValue, IsState};
+
+use crate::found::find_world;
+use cca_base::{Cube, Model, Pair, Seen, State};
+use std::alloc::{AllocError, Global};
+
+/// Each component with its mode in the state.
+fn all_pairs(alloc: Global, model: &Model, state: &State) -> Result<Cube, AllocError>
+    requires { IsState model.now state.now.modes }
+    ensures { IfOk result (λ c. c ≡ pairs_of state.now.modes) }
+{
+    let mut pairs = Cube::new(alloc);
+    for item in 0..model.components().len() as u16 {
+        let value = *state.modes.get(item as usize);
+        pairs.push(Pair { item, value })?;
+    }
+    Ok(pairs)
+}
+
+/// The cube with these pairs behind its own.
+fn joined(alloc: Global, front: &Cube, behind: &[Pair]) -> Result<Cube, AllocError>
+    requires { IsCube (front.now ++ behind.now) }
+    ensures { IfOk result (λ c. c ≡ front.now ++ behind.now) }
+{
+    let mut both = front.copy(alloc)?;
+    for pair in behind {
+        both.push(*pair)?;
+    }
+    Ok(both)
+}
+
+/// What is kept of the pairs, each of which is tried once.
+fn kept_of(alloc: Global, model: &Model, pairs: &Cube, seen: &Seen) -> Result<Cube, AllocError>
+    requires pairs { All (λ p. HasMode model.now p.item p.value) pairs.now }
+    requires seen { All (λ p. HasValue model.now p.item p.value) seen.now.pairs }
+    ensures { IfOk result (KeepsOfClash model.now seen.now.pairs [] pairs.now) }
+{
+    let mut kept = Cube::new(alloc);
+    for (at, pair) in pairs.as_slice().iter().enumerate() {
+        let others = joined(alloc, &kept, &pairs.as_slice()[at + 1..])?;
+        if find_world(alloc, model, &others, seen)?.is_some() {
+            kept.push(*pair)?;
+        }
+    }
+    Ok(kept)
+}
+
+/// Why no world of the state agrees with what is seen: of the state's pairs, each tried in component order, those that
+/// are kept since some state that extends the others has such a world. None comes exactly where the state has a world
+/// that agrees. The error is want of memory.
+pub fn conflict(
+    alloc: Global,
+    model: &Model,
+    state: &State,
+    seen: &Seen,
+) -> Result<Option<Cube>, AllocError>
+    requires state { IsState model.now state.now.modes }
+    requires seen { All (λ p. HasValue model.now p.item p.value) seen.now.pairs }
+    ensures some { IfOk result (λ o. IfSome o (IsConflict model.now state.now.modes seen.now.pairs)) }
+    ensures none { IfOk result (λ o. IsNone o ↔ CanShow model.now state.now.modes seen.now.pairs) }
+{
+    let pairs = all_pairs(alloc, model, state)?;
+    if find_world(alloc, model, &pairs, seen)?.is_some() {
+        return Ok(None);
+    }
+    Ok(Some(kept_of(alloc, model, &pairs, seen)?))
+}
