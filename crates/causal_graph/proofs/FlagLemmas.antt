@@ -1,11 +1,11 @@
 -- Flags that are set one by one.
-use Rattle.std.proofs.Common.{◌≡◌, ◌<◌, ◌≤◌, ◌+◌, ◌⊎◌, ℕ, Bool, true, false, not, cond, List, [], ◌∷◌, ◌++◌, length, take, get_or, set, Contains, MatchBool, inl, inr, refl, sym, ap, subst, ◌∙◌, arith}
+use Rattle.std.proofs.Common.{◌≡◌, ◌<◌, ◌≤◌, ◌+◌, ◌⊎◌, ℕ, Bool, true, false, not, cond, List, [], ◌∷◌, ◌++◌, length, take, get_or, set, All, Contains, MatchBool, inl, inr, refl, sym, ap, subst, ◌∙◌, arith}
 use Rattle.std.proofs.lemmas.Bool.{cases_lt, cases_eq, false≢true}
 use Rattle.std.proofs.lemmas.List.{get_or_past, get_or-set_same, get_or-set_other, length-set, take_more}
-use Rattle.std.proofs.lemmas.List.Elements.{Contains-push, Contains-push_cases, Contains-append_left}
+use Rattle.std.proofs.lemmas.List.Elements.{All-contains, Contains-push, Contains-push_cases, Contains-append_left}
 use Rattle.std.proofs.lemmas.List.Sums.{sum_by-set}
 use Rattle.cca_base.proofs.Members.{contains_none}
-use Rattle.causal_graph.specs.Search.{IsSet, Marks, unset}
+use Rattle.causal_graph.specs.Search.{IsSet, AreNarrow, Marks, unset}
 
 -- only flags of the list are set
 pub set_within : (flags : List Bool) (u : ℕ) → IsSet flags u → u < length flags
@@ -52,6 +52,13 @@ marks_old row u old now is_set h = record {
   marked = λ w among. elim (Contains-push_cases row u w among) [ inl there ↦ h.marked w there | inr e ↦ subst (IsSet now) e is_set ];
   origin = λ w is. elim (h.origin w is) [ inl was ↦ inl was | inr there ↦ inr (Contains-append_left row (u ∷ []) w there) ];
 }
+
+-- numbers below 65536 are marked at such places
+pub marks_narrow : (row : List ℕ) (old new : List Bool) → All (λ u. u < 65536) row → Marks row old new → AreNarrow old → AreNarrow new
+marks_narrow row old new small h narrow = λ u is. elim (h.origin u is) [
+  | inl was ↦ narrow u was
+  | inr there ↦ All-contains (λ w. w < 65536) row u small there
+]
 
 pub fewer_unset : (flags : List Bool) (u : ℕ) → u < length flags → get_or flags u false ≡ false → unset (set flags u true) + 1 ≡ unset flags
 fewer_unset flags u within h =

@@ -7,7 +7,7 @@ use Rattle.cca_base.proofs.Members.{contains_none}
 use Rattle.cca_base.proofs.RelationLemmas.{ancestor_direct, ancestor_join}
 use Rattle.cca_base.specs.Relations.{PathBy, AncestorBy}
 use Rattle.causal_graph.specs.Needs.{RowNeeds, AreAncestors}
-use Rattle.causal_graph.specs.Search.{IsSet, unset, Marks, Spreads, AreReached}
+use Rattle.causal_graph.specs.Search.{IsSet, AreNarrow, unset, Marks, Spreads, AreReached}
 use Rattle.causal_graph.proofs.DistanceLemmas.{row_within}
 use Rattle.causal_graph.proofs.FlagLemmas.{set_within}
 
@@ -23,10 +23,11 @@ module _ (rows : List (List ℕ)) where
     pub kept : (u : ℕ) → IsSet old u → IsSet now u
     pub marked : (v u : ℕ) → v < i → IsSet old v → RowNeeds rows v u → IsSet now u
     pub origin : (u : ℕ) → IsSet now u → IsSet old u ⊎ ((v : ℕ) × IsSet old v × Reaches v u)
+    pub narrow : AreNarrow old → AreNarrow now
     pub fresh_is : MatchBool fresh (unset now < unset old) (now ≡ old)
 
   pub spread_none : (old : List Bool) → IsSpreadTo old old false 0
-  spread_none old = record { full = refl; kept = λ u h. h; marked = λ v u lt. absurd (omega arith); origin = λ u h. inl h; fresh_is = refl }
+  spread_none old = record { full = refl; kept = λ u h. h; marked = λ v u lt. absurd (omega arith); origin = λ u h. inl h; narrow = λ h. h; fresh_is = refl }
 
   pub spread_all : (old now : List Bool) (fresh : Bool) (i : ℕ) → length rows ≤ i → IsSpreadTo old now fresh i → Spreads rows old now
   spread_all old now fresh i all h = record {
@@ -46,6 +47,7 @@ module _ (rows : List (List ℕ)) where
         | inr ne ↦ h.marked v u (let below : v < i + 1 = lt in omega (arith, below, ne)) is needs
       ];
       origin = h.origin;
+      narrow = h.narrow;
       fresh_is = h.fresh_is;
     }
 
@@ -58,7 +60,7 @@ module _ (rows : List (List ℕ)) where
         not_more false e = omega (arith, lt, ap unset e)
     fewer false new e = subst (λ xs. MatchBool fresh (unset xs < unset old) (xs ≡ old)) (sym e) h.fresh_is
 
-    module _ (row : List ℕ) (new : List Bool) (is_row : get_or rows i [] ≡ row) (set_i : get_or now i false ≡ true) (marks : Marks row now new) where
+    module _ (row : List ℕ) (new : List Bool) (is_row : get_or rows i [] ≡ row) (set_i : get_or now i false ≡ true) (marks : Marks row now new) (narrow : AreNarrow now → AreNarrow new) where
       new_origin : (u : ℕ) → IsSet new u → IsSet old u ⊎ ((v : ℕ) × IsSet old v × Reaches v u)
       new_origin u is = elim (marks.origin u is) [
         | inl was ↦ h.origin u was
@@ -78,10 +80,10 @@ module _ (rows : List (List ℕ)) where
       ]
 
       pub spread_new : MatchBool true (unset new < unset now) (new ≡ now) → IsSpreadTo old new true (i + 1)
-      spread_new lt = record { full = marks.full ∙ h.full; kept = λ u is. marks.kept u (h.kept u is); marked = new_marked; origin = new_origin; fresh_is = fewer true new lt }
+      spread_new lt = record { full = marks.full ∙ h.full; kept = λ u is. marks.kept u (h.kept u is); marked = new_marked; origin = new_origin; narrow = λ was. narrow (h.narrow was); fresh_is = fewer true new lt }
 
       pub spread_same : MatchBool false (unset new < unset now) (new ≡ now) → IsSpreadTo old new fresh (i + 1)
-      spread_same e = record { full = marks.full ∙ h.full; kept = λ u is. marks.kept u (h.kept u is); marked = new_marked; origin = new_origin; fresh_is = fewer false new e }
+      spread_same e = record { full = marks.full ∙ h.full; kept = λ u is. marks.kept u (h.kept u is); marked = new_marked; origin = new_origin; narrow = λ was. narrow (h.narrow was); fresh_is = fewer false new e }
 
   -- ---- all rounds
 
@@ -91,20 +93,23 @@ module _ (rows : List (List ℕ)) where
       pub full : length flags ≡ length rows
       pub origin : (u : ℕ) → IsSet flags u → Reaches c u
       pub first : (u : ℕ) → RowNeeds rows c u → IsSet flags u
+      pub narrow : AreNarrow flags
 
-    pub reaching_first : (row : List ℕ) (old new : List Bool) → get_or rows c [] ≡ row → length old ≡ length rows → ((u : ℕ) → IsSet old u → ⊥) → Marks row old new → IsReaching new
-    reaching_first row old new is_row full none marks = record {
+    pub reaching_first : (row : List ℕ) (old new : List Bool) → get_or rows c [] ≡ row → length old ≡ length rows → ((u : ℕ) → IsSet old u → ⊥) → Marks row old new → (AreNarrow old → AreNarrow new) → IsReaching new
+    reaching_first row old new is_row full none marks narrow = record {
       full = marks.full ∙ full;
       origin = λ u is. elim (marks.origin u is) [ inl was ↦ absurd (none u was) | inr there ↦ ancestor_direct (RowNeeds rows) c u (subst (λ r. Contains r u) (sym is_row) there) ];
       first = λ u needs. marks.marked u (subst (λ r. Contains r u) is_row needs);
+      narrow = narrow (λ u was. absurd (none u was));
     }
 
     module _ (old new : List Bool) (h : IsReaching old) (spreads : Spreads rows old new) where
-      pub reaching_more : IsReaching new
-      reaching_more = record {
+      pub reaching_more : (AreNarrow old → AreNarrow new) → IsReaching new
+      reaching_more narrow = record {
         full = spreads.full ∙ h.full;
         origin = λ u is. elim (spreads.origin u is) [ inl was ↦ h.origin u was | inr by ↦ ancestor_join (RowNeeds rows) c by.0 u (h.origin by.0 by.1) by.2 ];
         first = λ u needs. spreads.kept u (h.first u needs);
+        narrow = narrow h.narrow;
       }
 
       module _ (same : new ≡ old) where

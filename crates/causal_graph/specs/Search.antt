@@ -8,6 +8,10 @@ use Rattle.causal_graph.specs.Needs.{RowNeeds}
 abbrev pub IsSet : List Bool → ℕ → Type 0
 IsSet flags u = slice_index_or flags u false ≡ true
 
+-- flags are set only at places that a u16 numbers
+abbrev pub AreNarrow : List Bool → Type 0
+AreNarrow flags = (u : ℕ) → IsSet flags u → u < 65536
+
 -- how many flags are not set
 abbrev pub unset : List Bool → ℕ
 unset flags = count_by not flags

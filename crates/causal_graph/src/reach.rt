@@ -1,6 +1,6 @@
-ghost use Rattle.std.specs.Prelude.{◌≡◌, ◌<◌, ◌≤◌, IfOk, MatchBool, length};
+ghost use Rattle.std.specs.Prelude.{◌≡◌, ◌<◌, IfOk, MatchBool, length};
 ghost use Rattle.causal_graph.specs.Needs.{AreAncestors, AreRows};
-ghost use Rattle.causal_graph.specs.Search.{AreReached, IsSet, Spreads, unset};
+ghost use Rattle.causal_graph.specs.Search.{AreNarrow, AreReached, Spreads, unset};
 
 use crate::flags::mark;
 use cca_base::List;
@@ -11,6 +11,7 @@ fn spread(needs: &List<List<u16>>, flags: &mut [bool]) -> bool
     requires rows { AreRows needs.now }
     requires full { length flags.old ≡ length needs.now }
     ensures spreads { Spreads needs.now flags.old flags.new }
+    ensures narrow { AreNarrow flags.old → AreNarrow flags.new }
     ensures fresh { MatchBool result (unset flags.new < unset flags.old) (flags.new ≡ flags.old) }
 {
     let mut fresh = false;
@@ -26,7 +27,8 @@ fn spread(needs: &List<List<u16>>, flags: &mut [bool]) -> bool
 fn reached(alloc: Global, needs: &List<List<u16>>, c: u16) -> Result<Vec<bool>, AllocError>
     requires rows { AreRows needs.now }
     requires within { c < length needs.now }
-    ensures { IfOk result (λ v. AreReached needs.now c v.items) }
+    ensures reached { IfOk result (λ v. AreReached needs.now c v.items) }
+    ensures narrow { IfOk result (λ v. AreNarrow v.items) }
 {
     let mut flags = vec![in alloc; false; needs.len()]?;
     mark(needs.get(c as usize).as_slice(), flags.as_mut_slice());
@@ -37,7 +39,6 @@ fn reached(alloc: Global, needs: &List<List<u16>>, c: u16) -> Result<Vec<bool>, 
 /// The components that `c` reaches by one or more needs, rising, each once. Row d of `needs` lists the components that d
 /// needs, in any order. The error is want of memory.
 pub fn ancestors(alloc: Global, needs: &List<List<u16>>, c: u16) -> Result<List<u16>, AllocError>
-    requires few { length needs.now ≤ 65536 }
     requires rows { AreRows needs.now }
     requires within { c < length needs.now }
     ensures { IfOk result (AreAncestors needs.now c) }

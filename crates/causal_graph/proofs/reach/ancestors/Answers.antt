@@ -18,4 +18,11 @@ loop-u-preserved c =
     ]
 
 pub returns : goal.returns
-returns c = listed_all c.in_ok-flags.flags.items c.loop-u.list c.loop-u.u c.loop-u.invariant c.args.needs.now c.args.c c.in_ok-flags.ensures (omega (arith, c.loop-u-test.false, c.len-u-end.ensures, c.in_ok-flags.flags.ok.0))
+returns c = listed_all c.in_ok-flags.flags.items c.loop-u.list c.loop-u.u c.loop-u.invariant c.args.needs.now c.args.c c.in_ok-flags.ensures.reached (omega (arith, c.loop-u-test.false, c.len-u-end.ensures, c.in_ok-flags.flags.ok.0))
+
+pub overflow_cast-u : goal.overflow_cast-u
+overflow_cast-u c =
+    let flags = c.in_ok-flags.flags.items in
+    let i = c.loop-u.u in
+    let read : c.index.result.now ≡ get_or flags i false = get_or_read flags i c.index.result.now (omega (arith, c.loop-u-test.true, c.len-u-end.ensures, c.in_ok-flags.flags.ok.0)) c.index.ensures false in
+    omega (arith, c.in_ok-flags.ensures.narrow i (sym read ∙ c.if-index.true))

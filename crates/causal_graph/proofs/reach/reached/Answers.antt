@@ -1,7 +1,7 @@
 use Rattle.std.proofs.Common.{◌≡◌, ◌++◌, ℕ, Bool, false, List, [], length, get_or, take, drop, replicate, sym, ap, subst, ◌∙◌, rules}
 use Rattle.std.proofs.lemmas.Option.{get_or_from_slice_get}
 use Rattle.std.proofs.lemmas.List.{length-replicate}
-use Rattle.causal_graph.specs.Search.{IsSet, Marks, Spreads}
+use Rattle.causal_graph.specs.Search.{IsSet, AreNarrow, Marks, Spreads}
 use Rattle.causal_graph.proofs.NeededLemmas.{none_set}
 use Rattle.causal_graph.proofs.ReachLemmas.{reaching_first, reaching_more, reached_all}
 use Rattle.causal_graph.proofs.Written.{written_back}
@@ -17,9 +17,10 @@ rounds-init c =
     let same : c.as_mut_slice.result.now ≡ old = c.as_mut_slice.ensures.value in
     let back : take c.in_ok-flags.flags.len (new ++ drop (length new) old) ≡ new = written_back c.in_ok-flags.flags.len old c.as_mut_slice.result.now new same c.as_mut_slice.ensures.len c.mark.auto.flags in
     let marks : Marks row old new = subst (λ xs. Marks row xs new) same c.mark.ensures.marks in
+    let narrow : AreNarrow old → AreNarrow new = subst (λ xs. AreNarrow xs → AreNarrow new) same c.mark.ensures.narrow in
     let items : old ≡ replicate c.len.result false = c.in_ok-flags.ensures.items_if_clones_equal (λ y h. search rules) in
     rw back (reaching_first rows c.args.c row old new is_row (ap length items ∙ length-replicate c.len.result false ∙ c.len.ensures)
-    (λ u h. none_set c.len.result u (subst (λ xs. IsSet xs u) items h)) marks)
+    (λ u h. none_set c.len.result u (subst (λ xs. IsSet xs u) items h)) marks narrow)
 
 pub rounds-preserved : goal.rounds-preserved
 rounds-preserved c =
@@ -29,15 +30,31 @@ rounds-preserved c =
     let same : c.as_mut_slice-in-rounds.result.now ≡ old = c.as_mut_slice-in-rounds.ensures.value in
     let back : take c.rounds.flags.len (new ++ drop (length new) old) ≡ new = written_back c.rounds.flags.len old c.as_mut_slice-in-rounds.result.now new same c.as_mut_slice-in-rounds.ensures.len c.spread.auto.flags in
     let spreads : Spreads rows old new = subst (λ xs. Spreads rows xs new) same c.spread.ensures.spreads in
-    rw back (reaching_more rows c.args.c old new c.rounds.invariant spreads)
+    let narrow : AreNarrow old → AreNarrow new = subst (λ xs. AreNarrow xs → AreNarrow new) same c.spread.ensures.narrow in
+    rw back (reaching_more rows c.args.c old new c.rounds.invariant spreads narrow)
 
-pub returns : goal.returns
-returns c =
+-- what is set when a round sets nothing new
+module _ (c : goal.After-rounds) where
+  abbrev old : List Bool
+  old = c.rounds.flags.items
+
+  abbrev new : List Bool
+  new = c.spread.new.flags
+
+  same : c.as_mut_slice-in-rounds.result.now ≡ old
+  same = c.as_mut_slice-in-rounds.ensures.value
+
+  back : take c.rounds.flags.len (new ++ drop (length new) old) ≡ new
+  back = written_back c.rounds.flags.len old c.as_mut_slice-in-rounds.result.now new same c.as_mut_slice-in-rounds.ensures.len c.spread.auto.flags
+
+  none : new ≡ old
+  none = c.rounds-test.ensures.fresh ∙ same
+
+pub returns-clause-reached : goal.returns-clause-reached
+returns-clause-reached c =
     let rows = c.args.needs.now in
-    let old : List Bool = c.rounds.flags.items in
-    let new : List Bool = c.spread.new.flags in
-    let same : c.as_mut_slice-in-rounds.result.now ≡ old = c.as_mut_slice-in-rounds.ensures.value in
-    let back : take c.rounds.flags.len (new ++ drop (length new) old) ≡ new = written_back c.rounds.flags.len old c.as_mut_slice-in-rounds.result.now new same c.as_mut_slice-in-rounds.ensures.len c.spread.auto.flags in
-    let spreads : Spreads rows old new = subst (λ xs. Spreads rows xs new) same c.spread.ensures.spreads in
-    let none : new ≡ old = c.rounds-test.ensures.fresh ∙ same in
-    rw (back, none) (reached_all rows c.args.c old new c.rounds.invariant spreads none)
+    let spreads : Spreads rows (old c) (new c) = subst (λ xs. Spreads rows xs (new c)) (same c) c.spread.ensures.spreads in
+    rw (back c, none c) (reached_all rows c.args.c (old c) (new c) c.rounds.invariant spreads (none c))
+
+pub returns-clause-narrow : goal.returns-clause-narrow
+returns-clause-narrow c = rw (back c, none c) c.rounds.invariant.narrow
