@@ -1,2 +1,8 @@
+pub mod AllWays
 pub mod Clashes
+pub mod Depths
 pub mod Falsified
+pub mod Laws
+pub mod Marks
+pub mod Parts
+pub mod Refusals

@@ -1,8 +1,17 @@
-//! The first test of which models are accepted. A caller gets the first state in mode order that has no world, and None
-//! exactly where every state has one.
+//! Which models may fly. A caller of `accept` gets a compiled model exactly where the model is accepted, with its moves'
+//! prime implicants, its order and its bounds; else it hears what stands against the model first, with the example that is
+//! shown of it, and has the model back.
 #![tactic(auto)]
 
+mod accepting;
+mod all_ways;
+mod bounds;
+mod clash;
 mod falsified;
+mod laws;
+mod needs;
 mod worldless;
 
+pub use accepting::{NotAccepted, accept};
+pub use laws::models_are_refused_one_way;
 pub use worldless::first_worldless;

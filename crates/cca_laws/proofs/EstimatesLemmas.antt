@@ -12,7 +12,7 @@ use Rattle.cca_base.specs.Estimates.{Consistent, Estimate, Unexplained}
 use Rattle.cca_base.specs.Runs.{Moment, StaysRight, CanBeSeen, IsRight, LeavesPlantAlone}
 
 -- neither is before the other, so they are one
-neither : (a b : List ℕ) → (slice_cmp nat_cmp a b ≡ Less → ⊥) → (slice_cmp nat_cmp b a ≡ Less → ⊥) → a ≡ b
+pub neither : (a b : List ℕ) → (slice_cmp nat_cmp a b ≡ Less → ⊥) → (slice_cmp nat_cmp b a ≡ Less → ⊥) → a ≡ b
 neither a b h k =
     elim (slice_cmp nat_cmp a b) as (λ o. slice_cmp nat_cmp a b ≡ o → a ≡ b) [
       | Less ↦ λ e. absurd (h e)

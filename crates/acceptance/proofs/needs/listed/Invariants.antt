@@ -1,0 +1,5 @@
+use Rattle.causal_graph.proofs.ReachLemmas.{AreListed}
+use Rattle.acceptance.proofs.needs.listed.Given as goal
+
+abbrev pub invariant-loop-u : goal.invariant-loop-u
+invariant-loop-u l = AreListed l.marks l.list l.u

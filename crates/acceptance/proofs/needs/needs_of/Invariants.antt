@@ -1,0 +1,5 @@
+use Rattle.acceptance.proofs.MarkLemmas.{AreNeedsTo}
+use Rattle.acceptance.proofs.needs.needs_of.Given as goal
+
+abbrev pub invariant-loop-c : goal.invariant-loop-c
+invariant-loop-c l = AreNeedsTo l.model l.rows l.c
