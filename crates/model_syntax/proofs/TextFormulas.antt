@@ -141,22 +141,22 @@ module _ (m : Automata) where
   iff_fits : (f g : Formula) → Fits f → Fits g → Fits (roll-Formula (Formula-F.Iff f g))
   iff_fits f g a b = fold-roll-Formula Bool (fits_step modes values) (Formula-F.Iff f g) ∙ and_from (fits modes values f) (fits modes values g) a b
 
-  some_conjuncts : (c : Conjunction) → 0 < length (conjuncts m c)
+  pub some_conjuncts : (c : Conjunction) → 0 < length (conjuncts m c)
   some_conjuncts (Single part) = omega arith
   some_conjuncts (And front last) = omega (arith, length_push (conjuncts m front) (factor_formula m last))
 
-  some_disjuncts : (d : Disjunction) → 0 < length (disjuncts m d)
+  pub some_disjuncts : (d : Disjunction) → 0 < length (disjuncts m d)
   some_disjuncts (Case part) = omega arith
   some_disjuncts (Or front last) = omega (arith, length_push (disjuncts m front) (conjunction_formula m last))
 
   -- all names are declared
-  abbrev Known : List Comparison → Type 0
+  abbrev pub Known : List Comparison → Type 0
   Known cs = list_any (is_unknown m) cs ≡ false
 
-  known_both : (cs ds : List Comparison) → Known (cs ++ ds) → Known cs × Known ds
+  pub known_both : (cs ds : List Comparison) → Known (cs ++ ds) → Known cs × Known ds
   known_both cs ds h = or_parts (list_any (is_unknown m) cs) (list_any (is_unknown m) ds) (sym (list_any-append (is_unknown m) cs ds) ∙ h)
 
-  known_one : (name : List ℕ) (vs : List (List ℕ)) → Known (record { name = name; values = vs } ∷ []) → lacks_value m (subject_of m name) vs ≡ false
+  pub known_one : (name : List ℕ) (vs : List (List ℕ)) → Known (record { name = name; values = vs } ∷ []) → lacks_value m (subject_of m name) vs ≡ false
   known_one name vs h = (or_parts (lacks_value m (subject_of m name) vs) false h).0
 
   mutual

@@ -2,6 +2,7 @@ pub mod Chain
 pub mod Codes
 pub mod Grammar
 pub mod Items
+pub mod Kept
 pub mod Lines
 pub mod Lookups
 pub mod ReadCodes
@@ -9,3 +10,7 @@ pub mod Reader
 pub mod Readings
 pub mod Machine
 pub mod Meanings
+pub mod Printing
+pub mod Shorter
+pub mod RoundTrip
+pub mod Drafts

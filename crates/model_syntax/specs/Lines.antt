@@ -165,6 +165,10 @@ LeadsByTokens s (Ok (t ∷ ts)) o = LeadsByForm s.begun s.model (item_of (map le
 abbrev pub Leads : Reading → List ℕ → Outcome → Type 0
 Leads s line o = LeadsByTokens s (tokens_of line) o
 
+-- a line leads to one outcome
+abbrev pub LeadOneWay : Type 0
+LeadOneWay = (s : Reading) (line : List ℕ) (a b : Outcome) → Leads s line a → Leads s line b → a ≡ b
+
 -- a call that failed: the reader is as before, and a refusal is this
 abbrev pub FailsLine : Stop → (old new : Reading) → (Outcome → Type 0) → Type 0
 FailsLine stops.Memory old new Is = new ≡ old
