@@ -6,6 +6,7 @@ use Rattle.cca_base.specs.declared.model.Component.{Component}
 use Rattle.cca_base.specs.declared.model.Move.{Move}
 use Rattle.cca_base.specs.Accepted.{CompiledParts}
 use Rattle.cca_base.specs.Automata.{Automata}
+use Rattle.model_syntax.specs.Printing.{printed_model}
 use Rattle.trace_text.specs.Names.{pairs_text, components_text, move_text}
 
 -- the components in order
@@ -39,3 +40,7 @@ ways_lines m (x ∷ xs) (w ∷ ws) = move_lines m x w ++ ways_lines m xs ws
 -- the order, the bounds and the prime implicants
 abbrev pub compiled_lines : CompiledParts → List ℕ
 compiled_lines b = order_line b.model.components b.order ++ bound_lines b.model.components b.bounds ++ ways_lines b.model b.model.moves b.ways
+
+-- what is shown of a compiled model: its text, and what was computed from it
+abbrev pub show_text : CompiledParts → List ℕ
+show_text b = printed_model b.model ++ compiled_lines b

@@ -5,10 +5,7 @@ use Rattle.cca_base.specs.declared.cube.Pair.{Pair}
 use Rattle.cca_base.specs.declared.model.Component.{Component}
 use Rattle.cca_base.specs.declared.model.Move.{Move}
 use Rattle.cca_base.specs.Automata.{Automata}
-
--- the name at a place of a list
-abbrev pub name_at : List (List ℕ) → ℕ → List ℕ
-name_at names at = option_map_or (λ name. name) (slice_get names at) []
+pub use Rattle.model_syntax.specs.Printing.{name_at}
 
 -- NAME=MODE
 abbrev pub pair_text : Component → ℕ → List ℕ

@@ -1,8 +1,9 @@
-ghost use Rattle.std.specs.Prelude.{◌≡◌, ◌++◌, ◌∷◌, [], OnOk};
-ghost use Rattle.trace_text.specs.Compiled.{order_line, bound_line, bound_lines, cube_line, move_lines, ways_lines, compiled_lines};
+ghost use Rattle.std.specs.Prelude.{◌≡◌, ◌++◌, ◌∷◌, [], IfOk, OnOk};
+ghost use Rattle.trace_text.specs.Compiled.{order_line, bound_line, bound_lines, cube_line, move_lines, ways_lines, compiled_lines, show_text};
 
 use crate::names::{push_components, push_move, push_number, push_pairs};
 use cca_base::{Compiled, Component, Cube, List, Model, Move};
+use model_syntax::print_model;
 use std::alloc::{AllocError, Global};
 
 fn push_order(out: &mut Vec<u8>, components: &[Component], order: &[u16]) -> Result<(), AllocError>
@@ -98,11 +99,7 @@ fn push_ways(
 }
 
 /// Puts the order, the bounds and the prime implicants of a compiled model behind what was there.
-pub fn push_compiled(
-    alloc: Global,
-    out: &mut Vec<u8>,
-    compiled: &Compiled,
-) -> Result<(), AllocError>
+fn push_compiled(alloc: Global, out: &mut Vec<u8>, compiled: &Compiled) -> Result<(), AllocError>
     ensures { OnOk result (out.new.items ≡ out.old.items ++ compiled_lines compiled.now) }
 {
     let model = compiled.model();
@@ -116,4 +113,16 @@ pub fn push_compiled(
         model.moves().as_slice(),
         compiled.ways().as_slice(),
     )
+}
+
+/// The whole text that is shown of an accepted model: its lines in their one spelling, the order, the bounds, and each
+/// move's prime implicants. The error is want of memory.
+pub fn show_lines(alloc: Global, compiled: &Compiled) -> Result<List<u8>, AllocError>
+    ensures { IfOk result (λ text. text ≡ show_text compiled.now) }
+{
+    let model = print_model(alloc, compiled.model())?;
+    let mut out = Vec::new(alloc);
+    out.extend_from_slice(model.as_slice())?;
+    push_compiled(alloc, &mut out, compiled)?;
+    Ok(List::of(out))
 }

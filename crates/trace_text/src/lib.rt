@@ -7,6 +7,6 @@ mod names;
 mod refusal;
 mod report;
 
-pub use compiled::push_compiled;
+pub use compiled::show_lines;
 pub use refusal::refusal_line;
 pub use report::line_of;
