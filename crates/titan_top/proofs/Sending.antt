@@ -14,11 +14,12 @@ use Rattle.cca_base.specs.declared.events.TickReport.{TickReport}
 use Rattle.cca_base.specs.Automata.{Automata}
 use Rattle.plain_laws.specs.Executive.{Standing, after_event, reports_at, reports_from}
 use Rattle.titan_top.specs.EventLines.{event_line}
-use Rattle.titan_top.specs.Reading.{Reading, bare, with_event, after_event_line, script_lines}
+use Rattle.titan_top.specs.Reading.{Reading, with_event, after_event_line, script_lines}
+use Rattle.titan_top.specs.Verdicts.{bare}
 use Rattle.trace_text.specs.Reports.{report_line, reports_text}
 use Rattle.titan_top.specs.Standing.{acted, line_acted}
 use Rattle.titan_top.specs.Stops.{StopsAs, refusal_code, stop_code}
-use Rattle.titan_top.specs.Text.{Outcome, with_text, ending, printed_from, refusal}
+use Rattle.titan_top.specs.Text.{Outcome, with_text, ending, printed_from, refusal, IsCut}
 use Rattle.titan_top.specs.Wire.{WritesFront, Answers}
 use Rattle.titan_top.proofs.LineLemmas.{ok_is}
 
@@ -87,6 +88,34 @@ pub room_piece : (old now : Option (List ℕ)) (first space : Option ℕ) (text 
 room_piece old now first space text left total h s =
     let e : s.front ++ (text ++ left.text) ≡ total.text = ap (λ (o : Outcome). o.text) s.whole in
     room_for first space (length s.front) (length text) (length total.text) h s.room (omega (arith, length-append s.front (text ++ left.text), length-append text left.text, ap length e))
+
+-- ---- a text that is sent line by line
+
+-- the end of a text, with the status behind it
+abbrev pub rest_of : Status → List ℕ → Outcome
+rest_of t text = record { text = text; status = t }
+
+module _ {old now : Option (List ℕ)} {first space : Option ℕ} {t : Status} {rest : List ℕ} {total : Outcome} (s : IsSending old now first space (rest_of t rest) total) (line after : List ℕ) (parts : line ++ after ≡ rest) where
+  next_piece : IsSending old now first space (with_text line (rest_of t after)) total
+  next_piece = subst (λ (l : List ℕ). IsSending old now first space (rest_of t l) total) (sym parts) s
+
+  pub piece_room : HasRoom first (length total.text) → HasRoom space (length line)
+  piece_room h = room_piece old now first space line (rest_of t after) total h next_piece
+
+  pub piece_done : (new : Option (List ℕ)) (less : Option ℕ) → new ≡ append_known now (take (length line) line) → less ≡ less_space space (length line) → IsSending old new first less (rest_of t after) total
+  piece_done new less e f = sent_piece old now new first space less line (rest_of t after) total next_piece e f
+
+  pub piece_cut : (new : Option (List ℕ)) (k : ℕ) → new ≡ append_known now (take k line) → WritesFront old new total.text
+  piece_cut new k e = sent_part old now new first space line k (rest_of t after) total next_piece e
+
+nothing_more : (t : Status) (now : Option (List ℕ)) → (IsCut t → ⊥) → Answers t now now (rest_of t [])
+nothing_more ReadFault now whole = absurd (whole tt)
+nothing_more WriteFault now whole = absurd (whole tt)
+nothing_more Memory now whole = absurd (whole tt)
+nothing_more Ended now whole = (refl, append_nothing now)
+nothing_more Rejected now whole = (refl, append_nothing now)
+nothing_more Usage now whole = (refl, append_nothing now)
+nothing_more Refused now whole = (refl, append_nothing now)
 
 -- the outcome of the lines of a script that are left
 abbrev pub left_of : Automata → Standing → ℕ → List ℕ → Outcome
@@ -163,6 +192,11 @@ answers_all Ended old now new first space left total s h = whole_all Ended old n
 answers_all Rejected old now new first space left total s h = whole_all Rejected old now new first space left total s h
 answers_all Usage old now new first space left total s h = whole_all Usage old now new first space left total s h
 answers_all Refused old now new first space left total s h = whole_all Refused old now new first space left total s h
+
+-- all lines were sent
+pub all_sent : {old now : Option (List ℕ)} {first space : Option ℕ} {t : Status} {rest : List ℕ} {total : Outcome} → IsSending old now first space (rest_of t rest) total → length rest ≡ 0 → (IsCut t → ⊥) → Answers t old now total
+all_sent {old} {now} {first} {space} {t} {rest} {total} s e whole =
+    answers_all t old now now first space (rest_of t []) total (subst (λ (l : List ℕ). IsSending old now first space (rest_of t l) total) (nil_from_length rest e) s) (nothing_more t now whole)
 
 -- ---- the loop's exits and its next turn, by the loop's own facts
 

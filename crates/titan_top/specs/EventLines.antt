@@ -5,8 +5,8 @@ use Rattle.cca_base.specs.declared.cube.Pair.{Pair}
 use Rattle.cca_base.specs.declared.events.Event.{Event}
 use Rattle.cca_base.specs.declared.events.Event.TheVariants as event
 use Rattle.cca_base.specs.Automata.{Automata}
-use Rattle.titan_top.specs.declared.stops.TheConstants.{MALFORMED, NAME_UNKNOWN, UNSUPPORTED}
-use Rattle.titan_top.specs.Items.{Item, Header, Component, Move, Script, Goal, Tick, Unbuilt, NamedPair, ◌>>=◌}
+use Rattle.titan_top.specs.declared.stops.TheConstants.{NAME_UNKNOWN, UNSUPPORTED}
+use Rattle.titan_top.specs.Items.{Item, Goal, Tick, Unbuilt, NamedPair, ◌>>=◌}
 use Rattle.titan_top.specs.LineForms.{by_line, if_short}
 use Rattle.titan_top.specs.Lookup.{component_number, mode_number}
 
@@ -37,10 +37,6 @@ goal_from (Some pairs) = if no_component_twice pairs then Ok (Some (event.Goal p
 abbrev pub event_item : Automata → Item → Result (Option Event) ℕ
 event_item m (Goal pairs) = goal_from (pairs_of m pairs)
 event_item m Tick = Ok (Some event.Tick)
-event_item m Header = Err MALFORMED
-event_item m (Component name modes start) = Err MALFORMED
-event_item m (Move name source target command guard) = Err MALFORMED
-event_item m Script = Err MALFORMED
 event_item m (Unbuilt first rest) = Err UNSUPPORTED
 
 -- what a line says of a script: an event, or none where it has no tokens; or the code of its refusal

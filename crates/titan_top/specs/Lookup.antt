@@ -2,11 +2,8 @@
 use Rattle.std.specs.Prelude.{ℕ, List, Option, position, slice_get}
 use Rattle.std.specs.Str.{bytes_eq}
 use Rattle.cca_base.specs.Automata.{Automata}
+use Rattle.model_syntax.specs.Lookups.{place_of}
 use Rattle.titan_top.specs.Items.{◌>>=◌}
-
--- the place of a name in a list
-abbrev pub place_of : List (List ℕ) → List ℕ → Option ℕ
-place_of names text = position (λ name. bytes_eq name text) names
 
 -- the component of this name
 abbrev pub component_number : Automata → List ℕ → Option ℕ

@@ -1,8 +1,9 @@
--- What a run prints of the lines of an input.
-use Rattle.std.specs.Prelude.{◌≡◌, ℕ, List}
-use Rattle.titan_top.specs.Reading.{ModelEnd, ReadsModel, nothing_read, run_reading}
-use Rattle.titan_top.specs.Text.{Outcome, printed}
+-- What is printed of the lines of an input.
+use Rattle.std.specs.Prelude.{ℕ, List}
+use Rattle.titan_top.specs.Reading.{ModelEnd, ReadsModel, nothing_read}
+use Rattle.titan_top.specs.Text.{Outcome, IsOutcomeByEnd}
+use Rattle.titan_top.specs.declared.words.Form.{Form}
 
--- what is printed of what the lines say
-abbrev pub IsModelOutcome : List (List ℕ) → Outcome → Type 0
-IsModelOutcome ls o = (end : ModelEnd) × ReadsModel nothing_read 0 ls end × (o ≡ printed (run_reading end))
+-- the outcome for a form of words and lines
+abbrev pub IsModelOutcome : Form → List (List ℕ) → Outcome → Type 0
+IsModelOutcome form ls o = (end : ModelEnd) × ReadsModel nothing_read 0 ls end × IsOutcomeByEnd form end o

@@ -1,18 +1,17 @@
 -- What the bytes of an input say: a model, the events of a script, and how the input ends.
-use Rattle.std.specs.Prelude.{◌≡◌, ◌<◌, ◌≤◌, ◌⊎◌, ℕ, ◌+◌, false, List, [], ◌∷◌, length, Option, Some, None, Result, Ok, Err}
-use Rattle.cca_base.specs.declared.events.Detail.TheVariants.{Nothing}
+use Rattle.std.specs.Prelude.{◌≡◌, ◌<◌, ◌≤◌, ◌⊎◌, ℕ, ◌+◌, false, List, [], ◌∷◌, length, Option, Some, None, Result, Ok, Err, nat_le, Bool, if◌then◌else◌}
 use Rattle.cca_base.specs.declared.events.Event.{Event}
 use Rattle.cca_base.specs.declared.events.Refusal.{Refusal}
 use Rattle.cca_base.specs.Automata.{Automata}
 use Rattle.cca_base.specs.Model.{empty_model}
+use Rattle.model_syntax.specs.Lines.{Reading as ModelRead, Outcome, Reads, Refuses, Finishes, Leads}
+use Rattle.plain_laws.specs.Plain.{IsPlain}
 use Rattle.titan_top.specs.declared.input.TheConstants.{MAX_INPUT}
-use Rattle.titan_top.specs.declared.reader.LineEnd.{LineEnd}
-use Rattle.titan_top.specs.declared.reader.LineEnd.TheVariants as line
-use Rattle.titan_top.specs.declared.reader.ModelReader.{ModelReader}
+use Rattle.titan_top.specs.declared.line.TheConstants.{MAX_LINE}
 use Rattle.titan_top.specs.declared.stops.TheConstants.{ENDS_EARLY, UNSUPPORTED}
 use Rattle.titan_top.specs.EventLines.{event_line}
 use Rattle.titan_top.specs.Lines.{lines_of}
-use Rattle.titan_top.specs.ModelLines.{model_line}
+use Rattle.titan_top.specs.Verdicts.{bare, Verdict, Compiles, Denies, IsVerdictOn}
 
 -- how an input ends: at its end, or at the first line that is refused
 pub data Ending : Type 0 where
@@ -24,10 +23,6 @@ pub record Reading : Type 0 where
   pub model : Automata
   pub events : List Event
   pub ending : Ending
-
--- a refusal with a code alone
-abbrev pub bare : ℕ → Refusal
-bare code = record { code = code; detail = Nothing }
 
 -- a line is refused
 abbrev pub refused_at : Automata → ℕ → Refusal → Reading
@@ -52,25 +47,43 @@ script_lines m n (l ∷ ls) = after_event_line (event_line m l) m (n + 1) (scrip
 
 -- ---- the model
 
--- how the lines of a model end: with the line of the script, with so many lines before the rest, or at a line that is refused
+-- how the lines of a model end: with the line of the script, which may be too long, with so many lines before the rest; or at a line that is refused
 pub data ModelEnd : Type 0 where
-  Scripted : (model : Automata) → (lines : ℕ) → (rest : List (List ℕ)) → ModelEnd
+  Scripted : (model : Automata) → (lines : ℕ) → (short : Bool) → (rest : List (List ℕ)) → ModelEnd
   Stopped : (model : Automata) → (line : ℕ) → (refusal : Refusal) → ModelEnd
 
--- what a line of the model leads to: more lines of the model, its script, or a refusal
-abbrev pub After : Result (ModelReader × LineEnd) ℕ → (ModelReader → Type 0) → (Automata → Type 0) → (ℕ → Type 0) → Type 0
-After (Err code) goes_on script refused = refused code
-After (Ok (r, line.Going)) goes_on script refused = goes_on r
-After (Ok (r, line.Script)) goes_on script refused = script r.model
+-- the line is not too long
+abbrev pub is_short : List ℕ → Bool
+is_short line = nat_le (length line) MAX_LINE
+
+-- what a line would make of the model is refused; that of the script waits until the model was looked at
+abbrev pub not_led : Outcome → Outcome
+not_led (Reads read) = Refuses UNSUPPORTED
+not_led (Refuses code) = Refuses code
+not_led Finishes = Finishes
+
+-- a line that is too long is refused, unless it is refused for another reason
+abbrev pub led_if_short : List ℕ → Outcome → Outcome
+led_if_short line led = if is_short line then led else not_led led
+
+-- what a line of the model leads to
+abbrev pub LineLeads : ModelRead → List ℕ → Outcome → Type 0
+LineLeads s line o = (led : Outcome) × Leads s line led × (o ≡ led_if_short line led)
+
+-- what follows a line of the model: more lines of it, its script, or a refusal
+abbrev pub After : Outcome → (ModelRead → Type 0) → Type 0 → (ℕ → Type 0) → Type 0
+After (Reads read) goes_on script refused = goes_on read
+After (Refuses code) goes_on script refused = refused code
+After Finishes goes_on script refused = script
 
 -- the lines that stand behind n lines of a model end so; the model has to end before the input does
-abbrev pub ReadsModel : ModelReader → ℕ → List (List ℕ) → ModelEnd → Type 0
-ReadsModel r n [] end = end ≡ Stopped r.model n (bare ENDS_EARLY)
-ReadsModel r n (l ∷ ls) end = (said : Result (ModelReader × LineEnd) ℕ) × (said ≡ model_line r l)
-    × After said (λ q. ReadsModel q (n + 1) ls end) (λ m. end ≡ Scripted m (n + 1) ls) (λ code. end ≡ Stopped r.model (n + 1) (bare code))
+abbrev pub ReadsModel : ModelRead → ℕ → List (List ℕ) → ModelEnd → Type 0
+ReadsModel s n [] end = end ≡ Stopped s.model n (bare ENDS_EARLY)
+ReadsModel s n (l ∷ ls) end = (o : Outcome) × LineLeads s l o
+    × After o (λ t. ReadsModel t (n + 1) ls end) (end ≡ Scripted s.model (n + 1) (is_short l) ls) (λ code. end ≡ Stopped s.model (n + 1) (bare code))
 
--- the reader of a model before the first line
-abbrev pub nothing_read : ModelReader
+-- what is read of a model before its first line
+abbrev pub nothing_read : ModelRead
 nothing_read = record { model = empty_model; begun = false }
 
 -- the model of an input ends so; an input past the limit is refused before its first line
@@ -79,11 +92,16 @@ EndsModel input end =
     ((MAX_INPUT < length input) × (end ≡ Stopped empty_model 0 (bare UNSUPPORTED)))
     ⊎ ((length input ≤ MAX_INPUT) × ReadsModel nothing_read 0 (lines_of input) end)
 
+-- what the script behind n lines says; that of a model which is not plain is not made yet
+abbrev pub SaysByVerdict : Verdict → Automata → ℕ → List (List ℕ) → Reading → Type 0
+SaysByVerdict (Compiles b) m n ls r = (IsPlain m × (r ≡ script_lines m n ls)) ⊎ ((IsPlain m → ⊥) × (r ≡ refused_at m n (bare UNSUPPORTED)))
+SaysByVerdict (Denies refusal) m n ls r = r ≡ refused_at m n refusal
+
 -- what a whole input says, by how its model ends
-abbrev pub run_reading : ModelEnd → Reading
-run_reading (Scripted m n ls) = script_lines m n ls
-run_reading (Stopped m line refusal) = refused_at m line refusal
+abbrev pub SaysByEnd : ModelEnd → Reading → Type 0
+SaysByEnd (Scripted m n short ls) r = (v : Verdict) × IsVerdictOn m short v × SaysByVerdict v m n ls r
+SaysByEnd (Stopped m line refusal) r = r ≡ refused_at m line refusal
 
 -- the input says this
 abbrev pub IsReading : List ℕ → Reading → Type 0
-IsReading input r = (end : ModelEnd) × EndsModel input end × (r ≡ run_reading end)
+IsReading input r = (end : ModelEnd) × EndsModel input end × SaysByEnd end r

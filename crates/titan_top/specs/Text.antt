@@ -6,12 +6,15 @@ use Rattle.cca_base.specs.Automata.{Automata}
 use Rattle.trace_text.specs.Refusals.{refusal_line}
 use Rattle.trace_text.specs.Reports.{reports_text}
 use Rattle.plain_laws.specs.Executive.{Standing, begin, reports_from}
-use Rattle.titan_top.specs.Reading.{Reading, Ending, AllTaken, RefusedAt, IsReading}
+use Rattle.cca_base.specs.Accepted.{CompiledParts}
+use Rattle.trace_text.specs.Compiled.{show_text}
+use Rattle.titan_top.specs.Verdicts.{Verdict, Compiles, Denies, IsVerdictOn}
+use Rattle.titan_top.specs.Reading.{Reading, Ending, AllTaken, RefusedAt, ModelEnd, Scripted, Stopped, EndsModel, SaysByEnd, IsReading}
 use Rattle.titan_top.specs.Words.{form_of, texts}
 use Rattle.titan_top.specs.declared.status.Status.{Status}
 use Rattle.titan_top.specs.declared.status.Status.TheVariants.{Ended, Rejected, Usage, Refused, ReadFault, WriteFault, Memory}
 use Rattle.titan_top.specs.declared.words.Form.{Form}
-use Rattle.titan_top.specs.declared.words.Form.TheVariants.{Run}
+use Rattle.titan_top.specs.declared.words.Form.TheVariants.{Run, Show}
 
 -- what is printed and the status that it ends with, where no fault comes
 pub record Outcome : Type 0 where
@@ -51,18 +54,59 @@ usage = record { text = usage_text; status = Usage }
 abbrev pub AreNoForm : List (String Global) → Type 0
 AreNoForm words = form_of (texts words) ≡ None
 
--- what a run prints of an input
-abbrev pub IsRunOutcome : List ℕ → Outcome → Type 0
-IsRunOutcome input o = (r : Reading) × IsReading input r × (o ≡ printed r)
+-- what is shown of a model that is accepted
+abbrev pub shown_model : CompiledParts → Outcome
+shown_model b = record { text = show_text b; status = Ended }
 
--- the outcome for a form of words
+-- what is shown of a model whose script stands behind n lines
+abbrev pub shown : Automata → ℕ → Verdict → Outcome
+shown m n (Compiles b) = shown_model b
+shown m n (Denies r) = refusal m n r
+
+-- what is shown, by how the model ends
+abbrev pub IsShown : ModelEnd → Outcome → Type 0
+IsShown (Scripted m n short ls) o = (v : Verdict) × IsVerdictOn m short v × (o ≡ shown m n v)
+IsShown (Stopped m line r) o = o ≡ refusal m line r
+
+-- the outcome for a form of words, by how the model ends
+abbrev pub IsOutcomeByEnd : Form → ModelEnd → Outcome → Type 0
+IsOutcomeByEnd Run end o = (r : Reading) × SaysByEnd end r × (o ≡ printed r)
+IsOutcomeByEnd Show end o = IsShown end o
+
+-- the outcome for a form of words and an input
+abbrev pub IsOutcomeFor : Form → List ℕ → Outcome → Type 0
+IsOutcomeFor form input o = (end : ModelEnd) × EndsModel input end × IsOutcomeByEnd form end o
+
+-- the outcome for words of a form, or of none
 abbrev pub IsOutcomeOf : Option Form → List ℕ → Outcome → Type 0
 IsOutcomeOf None input o = o ≡ usage
-IsOutcomeOf (Some Run) input o = IsRunOutcome input o
+IsOutcomeOf (Some form) input o = IsOutcomeFor form input o
 
 -- the outcome for words and an input
 unfoldable pub IsOutcome : List (String Global) → List ℕ → Outcome → Type 0
 IsOutcome words input o = IsOutcomeOf (form_of (texts words)) input o
+
+-- the model came to its script, and is accepted
+abbrev pub IsAcceptedEnd : ModelEnd → Type 0
+IsAcceptedEnd (Scripted m n short ls) = (b : CompiledParts) × IsVerdictOn m short (Compiles b)
+IsAcceptedEnd (Stopped m line r) = ⊥
+
+-- a line of the model is refused, or the model itself at its script
+abbrev pub IsRefusedEnd : ModelEnd → ℕ → Refusal → Type 0
+IsRefusedEnd (Scripted m n short ls) line r = (line ≡ n) × IsVerdictOn m short (Denies r)
+IsRefusedEnd (Stopped m n s) line r = (line ≡ n) × (r ≡ s)
+
+-- nothing that the form reads is refused: `run` reads the whole input, and `show` its model
+abbrev pub NothingRefused : Option Form → List ℕ → Type 0
+NothingRefused None input = ⊥
+NothingRefused (Some Run) input = (r : Reading) × IsReading input r × (r.ending ≡ AllTaken)
+NothingRefused (Some Show) input = (end : ModelEnd) × EndsModel input end × IsAcceptedEnd end
+
+-- the first line that is refused, and why
+abbrev pub SomeRefused : Option Form → List ℕ → Type 0
+SomeRefused None input = ⊥
+SomeRefused (Some Run) input = (r : Reading) × IsReading input r × ((line : ℕ) × (refusal : Refusal) × (r.ending ≡ RefusedAt line refusal))
+SomeRefused (Some Show) input = (end : ModelEnd) × EndsModel input end × ((line : ℕ) × (refusal : Refusal) × IsRefusedEnd end line refusal)
 
 -- a status that comes from a fault or from want of memory
 abbrev pub IsCut : Status → Type 0

@@ -3,12 +3,12 @@ use Rattle.std.specs.Prelude.{ℕ, List, [], ◌∷◌, Option, Some, None, code
 use Rattle.std.specs.Global.{Global}
 use Rattle.std.specs.Str.{bytes_eq}
 use Rattle.titan_top.specs.declared.words.Form.{Form}
-use Rattle.titan_top.specs.declared.words.Form.TheVariants.{Run}
+use Rattle.titan_top.specs.declared.words.Form.TheVariants.{Run, Show}
 
 -- the form of the words, if they have one
 abbrev pub form_of : List (List ℕ) → Option Form
 form_of [] = None
-form_of (a ∷ []) = if bytes_eq a (codes "run") then Some Run else None
+form_of (a ∷ []) = if bytes_eq a (codes "run") then Some Run else (if bytes_eq a (codes "show") then Some Show else None)
 form_of (a ∷ b ∷ cs) = None
 
 -- the bytes of the words

@@ -80,9 +80,6 @@ fn event_item(alloc: Global, model: &Model, item: &Item) -> Result<Option<Event>
     match item {
         Item::Goal(pairs) => goal_item(alloc, model, pairs),
         Item::Tick => Ok(Some(Event::Tick)),
-        Item::Header | Item::Component { .. } | Item::Move { .. } | Item::Script => {
-            Err(refused(MALFORMED))
-        }
         Item::Unbuilt { .. } => Err(refused(UNSUPPORTED)),
     }
 }

@@ -16,7 +16,7 @@ pub enum ReadStop {
 }
 
 /// Reads to the end, or past the limit.
-#[tactic(auto, using(crate::proofs::TopLemmas::read_more))]
+#[tactic(auto, using(crate::proofs::Inputs::read_more))]
 pub fn read_whole<S: Source>(alloc: Global, source: &mut S) -> Result<Vec<u8>, ReadStop>
     ensures bytes { IfOk result (λ v. S.left source.old ≡ prepend_known v.items (S.left source.new)) }
     ensures end { IfOk result (λ v. length v.items ≤ MAX_INPUT → IsAtEnd (S.left source.new)) }

@@ -1,13 +1,13 @@
-ghost use Rattle.std.specs.Prelude.{◌≡◌, ◌∷◌, List, Some, None, codes, map, IfOk, take, drop};
+ghost use Rattle.std.specs.Prelude.{◌≡◌, ◌∷◌, List, Some, None, codes, map, IfOk};
 ghost use Rattle.std.specs.Option.{option_map};
 ghost use Rattle.text_base.specs.Lexemes.{lexeme_of};
 ghost use Rattle.std.specs.List.{list_any};
 ghost use Rattle.std.specs.Str.{bytes_eq};
 ghost use Rattle.text_base.specs.Lexemes.{Lexeme};
-ghost use Rattle.titan_top.specs.Items.{Item as SpelledItem, IsSpelled, spelling, unbuilt_words, is_unbuilt, pair_at, pairs_at, ended, followed, header_at, component_at, move_at, goal_at, item_of, shown_pair, shown_item};
+ghost use Rattle.titan_top.specs.Items.{Item as SpelledItem, IsSpelled, spelling, unbuilt_words, is_unbuilt, pair_at, pairs_at, ended, goal_at, item_of, shown_pair, shown_item};
 
 use std::alloc::{AllocError, Global};
-use text_base::{Kind, Token, is_lexeme, name_word_at, names_at, next_is};
+use text_base::{Kind, Token, is_lexeme, name_word_at, next_is};
 
 /// A name and one of its modes, by their words.
 #[derive(Clone, Copy, Debug)]
@@ -16,24 +16,9 @@ pub struct NamedPair<'a> {
     pub value: &'a [u8],
 }
 
-/// What a line says, by words in place of names.
+/// What a line of a script says, by words in place of names.
 #[derive(Debug, Drop)]
 pub enum Item<'a, 'b> {
-    Header,
-    Component {
-        name: &'a [u8],
-        modes: Vec<&'a [u8]>,
-        start: &'a [u8],
-    },
-    Move {
-        name: &'a [u8],
-        source: &'a [u8],
-        target: &'a [u8],
-        command: &'a [u8],
-        /// All that stands behind `when`.
-        guard: &'b [Token<'a>],
-    },
-    Script,
     Goal(Vec<NamedPair<'a>>),
     Tick,
     /// A line whose form is not built yet.
@@ -48,13 +33,6 @@ fn ended<'a, 'b>(item: Item<'a, 'b>, tokens: &[Token]) -> Option<Item<'a, 'b>>
     ensures { option_map shown_item result ≡ ended (shown_item item.entry) (map lexeme_of tokens.now) }
 {
     if tokens.is_empty() { Some(item) } else { None }
-}
-
-/// The item, where something follows.
-fn followed<'a, 'b>(item: Item<'a, 'b>, tokens: &[Token]) -> Option<Item<'a, 'b>>
-    ensures { option_map shown_item result ≡ followed (shown_item item.entry) (map lexeme_of tokens.now) }
-{
-    if tokens.is_empty() { None } else { Some(item) }
 }
 
 /// The pair at the front of the tokens, and what stands behind it.
@@ -87,60 +65,6 @@ fn pairs_at<'a, 'b>(
     Ok(None)
 }
 
-#[tactic(auto, unfolding(crate::specs::Items::header_at))]
-fn header_at<'a, 'b>(tokens: &'b [Token<'a>]) -> Option<Item<'a, 'b>>
-    ensures { option_map shown_item result ≡ header_at (map lexeme_of tokens.now) }
-{
-    let rest = next_is(Kind::Number, b"1", tokens)?;
-    ended(Item::Header, rest)
-}
-
-#[tactic(auto, unfolding(crate::specs::Items::component_at))]
-fn component_at<'a, 'b>(
-    alloc: Global,
-    tokens: &'b [Token<'a>],
-) -> Result<Option<Item<'a, 'b>>, AllocError>
-    ensures { IfOk result (λ read. option_map shown_item read ≡ component_at (map lexeme_of tokens.now)) }
-{
-    let Some((name, rest)) = name_word_at(tokens) else {
-        return Ok(None);
-    };
-    let Some(rest) = next_is(Kind::Symbol, b"=", rest) else {
-        return Ok(None);
-    };
-    let Some((modes, rest)) = names_at(alloc, rest)? else {
-        return Ok(None);
-    };
-    let Some(rest) = next_is(Kind::Word, b"start", rest) else {
-        return Ok(None);
-    };
-    let Some((start, rest)) = name_word_at(rest) else {
-        return Ok(None);
-    };
-    Ok(ended(Item::Component { name, modes, start }, rest))
-}
-
-#[tactic(auto, unfolding(crate::specs::Items::move_at))]
-fn move_at<'a, 'b>(tokens: &'b [Token<'a>]) -> Option<Item<'a, 'b>>
-    ensures { option_map shown_item result ≡ move_at (map lexeme_of tokens.now) }
-{
-    let (name, rest) = name_word_at(tokens)?;
-    let (source, rest) = name_word_at(rest)?;
-    let rest = next_is(Kind::Symbol, b"->", rest)?;
-    let (target, rest) = name_word_at(rest)?;
-    let rest = next_is(Kind::Word, b"by", rest)?;
-    let (command, rest) = name_word_at(rest)?;
-    let guard = next_is(Kind::Word, b"when", rest)?;
-    let item = Item::Move {
-        name,
-        source,
-        target,
-        command,
-        guard,
-    };
-    followed(item, guard)
-}
-
 #[tactic(auto, unfolding(crate::specs::Items::goal_at))]
 fn goal_at<'a, 'b>(
     alloc: Global,
@@ -154,19 +78,9 @@ fn goal_at<'a, 'b>(
     Ok(ended(Item::Goal(pairs), rest))
 }
 
-/// Whether the text is the first word of a model line that is not built yet.
-fn is_unbuilt_model_word(text: &[u8]) -> bool
-    ensures { result ≡ list_any (bytes_eq text.now) (take 4 unbuilt_words) }
-{
-    text == b"var".as_slice()
-        || text == b"rule".as_slice()
-        || text == b"repair".as_slice()
-        || text == b"fail".as_slice()
-}
-
-/// Whether the text is the first word of an event line that is not built yet.
-fn is_unbuilt_event_word(text: &[u8]) -> bool
-    ensures { result ≡ list_any (bytes_eq text.now) (drop 4 unbuilt_words) }
+/// Whether the text is the first word of a line that is not built yet.
+fn is_unbuilt_word(text: &[u8]) -> bool
+    ensures { result ≡ list_any (bytes_eq text.now) unbuilt_words }
 {
     text == b"clear".as_slice()
         || text == b"observe".as_slice()
@@ -179,8 +93,7 @@ fn is_unbuilt_event_word(text: &[u8]) -> bool
 fn is_unbuilt(first: &Token) -> bool
     ensures { result ≡ is_unbuilt (lexeme_of first.now) }
 {
-    first.kind == Kind::Word
-        && (is_unbuilt_model_word(first.text) || is_unbuilt_event_word(first.text))
+    first.kind == Kind::Word && is_unbuilt_word(first.text)
 }
 
 /// What a line with these tokens says, if it has a form.
@@ -193,15 +106,7 @@ pub fn item_of<'a, 'b>(
     match tokens {
         [] => Ok(None),
         [first, rest @ ..] => {
-            if is_lexeme(first, Kind::Word, b"titan") {
-                Ok(header_at(rest))
-            } else if is_lexeme(first, Kind::Word, b"component") {
-                component_at(alloc, rest)
-            } else if is_lexeme(first, Kind::Word, b"move") {
-                Ok(move_at(rest))
-            } else if is_lexeme(first, Kind::Word, b"script") {
-                Ok(ended(Item::Script, rest))
-            } else if is_lexeme(first, Kind::Word, b"goal") {
+            if is_lexeme(first, Kind::Word, b"goal") {
                 goal_at(alloc, rest)
             } else if is_lexeme(first, Kind::Word, b"tick") {
                 Ok(ended(Item::Tick, rest))

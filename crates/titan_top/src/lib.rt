@@ -2,23 +2,26 @@
 //! input lead to, or after a fault or want of memory a front of that text.
 #![tactic(auto)]
 
-mod component;
+mod document;
 mod events;
 mod executive;
 mod input;
 mod item;
+mod laws;
 mod line;
 mod lines;
-mod moves;
+mod model;
 mod names;
 mod output;
+mod plain;
 mod planner;
-mod reader;
+mod script;
 mod status;
 mod stops;
 mod top;
 mod words;
 
 pub use item::lines_are_spelled;
+pub use laws::{outcomes_are_one, printed_texts_read_back};
 pub use status::Status;
 pub use top::titan;

@@ -1,6 +1,7 @@
 ghost use Rattle.std.specs.Prelude.{◌≡◌, ◌<◌, ◌≤◌, length, IfSome};
 ghost use Rattle.cca_base.specs.Model.{HasMode};
-ghost use Rattle.titan_top.specs.Lookup.{place_of, component_number, mode_number};
+ghost use Rattle.model_syntax.specs.Lookups.{place_of};
+ghost use Rattle.titan_top.specs.Lookup.{component_number, mode_number};
 
 use cca_base::{MAX_COMPONENTS, Model, Name};
 
@@ -32,7 +33,7 @@ pub fn component_number(model: &Model, name: &[u8]) -> Option<u16>
 }
 
 /// The number of the mode of this name.
-#[tactic(auto, using(crate::proofs::DraftLemmas::mode_found, crate::proofs::DraftLemmas::mode_small))]
+#[tactic(auto, using(crate::proofs::NameLemmas::mode_found, crate::proofs::NameLemmas::mode_small))]
 pub fn mode_number(model: &Model, c: u16, text: &[u8]) -> Option<u8>
     requires { c < length model.now.components }
     ensures number { result ≡ mode_number model.now c text.now }

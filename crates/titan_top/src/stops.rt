@@ -1,5 +1,5 @@
 ghost use Rattle.std.specs.Prelude.{◌≡◌, Some};
-ghost use Rattle.titan_top.specs.Reading.{bare};
+ghost use Rattle.titan_top.specs.Verdicts.{bare};
 ghost use Rattle.titan_top.specs.Stops.{StopsAs, stop_code};
 
 use cca_base::{Detail, Refusal, Stop};

@@ -4,14 +4,14 @@ ghost use Rattle.titan_top.specs.declared.stops.TheConstants.{UNSUPPORTED};
 ghost use Rattle.std.specs.Io.KnownBytes.{IsAtEnd};
 ghost use Rattle.titan_wire.specs.Wire.{Rose, HasRoom};
 ghost use Rattle.titan_top.specs.Answered.{IsTraceOf};
-ghost use Rattle.titan_top.specs.Reading.{Reading, IsReading, AllTaken, RefusedAt, bare};
-ghost use Rattle.cca_base.specs.declared.events.Refusal.{Refusal};
-ghost use Rattle.titan_top.specs.Text.{Outcome, refusal, IsRunOutcome, IsOutcome, usage, AreNoForm};
-ghost use Rattle.titan_top.specs.Wire.{HasRoomFor, Answers, AnswersAs};
+ghost use Rattle.titan_top.specs.Verdicts.{bare};
+ghost use Rattle.titan_top.specs.Text.{Outcome, refusal, IsOutcomeFor, IsOutcome, NothingRefused, SomeRefused, usage, AreNoForm};
+ghost use Rattle.titan_top.specs.Wire.{HasRoomFor, Answers, AnswersAs, SentOrKnown};
 ghost use Rattle.titan_top.specs.Words.{form_of, texts};
 
+use crate::document::print_all;
 use crate::input::{MAX_INPUT, ReadStop, read_whole};
-use crate::output::{print_all, refuse, send};
+use crate::output::{refuse_code, send};
 use crate::status::Status;
 use crate::stops::UNSUPPORTED;
 use crate::words::{Form, form_of};
@@ -31,21 +31,22 @@ fn refuse_long<K: Sink>(alloc: Global, sink: &mut K) -> Status
     ensures not_ended { result ≢ Status.Ended }
 {
     let model = Model::empty(alloc);
-    refuse(alloc, sink, &model, 0, UNSUPPORTED)
+    refuse_code(alloc, sink, &model, 0, UNSUPPORTED)
 }
 
-/// Reads an input, and prints all that it leads to.
-fn run<S: Source, K: Sink>(alloc: Global, source: &mut S, sink: &mut K) -> Status
-    requires { HasRoomFor (K.space sink.old) (S.left source.old) IsRunOutcome }
-    ensures text { IfSome (S.left source.old) (λ input. AnswersAs result (K.written sink.old) (K.written sink.new) (IsRunOutcome input)) }
+/// Reads an input, and prints all that it leads to for a form of words.
+fn document<S: Source, K: Sink>(alloc: Global, form: Form, source: &mut S, sink: &mut K) -> Status
+    requires { HasRoomFor (K.space sink.old) (S.left source.old) (IsOutcomeFor form) }
+    ensures text { IfSome (S.left source.old) (λ input. AnswersAs result (K.written sink.old) (K.written sink.new) (IsOutcomeFor form input)) }
+    ensures known { IfSome (S.left source.old) (λ input. SentOrKnown result (K.written sink.old) (K.written sink.new) (IsOutcomeFor form input)) }
     ensures read { result ≡ Status.ReadFault → Rose (S.faults source.old) (S.faults source.new) }
     ensures write { result ≡ Status.WriteFault → Rose (K.faults sink.old) (K.faults sink.new) }
-    ensures some_input { (input : List ℕ) × (o : Outcome) × IsRunOutcome input o × Answers result (K.written sink.old) (K.written sink.new) o }
+    ensures some_input { (input : List ℕ) × (o : Outcome) × IsOutcomeFor form input o × Answers result (K.written sink.old) (K.written sink.new) o }
     ensures usage { result ≢ Status.Usage }
     ensures not_rejected { result ≢ Status.Rejected }
     ensures whole { result ≡ Status.Ended → IsAtEnd (S.left source.new) }
-    ensures ended { result ≡ Status.Ended → IfSome (S.left source.old) (λ input. (r : Reading) × IsReading input r × (r.ending ≡ AllTaken)) }
-    ensures refused { result ≡ Status.Refused → IfSome (S.left source.old) (λ input. (r : Reading) × IsReading input r × ((line : ℕ) × (refusal : Refusal) × (r.ending ≡ RefusedAt line refusal))) }
+    ensures ended { result ≡ Status.Ended → IfSome (S.left source.old) (NothingRefused (Some form)) }
+    ensures refused { result ≡ Status.Refused → IfSome (S.left source.old) (SomeRefused (Some form)) }
 {
     let input = match read_whole(alloc, source) {
         Ok(input) => input,
@@ -55,7 +56,7 @@ fn run<S: Source, K: Sink>(alloc: Global, source: &mut S, sink: &mut K) -> Statu
     if input.len() > MAX_INPUT {
         return refuse_long(alloc, sink);
     }
-    print_all(alloc, sink, &input)
+    print_all(alloc, sink, form, &input)
 }
 
 /// Does all that the program does: `words` are those of the command line after the program's own name.
@@ -71,18 +72,22 @@ pub fn titan<S: Source, K: Sink>(
     ensures text { IfSome (S.left source.old) (λ input.
         AnswersAs result (K.written sink.old) (K.written sink.new) (IsOutcome words.now.items input)) }
 
+    // There is such a text, unless a fault or want of memory came before anything was written.
+    ensures known { IfSome (S.left source.old) (λ input.
+        SentOrKnown result (K.written sink.old) (K.written sink.new) (IsOutcome words.now.items input)) }
+
     // Also over a source that tells no bytes, these are the text and the status of some input.
     ensures some_input { (input : List ℕ) × (o : Outcome) × IsOutcome words.now.items input o
         × Answers result (K.written sink.old) (K.written sink.new) o }
 
-    // What is printed of a run: the reports are the trace of what was read, each reply is good, and then comes the ending.
+    // What is printed of a run: the reports are the trace of what was read, each reply is good, and then comes the ending; or
+    // the model is refused.
     ensures trace { form_of (texts words.now.items) ≡ Some Form.Run → IfSome (S.left source.old) (λ input.
         (o : Outcome) → IsOutcome words.now.items input o → IsTraceOf input o) }
 
     // The input has no line that is refused, or its first one is named.
-    ensures ended { result ≡ Status.Ended → IfSome (S.left source.old) (λ input. (r : Reading) × IsReading input r × (r.ending ≡ AllTaken)) }
-    ensures refused { result ≡ Status.Refused → IfSome (S.left source.old) (λ input.
-        (r : Reading) × IsReading input r × ((line : ℕ) × (refusal : Refusal) × (r.ending ≡ RefusedAt line refusal))) }
+    ensures ended { result ≡ Status.Ended → IfSome (S.left source.old) (NothingRefused (form_of (texts words.now.items))) }
+    ensures refused { result ≡ Status.Refused → IfSome (S.left source.old) (SomeRefused (form_of (texts words.now.items))) }
 
     // Each fault has its cause.
     ensures read { result ≡ Status.ReadFault → Rose (S.faults source.old) (S.faults source.new) }
@@ -105,7 +110,7 @@ pub fn titan<S: Source, K: Sink>(
     ensures whole { result ≡ Status.Ended → IsAtEnd (S.left source.new) }
 {
     match form_of(words) {
-        Some(Form::Run) => run(alloc, source, sink),
+        Some(form) => document(alloc, form, source, sink),
         None => send(sink, b"usage: see the forms of titan\n", Status::Usage),
     }
 }

@@ -6,6 +6,8 @@ ghost use Rattle.titan_top.specs.Words.{form_of, texts};
 pub enum Form {
     /// Reads a document and prints its trace.
     Run,
+    /// Reads a model and prints it, with what is compiled from it.
+    Show,
 }
 
 /// The form of the words, if they have one.
@@ -16,6 +18,8 @@ pub fn form_of(words: &[String]) -> Option<Form>
         [a] => {
             if a.as_str() == "run" {
                 Some(Form::Run)
+            } else if a.as_str() == "show" {
+                Some(Form::Show)
             } else {
                 None
             }

@@ -1,0 +1,39 @@
+-- The lines of a model's printed text.
+use Rattle.std.proofs.Common.{◌≡◌, ◌≢◌, ℕ, inl, inr, Bool, true, false, cond, List, [], ◌∷◌, ◌++◌, map, All, refl, sym, ap, subst, ◌∙◌, eqb}
+use Rattle.std.proofs.lemmas.Bool.{cases_Bool, eqb-true}
+use Rattle.std.proofs.lemmas.List.Elements.{All-head, All-tail}
+use Rattle.cca_base.specs.Automata.{Automata}
+use Rattle.cca_base.specs.Model.{WellFormed}
+use Rattle.text_base.specs.Lexemes.{Lexeme}
+use Rattle.model_syntax.specs.Printing.{joined, lines_said, printed_lines, printed_model}
+use Rattle.model_syntax.specs.RoundTrip.{ReadsTo}
+use Rattle.model_syntax.proofs.PrintedModel.{model_read, lines_whole}
+use Rattle.titan_top.specs.Laws.{PrintedTextsReadBack}
+use Rattle.titan_top.specs.Lines.{lines_of, onto_first}
+use Rattle.titan_top.specs.Reading.{nothing_read}
+
+-- no line's end is in the line
+abbrev IsWhole : List ℕ → Type 0
+IsWhole line = All (λ b. b ≢ 10) line
+
+not_end : (b : ℕ) → b ≢ 10 → eqb b 10 ≡ false
+not_end b h = elim (cases_Bool (eqb b 10)) [ inl e ↦ absurd (h (eqb-true b 10 e)) | inr e ↦ e ]
+
+first_line : (line rest : List ℕ) → IsWhole line → lines_of (line ++ 10 ∷ rest) ≡ line ∷ lines_of rest
+first_line [] rest h = refl
+first_line (b ∷ line) rest h =
+    ap (λ (t : Bool). cond t ([] ∷ lines_of (line ++ 10 ∷ rest)) (onto_first b (lines_of (line ++ 10 ∷ rest)))) (not_end b (All-head (λ (x : ℕ). x ≢ 10) b line h))
+    ∙ ap (onto_first b) (first_line line rest (All-tail (λ (x : ℕ). x ≢ 10) b line h))
+
+lines_again : (lines : List (List Lexeme)) → All IsWhole (map joined lines) → lines_of (printed_lines lines) ≡ map joined lines
+lines_again [] h = refl
+lines_again (l ∷ lines) h =
+    first_line (joined l) (printed_lines lines) (All-head IsWhole (joined l) (map joined lines) h)
+    ∙ ap (λ (ls : List (List ℕ)). joined l ∷ ls) (lines_again lines (All-tail IsWhole (joined l) (map joined lines) h))
+
+printed_again : (m : Automata) → WellFormed m → lines_of (printed_model m) ≡ map joined (lines_said m)
+unfolding printed_model
+printed_again m w = lines_again (lines_said m) (lines_whole m w)
+
+pub printed_texts_read_back : PrintedTextsReadBack
+printed_texts_read_back m w complete = subst (λ (ls : List (List ℕ)). ReadsTo nothing_read ls (record { model = m; begun = true })) (sym (printed_again m w)) (model_read m w complete)
