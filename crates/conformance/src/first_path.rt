@@ -23,7 +23,8 @@ fn a_tick_without_a_goal_is_idle(rt: HostRuntime) -> Result<(), Fail> {
 #[test]
 fn other_words_are_usage(rt: HostRuntime) -> Result<(), Fail> {
     let alloc = rt.alloc();
-    assert_row(&rt, alloc, &["show"], LAMP, Status::Usage, USAGE)?;
+    assert_row(&rt, alloc, &["shown"], LAMP, Status::Usage, USAGE)?;
+    assert_row(&rt, alloc, &["show", "run"], LAMP, Status::Usage, USAGE)?;
     assert_row(&rt, alloc, &["run", "--fast"], LAMP, Status::Usage, USAGE)?;
     assert_row(&rt, alloc, &[], LAMP, Status::Usage, USAGE)
 }
@@ -66,15 +67,9 @@ fn a_ring_is_walked_one_way(rt: HostRuntime) -> Result<(), Fail> {
 #[test]
 fn a_refused_line_ends_the_trace(rt: HostRuntime) -> Result<(), Fail> {
     let alloc = rt.alloc();
-    let refused = "refused 2 20 unsupported\n";
-    assert_row(
-        &rt,
-        alloc,
-        &["run"],
-        "titan 1\nvar x = a\n",
-        Status::Refused,
-        refused,
-    )?;
+    let input = "titan 1\nvar x = a\nscript\ntick\n";
+    let text = "refused 3 20 unsupported\n";
+    assert_row(&rt, alloc, &["run"], input, Status::Refused, text)?;
     let input = "titan 1\nscript\ntick\nobserve x = a\ntick\n";
     let text = "tick 1 cost 0 modes idle\nrefused 4 20 unsupported\n";
     assert_row(&rt, alloc, &["run"], input, Status::Refused, text)
@@ -83,9 +78,9 @@ fn a_refused_line_ends_the_trace(rt: HostRuntime) -> Result<(), Fail> {
 #[test]
 fn faults_leave_a_front_of_the_text(rt: HostRuntime) -> Result<(), Fail> {
     let alloc = rt.alloc();
-    assert_faulty_row(&rt, alloc, LAMP, 1, 0, Status::ReadFault, "")?;
-    assert_faulty_row(&rt, alloc, LAMP, 0, 1, Status::WriteFault, "")?;
+    assert_faulty_row(&rt, alloc, "run", LAMP, (1, 0), Status::ReadFault, "")?;
+    assert_faulty_row(&rt, alloc, "run", LAMP, (0, 1), Status::WriteFault, "")?;
     let first = "tick 1 cost 0 modes lamp=off send lamp_on\n";
-    assert_faulty_row(&rt, alloc, LAMP, 0, 2, Status::WriteFault, first)?;
-    assert_faulty_row(&rt, alloc, LAMP, 0, 3, Status::Ended, LAMP_LINES)
+    assert_faulty_row(&rt, alloc, "run", LAMP, (0, 2), Status::WriteFault, first)?;
+    assert_faulty_row(&rt, alloc, "run", LAMP, (0, 3), Status::Ended, LAMP_LINES)
 }

@@ -7,10 +7,38 @@ mod answers;
 #[cfg(test)]
 mod calls;
 #[cfg(test)]
+mod compiled;
+#[cfg(test)]
+mod conflicts;
+#[cfg(test)]
+mod documented;
+#[cfg(test)]
 mod first_path;
 #[cfg(test)]
 mod graph;
 #[cfg(test)]
+mod hostile;
+#[cfg(test)]
+mod limits;
+#[cfg(test)]
+mod model_lines;
+#[cfg(test)]
+mod not_accepted;
+#[cfg(test)]
+mod parts;
+#[cfg(test)]
+mod primes;
+#[cfg(test)]
 mod refusals;
 #[cfg(test)]
 mod row;
+#[cfg(test)]
+mod shown;
+#[cfg(test)]
+mod too_deep;
+#[cfg(test)]
+mod too_many_ways;
+#[cfg(test)]
+mod valve;
+#[cfg(test)]
+mod worlds;

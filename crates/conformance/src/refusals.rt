@@ -84,6 +84,14 @@ fn lines_of_no_form_are_malformed(rt: HostRuntime) -> Result<(), Fail> {
     assert_refused_after(&rt, alloc, "component x = a start a b\n", malformed)?;
     assert_refused_after(&rt, alloc, "tick\n", malformed)?;
     assert_refused_after(&rt, alloc, "var x = a;\n", malformed)?;
+    assert_refused_after(&rt, alloc, "var 007 = = x\n", malformed)?;
+    assert_refused_after(&rt, alloc, "observe nothing\n", malformed)?;
+    assert_refused_after(
+        &rt,
+        alloc,
+        "move lamp off -> dim by x when 007\n",
+        malformed,
+    )?;
     assert_refused_in_script(&rt, alloc, "script\n", "refused 6 1 malformed\n")?;
     assert_refused_in_script(&rt, alloc, "goal lamp = on,\n", "refused 6 1 malformed\n")?;
     assert_refused_in_script(&rt, alloc, "tick 007\n", "refused 6 1 malformed\n")
@@ -101,7 +109,7 @@ fn names_are_declared_before_they_are_used(rt: HostRuntime) -> Result<(), Fail> 
         "move lamp dim -> on by x when lamp = on\n",
         unknown,
     )?;
-    assert_refused_after(&rt, alloc, "move lamp off -> dim by x when 007\n", unknown)?;
+    assert_refused_after(&rt, alloc, "move lamp off -> dim by x when true\n", unknown)?;
     assert_refused_in_script(
         &rt,
         alloc,
@@ -111,36 +119,91 @@ fn names_are_declared_before_they_are_used(rt: HostRuntime) -> Result<(), Fail> 
     assert_refused_in_script(&rt, alloc, "goal lump = on\n", "refused 6 2 name_unknown\n")
 }
 
-#[test]
-fn what_is_not_built_is_unsupported(rt: HostRuntime) -> Result<(), Fail> {
-    let alloc = rt.alloc();
-    let unsupported = "refused 3 20 unsupported\n";
-    assert_refused_after(&rt, alloc, "var 007 = = x\n", unsupported)?;
-    assert_refused_after(&rt, alloc, "observe nothing\n", unsupported)?;
-    assert_refused_after(
-        &rt,
-        alloc,
-        "move lamp off -> on by x when lamp = on\n",
-        unsupported,
-    )?;
-    assert_refused_after(&rt, alloc, "component lamp = a start a\n", unsupported)?;
-    assert_refused_after(&rt, alloc, "component x = a, a start a\n", unsupported)?;
-    let goal = "goal lamp = on, lamp = off\n";
-    assert_refused_in_script(&rt, alloc, goal, "refused 6 20 unsupported\n")?;
-    assert_refused_in_script(&rt, alloc, "rule true\n", "refused 6 20 unsupported\n")
+/// Asserts that a model of a lamp and these lines is refused at its script, which is its fourth line.
+fn assert_not_run(rt: &impl Abort, alloc: Global, lines: &str) -> Result<(), Fail> {
+    let mut lines = String::from_str(alloc, lines)?;
+    lines.push_str("script\n")?;
+    assert_refused_after(rt, alloc, &lines, "refused 4 20 unsupported\n")
 }
 
 #[test]
-fn long_names_are_unknown_or_unsupported(rt: HostRuntime) -> Result<(), Fail> {
+fn models_that_do_not_run_yet_are_unsupported(rt: HostRuntime) -> Result<(), Fail> {
     let alloc = rt.alloc();
-    let unsupported = "refused 3 20 unsupported\n";
+    assert_not_run(&rt, alloc, "var x = a\n")?;
+    assert_not_run(&rt, alloc, "rule true\n")?;
+    assert_not_run(&rt, alloc, "repair lamp on -> off by x when true\n")?;
+    assert_not_run(&rt, alloc, "fail lamp off -> on cost 1\n")?;
+    assert_not_run(&rt, alloc, "move lamp off -> on by x when lamp = off\n")?;
+    assert_not_run(&rt, alloc, "move lamp off -> on by x when not false\n")
+}
+
+#[test]
+fn events_that_are_not_built_are_unsupported(rt: HostRuntime) -> Result<(), Fail> {
+    let alloc = rt.alloc();
+    let unsupported = "refused 6 20 unsupported\n";
+    assert_refused_in_script(&rt, alloc, "observe nothing\n", unsupported)?;
+    assert_refused_in_script(&rt, alloc, "clear\n", unsupported)?;
+    assert_refused_in_script(&rt, alloc, "fault lamp = on\n", unsupported)?;
+    assert_refused_in_script(&rt, alloc, "mirror nothing\n", unsupported)?;
+    assert_refused_in_script(&rt, alloc, "reset\n", unsupported)?;
+    let goal = "goal lamp = on, lamp = off\n";
+    assert_refused_in_script(&rt, alloc, goal, unsupported)
+}
+
+#[test]
+fn lines_of_a_model_do_not_stand_in_a_script(rt: HostRuntime) -> Result<(), Fail> {
+    let alloc = rt.alloc();
+    let malformed = "refused 6 1 malformed\n";
+    assert_refused_in_script(&rt, alloc, "titan 1\n", malformed)?;
+    assert_refused_in_script(&rt, alloc, "component x = a start a\n", malformed)?;
+    assert_refused_in_script(&rt, alloc, "var x = a\n", malformed)?;
+    assert_refused_in_script(&rt, alloc, "rule true\n", malformed)?;
+    assert_refused_in_script(
+        &rt,
+        alloc,
+        "move lamp off -> on by x when true\n",
+        malformed,
+    )?;
+    assert_refused_in_script(
+        &rt,
+        alloc,
+        "repair lamp on -> off by x when true\n",
+        malformed,
+    )?;
+    assert_refused_in_script(&rt, alloc, "fail lamp off -> on cost 1\n", malformed)
+}
+
+#[test]
+fn names_are_declared_once(rt: HostRuntime) -> Result<(), Fail> {
+    let alloc = rt.alloc();
+    let repeated = "refused 3 3 name_repeated\n";
+    assert_refused_after(&rt, alloc, "component lamp = a start a\n", repeated)?;
+    assert_refused_after(&rt, alloc, "var lamp = a\n", repeated)?;
+    assert_refused_after(&rt, alloc, "component x = a, a start a\n", repeated)?;
+    assert_refused_after(&rt, alloc, "var x = a, b, a sensed\n", repeated)?;
+    assert_refused_after(&rt, alloc, "rule lamp in {on, off, on}\n", repeated)
+}
+
+#[test]
+fn long_names_are_unknown_or_past_the_limit(rt: HostRuntime) -> Result<(), Fail> {
+    let alloc = rt.alloc();
+    let limit = "refused 3 4 limit\n";
     let line = "component a23456789012345678901234567890123 = a start a\n";
-    assert_refused_after(&rt, alloc, line, unsupported)?;
+    assert_refused_after(&rt, alloc, line, limit)?;
     let line = "component x = a, a23456789012345678901234567890123 start a\n";
-    assert_refused_after(&rt, alloc, line, unsupported)?;
+    assert_refused_after(&rt, alloc, line, limit)?;
+    let line = "move lamp off -> on by a23456789012345678901234567890123 when true\n";
+    assert_refused_after(&rt, alloc, line, limit)?;
     let line =
         "component x = a23456789012345678901234567890123 start a23456789012345678901234567890123\n";
     assert_refused_after(&rt, alloc, line, "refused 3 2 name_unknown\n")?;
+    let line = "rule a23456789012345678901234567890123 = on\n";
+    assert_refused_after(&rt, alloc, line, "refused 3 2 name_unknown\n")
+}
+
+#[test]
+fn a_name_of_32_bytes_is_a_name(rt: HostRuntime) -> Result<(), Fail> {
+    let alloc = rt.alloc();
     let line = "component a2345678901234567890123456789012 = a start a\nscript\ntick\n";
     let text = "tick 1 cost 0 modes lamp=off a2345678901234567890123456789012=a idle\n";
     let mut input = String::from_str(alloc, START)?;
@@ -152,16 +215,18 @@ fn long_names_are_unknown_or_unsupported(rt: HostRuntime) -> Result<(), Fail> {
 fn a_command_is_of_one_component_and_one_move(rt: HostRuntime) -> Result<(), Fail> {
     let alloc = rt.alloc();
     let lines = "move lamp off -> on by x when true\nmove lamp off -> off by x when true\n";
-    assert_refused_after(&rt, alloc, lines, "refused 4 20 unsupported\n")?;
+    assert_refused_after(&rt, alloc, lines, "refused 4 5 ambiguous\n")?;
     let lines =
         "component b = p, q start p\nmove lamp off -> on by x when true\nmove b q -> p by x when true\n";
-    assert_refused_after(&rt, alloc, lines, "refused 5 20 unsupported\n")?;
-    let lines = "move lamp off -> on by a23456789012345678901234567890123 when true\n";
-    assert_refused_after(&rt, alloc, lines, "refused 3 20 unsupported\n")?;
+    assert_refused_after(&rt, alloc, lines, "refused 5 5 ambiguous\n")
+}
+
+#[test]
+fn the_least_code_of_a_script_line_is_answered(rt: HostRuntime) -> Result<(), Fail> {
+    let alloc = rt.alloc();
     let lines = "goal lamp = dim, lamp = off\n";
     assert_refused_in_script(&rt, alloc, lines, "refused 6 2 name_unknown\n")?;
-    let lines = "move lamp off -> on by x when true\n";
-    assert_refused_in_script(&rt, alloc, lines, "refused 6 1 malformed\n")?;
+    assert_refused_in_script(&rt, alloc, "clear;\n", "refused 6 1 malformed\n")?;
     assert_refused_in_script(&rt, alloc, "tick tick", "refused 6 1 malformed\n")
 }
 

@@ -23,6 +23,15 @@ fn words_of(alloc: Global, words: &[&str]) -> Result<Vec<String>, Fail> {
     Ok(list)
 }
 
+/// These parts one after the other.
+pub fn joined(alloc: Global, parts: &[&str]) -> Result<String, Fail> {
+    let mut text = String::new(alloc);
+    for part in parts {
+        text.push_str(part)?;
+    }
+    Ok(text)
+}
+
 /// Runs the top call over bytes in memory, and asserts how it ends and what it writes.
 pub fn assert_row(
     rt: &impl Abort,
@@ -40,23 +49,34 @@ pub fn assert_row(
     Ok(())
 }
 
-/// The same over a source and a sink whose calls of these numbers fail; 0 is no call's number.
+/// Runs `show` over an input, and asserts that this text is shown.
+pub fn assert_shown(rt: &impl Abort, alloc: Global, input: &str, text: &str) -> Result<(), Fail> {
+    assert_row(rt, alloc, &["show"], input, Status::Ended, text)
+}
+
+/// Runs `show` and `run` over an input, and asserts that each writes this refusal and nothing else.
+pub fn assert_refused(rt: &impl Abort, alloc: Global, input: &str, text: &str) -> Result<(), Fail> {
+    assert_row(rt, alloc, &["show"], input, Status::Refused, text)?;
+    assert_row(rt, alloc, &["run"], input, Status::Refused, text)
+}
+
+/// The same over a source and a sink of which the takes and puts of these numbers fail; 0 is no call's number.
 pub fn assert_faulty_row(
     rt: &impl Abort,
     alloc: Global,
+    word: &str,
     input: &str,
-    failing_take: u64,
-    failing_put: u64,
+    failing: (u64, u64),
     status: Status,
     text: &str,
 ) -> Result<(), Fail> {
     let mut takes = Vec::new(alloc);
-    takes.push(failing_take)?;
+    takes.push(failing.0)?;
     let mut puts = Vec::new(alloc);
-    puts.push(failing_put)?;
+    puts.push(failing.1)?;
     let mut source = MemorySource::new(Vec::from_slice(alloc, input.as_bytes())?, takes);
     let mut sink = MemorySink::new(alloc, CAPACITY, puts)?;
-    let ended = titan(alloc, &words_of(alloc, &["run"])?, &mut source, &mut sink);
+    let ended = titan(alloc, &words_of(alloc, &[word])?, &mut source, &mut sink);
     assert_eq!(rt; ended, status, "how it ends");
     assert_eq!(rt; sink.bytes(), text.as_bytes(), "what is written");
     Ok(())
