@@ -70,6 +70,29 @@ filter_gives p t u h (r ∷ rows) k =
     let both = and_parts (p r) (list_all p rows) k in
     filter_step t r (filter u rows) (u r) (λ e. h r e both.0) (filter_gives p t u h rows both.1)
 
+-- ---- rows that do not name the subject
+
+both_same : (a b c d : Bool) → a ≡ b → c ≡ d → (a && c) ≡ (b && d)
+both_same a b c d e f = rw (e, f) refl
+
+same_open : (q : List (Option ℕ)) (x v : ℕ) (rows : List (List ℕ)) → list_all (is_zero x) rows ≡ true → all_open q rows ≡ all_open (set q x (Some v)) rows
+same_open q x v [] h = refl
+same_open q x v (r ∷ rows) h =
+    let parts = and_parts (is_zero x r) (list_all (is_zero x) rows) h in
+    both_same (row_open q r) (row_open (set q x (Some v)) r) (all_open q rows) (all_open (set q x (Some v)) rows) (sym (row_open-unnamed q r x v parts.0)) (same_open q x v rows parts.1)
+
+or_same : (b : Bool) → b ≡ (b || b)
+or_same true = refl
+or_same false = refl
+
+any_alike : (n : ℕ) (b : Bool) (t : ℕ → Bool) → 0 < n → ((v : ℕ) → b ≡ t v) → b ≡ any_below n t
+any_alike zero b t h e = absurd (omega arith)
+any_alike (suc zero) b t h e = e 0
+any_alike (suc (suc n)) b t h e = or_same b ∙ ap (λ c. c || b) (any_alike (suc n) b t (omega arith) e) ∙ ap (λ c. any_below (suc n) t || c) (e (suc n))
+
+pub unnamed_open : (n x : ℕ) (q : List (Option ℕ)) (rows : List (List ℕ)) → 0 < n → list_all (is_zero x) rows ≡ true → all_open q rows ≡ any_below n (λ v. all_open (set q x (Some v)) rows)
+unnamed_open n x q rows some h = any_alike n (all_open q rows) (λ v. all_open (set q x (Some v)) rows) some (λ v. same_open q x v rows h)
+
 -- ---- some value
 
 any_case : (n : ℕ) (t : ℕ → Bool) (a b : Bool) → any_below n t ≡ a → t n ≡ b → (a || b) ≡ true → ((any_below n t ≡ true → (v : ℕ) × (v < n) × (t v ≡ true))) → (v : ℕ) × (v < suc n) × (t v ≡ true)

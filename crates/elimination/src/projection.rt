@@ -8,7 +8,7 @@ ghost use Rattle.elimination.specs.Projection.{IsProjection};
 use crate::convert::{clauses_of, first_sizes, rows_of};
 use crate::gathering::gather;
 use crate::row::Row;
-use crate::rows::{add_all, keep_others, naming};
+use crate::rows::{add_all, are_unnamed, keep_others, naming};
 use clause_form::Clauses;
 use std::alloc::{AllocError, Global};
 
@@ -54,6 +54,30 @@ fn project_rows(
 
 // Puts what the rows say of the other subjects in their place.
 fn project_one(alloc: Global, sizes: &[u8], rows: &mut Vec<Row>, x: usize) -> Result<(), AllocError>
+    requires small { All (λ n. n ≤ 16) sizes.now }
+    requires subject { x < length sizes.now }
+    requires wide { list_all (is_wide (length sizes.now)) rows.old.items ≡ true }
+    ensures wide { OnOk result (list_all (is_wide (length sizes.now)) rows.new.items ≡ true) }
+    ensures zero { OnOk result ((y : ℕ)
+        → list_all (λ row. is_zero y (fix_row x row)) rows.old.items ≡ true
+        → list_all (is_zero y) rows.new.items ≡ true) }
+    ensures open { OnOk result ((q : Partial) → IsWithin sizes.now q
+        → all_open q rows.new.items ≡ any_below (slice_index sizes.now x) (λ v.
+        all_open (slice_set q x (Some v)) rows.old.items)) }
+{
+    if sizes[x] > 0 && are_unnamed(rows.as_slice(), x) {
+        return Ok(());
+    }
+    project_named(alloc, sizes, rows, x)
+}
+
+// The same where rows may name the subject.
+fn project_named(
+    alloc: Global,
+    sizes: &[u8],
+    rows: &mut Vec<Row>,
+    x: usize,
+) -> Result<(), AllocError>
     requires small { All (λ n. n ≤ 16) sizes.now }
     requires subject { x < length sizes.now }
     requires wide { list_all (is_wide (length sizes.now)) rows.old.items ≡ true }

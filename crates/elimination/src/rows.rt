@@ -70,6 +70,13 @@ pub fn keep_others(rows: &mut Vec<Row>, x: usize)
     rows.retain(|row| is_unnamed(row, x));
 }
 
+/// Whether no row names the subject.
+pub fn are_unnamed(rows: &[Row], x: usize) -> bool
+    ensures { result ≡ list_all (is_zero x) rows.now }
+{
+    rows.iter().all(|row| is_unnamed(row, x))
+}
+
 fn is_unnamed(row: &Row, x: usize) -> bool
     ensures { result ≡ is_zero x row.now }
 {
