@@ -1,5 +1,5 @@
 -- What a well-formed model's counts are.
-use Rattle.std.proofs.Common.{◌≡◌, ℕ, ◌+◌, ◌-◌, ◌<◌, ◌≤◌, ◌++◌, ◌&&◌, true, List, [], Option, length, map, All, slice_index, sym, ap, subst, ◌∙◌, inl, inr, arith}
+use Rattle.std.proofs.Common.{◌≡◌, ℕ, ◌+◌, ◌-◌, ◌<◌, ◌≤◌, ◌++◌, ◌&&◌, true, false, not, List, [], Option, length, map, All, slice_index, sym, ap, subst, ◌∙◌, inl, inr, arith}
 use Rattle.std.proofs.lemmas.Bool.{cases_lt}
 use Rattle.std.proofs.lemmas.List.{length-map, length-append, get_or_append_left, get_or-append-add}
 use Rattle.std.proofs.lemmas.List.Elements.{All-append, All-map, All-weaker}
@@ -15,7 +15,7 @@ use Rattle.std.specs.List.{list_all}
 use Rattle.cca_base.specs.declared.cube.Pair.{Pair}
 use Rattle.clause_form.specs.declared.clause.Clause.{Clause}
 use Rattle.clause_form.specs.Clauses.{AreValues, all_met}
-use Rattle.clause_form.specs.Formulas.{Adds, has_fixed, is_denied, is_asked}
+use Rattle.clause_form.specs.Formulas.{Adds, agrees, has_fixed, is_denied, is_asked}
 
 -- no component has too many modes, and no variable too many values
 pub counts_few : (m : Automata) → WellFormed m → All (λ n. n ≤ MAX_CHOICES) (mode_counts m ++ value_counts m)
@@ -81,6 +81,15 @@ asked m fixed denied components sizes rules c0 c1 c2 c3 n s r e a1 a2 a3 modes v
     (a1 modes values full both
     ∙ (ap (λ (cs : List Clause). all_met (modes ++ values) cs && list_all (truth modes values) rules) e
     ∙ ap (λ (rs : List Formula). list_all (truth modes values) rs) r)))
+
+-- the clauses of the denied formula alone
+pub denying : (m : Automata) (f : Formula) (components : ℕ) (sizes : List ℕ) (c0 c1 : List Clause) → components ≡ length m.components → sizes ≡ mode_counts m ++ value_counts m → c0 ≡ []
+    → Adds components sizes (λ modes values. agrees false (truth modes values f)) c0 c1
+    → (modes values : List ℕ) → AreValues (mode_counts m) modes → AreValues (value_counts m) values → all_met (modes ++ values) c1 ≡ not (truth modes values f)
+denying m f components sizes c0 c1 n s e adds modes values h k =
+    let full : length modes ≡ components = h.full ∙ (length-map m.components (λ c. length c.modes) ∙ sym n) in
+    let both : AreValues sizes (modes ++ values) = subst (λ xs. AreValues xs (modes ++ values)) (sym s) (both_values (mode_counts m) (value_counts m) modes values h k) in
+    adds modes values full both ∙ ap (λ (cs : List Clause). all_met (modes ++ values) cs && not (truth modes values f)) e
 
 -- what speaks of the model's components and variables, by the list of counts
 pub within_counts : (m : Automata) (components : ℕ) (counts : List ℕ) (f : Formula) → components ≡ length m.components → counts ≡ mode_counts m ++ value_counts m

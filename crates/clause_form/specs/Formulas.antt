@@ -35,6 +35,13 @@ pub record AreClausesOf (m : Automata) (fixed : Option Pair) (denied : Option Fo
   pub meaning : (modes values : List ℕ) → AreValues (mode_counts m) modes → AreValues (value_counts m) values
       → all_met (modes ++ values) c.clauses ≡ is_asked m fixed denied modes values
 
+-- clauses over the components and then the variables, which are all true exactly where the formula is false
+pub record AreDenying (m : Automata) (f : Formula) (c : Clauses) : Type 0 where
+  pub sizes : c.sizes ≡ mode_counts m ++ value_counts m
+  pub proper : AreClauses c
+  pub meaning : (modes values : List ℕ) → AreValues (mode_counts m) modes → AreValues (value_counts m) values
+      → all_met (modes ++ values) c.clauses ≡ not (truth modes values f)
+
 -- each subject is one of so many
 abbrev pub AreBelow : ℕ → List Literal → Type 0
 AreBelow n literals = All (λ literal. literal.subject < n) literals

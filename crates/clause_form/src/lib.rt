@@ -1,5 +1,5 @@
 //! Formulas as signed clauses over numbered subjects. A caller gets clauses that are all true exactly where the model's
-//! rules are, a given pair stands and a given formula is false.
+//! rules are, a given pair stands and a given formula is false, or exactly where a formula alone is false.
 #![tactic(auto)]
 
 mod absorb;
@@ -11,4 +11,4 @@ mod sizes;
 mod whole;
 
 pub use clause::{Clause, Clauses, Literal};
-pub use whole::clauses_of;
+pub use whole::{clauses_of, denied_clauses};

@@ -4,7 +4,7 @@ ghost use Rattle.std.specs.Option.{ForSome, option_copied};
 ghost use Rattle.cca_base.specs.Formula.{truth, is_within};
 ghost use Rattle.cca_base.specs.Model.{HasMode};
 ghost use Rattle.cca_base.specs.declared.limits.TheConstants.{MAX_CHOICES};
-ghost use Rattle.clause_form.specs.Formulas.{AllBelow, Adds, agrees, has_fixed, is_denied, AreClausesOf};
+ghost use Rattle.clause_form.specs.Formulas.{AllBelow, Adds, agrees, has_fixed, is_denied, AreClausesOf, AreDenying};
 
 use crate::clause::{Clause, Clauses, Literal};
 use crate::convert::clauses_where;
@@ -148,5 +148,29 @@ pub fn clauses_of(
     )?;
     add_fixed(alloc, components, counts, fixed, &mut clauses)?;
     add_denied(alloc, components, counts, denied, &mut clauses)?;
+    Ok(Clauses { sizes, clauses })
+}
+
+/// Signed clauses over the model's components, and after them its variables. They are all true exactly where the formula
+/// is false. The error is want of memory.
+pub fn denied_clauses(
+    alloc: Global,
+    model: &Model,
+    formula: &Formula,
+) -> Result<Clauses, AllocError>
+    requires { IsTrue (is_within (length model.now.components) (length model.now.variables) formula.now) }
+    ensures { IfOk result (AreDenying model.now formula.now) }
+{
+    let components = model.components().len() as u16;
+    let sizes = sizes_of(alloc, model)?;
+    let mut clauses = List::new(alloc);
+    add_formula(
+        alloc,
+        components,
+        sizes.as_slice(),
+        formula,
+        false,
+        &mut clauses,
+    )?;
     Ok(Clauses { sizes, clauses })
 }
