@@ -14,7 +14,8 @@ use Rattle.cca_base.specs.Orders.{IsEffectsFirst}
 use Rattle.cca_base.specs.Shown.{CanShow, IsConflict, IsShownCycle}
 use Rattle.cca_base.specs.State.{HasWorld}
 use Rattle.acceptance.specs.AllWays.{AreAllWays, IsFirstStop}
-use Rattle.acceptance.specs.Clashes.{HasWorlds, IsFirstWorldless, IsClashOrNone}
+use Rattle.guard_compiler.specs.Ways.{HasWorlds}
+use Rattle.acceptance.specs.Clashes.{IsFirstWorldless, IsClashOrNone}
 use Rattle.acceptance.specs.Laws.{AcceptedAreNotRefused}
 use Rattle.acceptance.specs.Parts.{IsStop}
 use Rattle.acceptance.specs.Refusals.{HasClash, Refuses, IsTooDeep}

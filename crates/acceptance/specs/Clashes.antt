@@ -5,16 +5,13 @@ use Rattle.cca_base.specs.Automata.{Automata}
 use Rattle.cca_base.specs.Shown.{IsShownClash}
 use Rattle.cca_base.specs.State.{IsState, HasWorld}
 use Rattle.cca_base.specs.Estimates.{IsEarlier}
+use Rattle.guard_compiler.specs.Ways.{HasWorlds}
 
 -- the first state in mode order that has no world
 pub record IsFirstWorldless (m : Automata) (s : List ℕ) : Type 0 where
   pub state : IsState m s
   pub worldless : HasWorld m s → ⊥
   pub first : (t : List ℕ) → IsState m t → (HasWorld m t → ⊥) → IsEarlier t s → ⊥
-
--- every state has a world
-abbrev pub HasWorlds : Automata → Type 0
-HasWorlds m = (s : List ℕ) → IsState m s → HasWorld m s
 
 -- the first state that has no world, or none where every state has one
 abbrev pub IsFirstWorldlessOrNone : Automata → Option (List ℕ) → Type 0

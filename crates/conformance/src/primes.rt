@@ -1,4 +1,5 @@
 use crate::parts::*;
+use acceptance::first_worldless;
 use cca_base::*;
 use clause_form::{Clauses, clauses_of};
 use elimination::project;
@@ -23,6 +24,9 @@ fn ways_of(alloc: Global, model: &Model) -> Result<List<Cube>, Fail> {
     if model.moves().len() == 0 {
         return Err(Fail::from("no move"));
     }
+    if first_worldless(alloc, model)?.is_some() {
+        return Err(Fail::from("no world"));
+    }
     match ways(alloc, model, 0) {
         Ok(cubes) => Ok(cubes),
         Err(_) => Err(Fail::from("refused")),
@@ -33,6 +37,9 @@ fn ways_of(alloc: Global, model: &Model) -> Result<List<Cube>, Fail> {
 fn refusal_of(alloc: Global, model: &Model) -> Result<Refusal, Fail> {
     if model.moves().len() == 0 {
         return Err(Fail::from("no move"));
+    }
+    if first_worldless(alloc, model)?.is_some() {
+        return Err(Fail::from("no world"));
     }
     match ways(alloc, model, 0) {
         Err(Stop::Refused(refusal)) => Ok(refusal),
@@ -187,4 +194,27 @@ fn a_guard_over_a_variable_of_two_components(rt: HostRuntime) -> Result<(), Fail
     assert_eq!(rt; cubes.len(), 2);
     assert_way(&rt, &cubes, 0, &[Pair { item: 0, value: 1 }])?;
     assert_way(&rt, &cubes, 1, &[Pair { item: 1, value: 1 }])
+}
+
+#[test]
+fn a_guard_over_a_variable_of_a_variable(rt: HostRuntime) -> Result<(), Fail> {
+    let model = model_of(
+        rt.alloc(),
+        &[
+            "titan 1",
+            "component a = off, on start off",
+            "component b = off, on start off",
+            "component c = off, on start off",
+            "var lamp = dark, lit",
+            "var fan = still, turning",
+            "var bus = dead, live",
+            "rule lamp = lit iff bus = live",
+            "rule fan = turning iff b = on",
+            "rule bus = live iff a = on",
+            "move c off -> on by go when lamp = lit",
+        ],
+    )?;
+    let cubes = ways_of(rt.alloc(), &model)?;
+    assert_eq!(rt; cubes.len(), 1);
+    assert_way(&rt, &cubes, 0, &[Pair { item: 0, value: 1 }])
 }

@@ -1,2 +1,5 @@
 pub mod FixedLemmas
+pub mod MarkLemmas
+pub mod RelevantLemmas
 pub mod MeaningLemmas
+pub mod AskedLemmas

@@ -21,7 +21,8 @@ use Rattle.cca_base.proofs.Members.{all_from, to_filter, from_filter}
 use Rattle.cca_base.proofs.Within.{place_within, fits_within}
 use Rattle.clause_form.specs.declared.clause.Clauses.{Clauses}
 use Rattle.clause_form.specs.Clauses.{AreValues, all_met}
-use Rattle.clause_form.specs.Formulas.{is_asked, AreClausesOf}
+use Rattle.clause_form.specs.Formulas.{is_asked}
+use Rattle.guard_compiler.specs.Asked.{AreAskedOf}
 use Rattle.prime_implicants.specs.Primes.{IsBlocked, IsPrime, AreAllPrimes, AreMorePrimes}
 use Rattle.prime_implicants.proofs.PairLemmas.{all_of, one_of_each}
 use Rattle.prime_implicants.proofs.Counting.{not_among_fewer}
@@ -45,7 +46,7 @@ to_values m s k =
     let long = length-map m.components (λ c. length c.modes) in
     record { full = k.full ∙ sym long; values = λ c h. k.modes c (omega (arith, long)) }
 
-to_state : (m : Automata) (s : List ℕ) → AreValues (mode_counts m) s → IsState m s
+pub to_state : (m : Automata) (s : List ℕ) → AreValues (mode_counts m) s → IsState m s
 to_state m s v =
     let long = length-map m.components (λ c. length c.modes) in
     record { full = v.full ∙ long; modes = λ c h. v.values c (omega (arith, long)) }
@@ -82,23 +83,22 @@ component_inside m move sizes k e =
 pub record AreSteps (m : Automata) (move : Move) (asked fixed states : Clauses) (n : ℕ) : Type 0 where
   pub count : n ≡ length m.components
   pub is_move : IsMove m move
-  pub asks : AreClausesOf m None (Some move.guard) asked
+  pub asks : AreAskedOf m move.guard asked
   pub fixed_sizes : fixed.sizes ≡ asked.sizes
   pub fixes : (xs : List ℕ) → length xs ≡ length asked.sizes → all_met xs fixed.clauses ≡ all_met (set xs move.component move.source) asked.clauses
   pub states_sizes : states.sizes ≡ take n fixed.sizes
   pub projects : IsProjection fixed n states
 
-fixed_means : (m : Automata) (move : Move) (asked fixed : Clauses) (s w : List ℕ) → IsMove m move → AreClausesOf m None (Some move.guard) asked
+fixed_means : (m : Automata) (move : Move) (asked fixed : Clauses) (s w : List ℕ) → IsMove m move → AreAskedOf m move.guard asked
     → ((xs : List ℕ) → length xs ≡ length asked.sizes → all_met xs fixed.clauses ≡ all_met (set xs move.component move.source) asked.clauses)
     → AreValues (mode_counts m) s → AreValues (value_counts m) w
-    → all_met (s ++ w) fixed.clauses ≡ is_asked m None (Some move.guard) (set s move.component move.source) w
+    → all_met (s ++ w) fixed.clauses ≡ all_met (set s move.component move.source ++ w) asked.clauses
 fixed_means m move asked fixed s w k a f v u =
     let c = move.component in
     let inside : c < length s = omega (arith, place_within (mode_counts m) c (omega (arith, k.source)), v.full) in
     let long : length (s ++ w) ≡ length asked.sizes =
     omega (arith, length-append s w, ap length a.sizes, length-append (mode_counts m) (value_counts m), v.full, u.full) in
     f (s ++ w) long ∙ ap (λ z. all_met z asked.clauses) (set-append_left s w c move.source inside)
-    ∙ a.meaning (set s c move.source) w (set_values (mode_counts m) s c move.source v k.source) u
 
 pub states_of : (m : Automata) (move : Move) (asked fixed states : Clauses) (n : ℕ) → AreSteps m move asked fixed states n → AreStatesOf m move states
 states_of m move asked fixed states n k =
@@ -112,10 +112,11 @@ states_of m move asked fixed states n k =
       source = k.is_move.source;
       sizes = k.states_sizes ∙ first;
       meaning = λ s v.
-          let there = k.projects s (subst (λ z. AreValues z s) (sym first) v) in (
+          let there = k.projects s (subst (λ z. AreValues z s) (sym first) v) in
+          let asks = k.asks.meaning (set s move.component move.source) (set_values (mode_counts m) s move.component move.source v k.is_move.source) in (
             (λ t. let r = there.0 t in let u = subst (λ z. AreValues z r.0) rest r.1 in
-                (r.0, u, sym (fixed_means m move asked fixed s r.0 k.is_move k.asks k.fixes v u) ∙ r.2)),
-            (λ r. there.1 (r.0, subst (λ z. AreValues z r.0) (sym rest) r.1, fixed_means m move asked fixed s r.0 k.is_move k.asks k.fixes v r.1 ∙ r.2)),
+                asks.0 (r.0, u, sym (fixed_means m move asked fixed s r.0 k.is_move k.asks k.fixes v u) ∙ r.2)),
+            (λ r. let q = asks.1 r in there.1 (q.0, subst (λ z. AreValues z q.0) (sym rest) q.1, fixed_means m move asked fixed s q.0 k.is_move k.asks k.fixes v q.1 ∙ q.2)),
           );
     }
 

@@ -1,1 +1,4 @@
+pub mod Asked
+pub mod Marks
+pub mod Relevant
 pub mod Ways

@@ -1,22 +1,51 @@
-ghost use Rattle.std.specs.Prelude.{◌<◌, ◌≤◌, IfErr, IfOk, IsErr, length};
+ghost use Rattle.std.specs.Prelude.{◌<◌, ◌≤◌, IfErr, IfOk, IsErr, IsTrue, None, length};
 ghost use Rattle.cca_base.specs.Accepted.{AreWays};
+ghost use Rattle.cca_base.specs.Formula.{is_within};
 ghost use Rattle.cca_base.specs.declared.limits.TheConstants.{MAX_WAYS};
-ghost use Rattle.guard_compiler.specs.Ways.{AtMove, HasManyWays, IsStop};
+ghost use Rattle.clause_form.specs.Formulas.{AreClausesOf};
+ghost use Rattle.guard_compiler.specs.Asked.{AreAskedOf};
+ghost use Rattle.guard_compiler.specs.Ways.{AtMove, HasManyWays, HasWorlds, IsStop};
 
 use crate::fixed::with_value;
-use cca_base::{Cube, Detail, List, MAX_WAYS, Model, Refusal, Stop};
-use clause_form::clauses_of;
+use crate::relevant::with_relevant;
+use cca_base::{Cube, Detail, Formula, List, MAX_WAYS, Model, Refusal, Stop};
+use clause_form::{Clauses, clauses_of, denied_clauses};
 use elimination::project;
 use prime_implicants::{Primes, primes};
-use std::alloc::Global;
+use std::alloc::{AllocError, Global};
 
 /// The code of a move with too many prime implicants.
 const MANY_WAYS: u8 = 10;
 
-/// Exactly the prime implicants of a move, in cube order. The move is refused where it has more than `MAX_WAYS`; the
-/// other error is want of memory.
-pub fn ways(alloc: Global, model: &Model, move_number: u16) -> Result<List<Cube>, Stop>
-    requires { move_number < length model.now.moves }
+/// Clauses that can be met with the modes of a state exactly where a world of the state has the guard false.
+fn asked_of(
+    alloc: Global,
+    model: &Model,
+    rules: &Clauses,
+    guard: &Formula,
+) -> Result<Clauses, AllocError>
+    requires worlds { HasWorlds model.now }
+    requires rules { AreClausesOf model.now None None rules.now }
+    requires guard { IsTrue (is_within (length model.now.components) (length model.now.variables) guard.now) }
+    ensures { IfOk result (AreAskedOf model.now guard.now) }
+{
+    let denied = denied_clauses(alloc, model, guard)?;
+    let components = model.components().len() as u16;
+    let asked = with_relevant(alloc, components, rules.clauses.as_slice(), denied)?;
+    Ok(asked)
+}
+
+/// Exactly the prime implicants of a move, in cube order, by the clauses of the model's rules. The move is refused where
+/// it has more than `MAX_WAYS`; the other error is want of memory.
+pub fn ways_of(
+    alloc: Global,
+    model: &Model,
+    rules: &Clauses,
+    move_number: u16,
+) -> Result<List<Cube>, Stop>
+    requires worlds { HasWorlds model.now }
+    requires rules { AreClausesOf model.now None None rules.now }
+    requires number { move_number < length model.now.moves }
     ensures ways { IfOk result (λ cubes. AtMove model.now move_number (λ move.
         AreWays model.now move cubes)) }
     ensures few { IfOk result (λ cubes. length cubes ≤ MAX_WAYS) }
@@ -24,7 +53,7 @@ pub fn ways(alloc: Global, model: &Model, move_number: u16) -> Result<List<Cube>
     ensures many { AtMove model.now move_number (λ move. HasManyWays model.now move → IsErr result) }
 {
     let the_move = model.moves().get(move_number as usize);
-    let asked = clauses_of(alloc, model, None, Some(&the_move.guard))?;
+    let asked = asked_of(alloc, model, rules, &the_move.guard)?;
     let fixed = with_value(alloc, asked, the_move.component, the_move.source)?;
     let states = project(alloc, &fixed, model.components().len() as u16)?;
     match primes(alloc, &states, MAX_WAYS as u32)? {
@@ -34,4 +63,19 @@ pub fn ways(alloc: Global, model: &Model, move_number: u16) -> Result<List<Cube>
             detail: Detail::OfMove(move_number),
         })),
     }
+}
+
+/// Exactly the prime implicants of a move, in cube order. The move is refused where it has more than `MAX_WAYS`; the
+/// other error is want of memory.
+pub fn ways(alloc: Global, model: &Model, move_number: u16) -> Result<List<Cube>, Stop>
+    requires worlds { HasWorlds model.now }
+    requires number { move_number < length model.now.moves }
+    ensures ways { IfOk result (λ cubes. AtMove model.now move_number (λ move.
+        AreWays model.now move cubes)) }
+    ensures few { IfOk result (λ cubes. length cubes ≤ MAX_WAYS) }
+    ensures refused { IfErr result (IsStop model.now move_number) }
+    ensures many { AtMove model.now move_number (λ move. HasManyWays model.now move → IsErr result) }
+{
+    let rules = clauses_of(alloc, model, None, None)?;
+    ways_of(alloc, model, &rules, move_number)
 }

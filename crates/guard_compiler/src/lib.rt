@@ -4,5 +4,7 @@
 
 mod fixed;
 mod implicants;
+mod marks;
+mod relevant;
 
-pub use implicants::ways;
+pub use implicants::{ways, ways_of};

@@ -1,18 +1,17 @@
-use Rattle.std.proofs.Common.{◌≡◌, ◌≤◌, ◌∙◌, length, ap, sym, subst, slice_get, Some, refl, true}
-use Rattle.cca_base.specs.Formula.{is_within}
+use Rattle.std.proofs.Common.{◌≡◌, ◌≤◌, ◌∙◌, length, ap, sym, subst, slice_get, Some, refl}
 use Rattle.cca_base.specs.Accepted.{AreWays}
 use Rattle.cca_base.specs.declared.limits.TheConstants.{MAX_WAYS}
 use Rattle.guard_compiler.specs.Ways.{HasManyWays}
 use Rattle.cca_base.proofs.Members.{some_inj}
 use Rattle.guard_compiler.proofs.MeaningLemmas.{AreSteps, move_of, guard_within, component_inside, states_of, all_ways, many_ways, not_many}
-use Rattle.guard_compiler.proofs.implicants.ways.Goals as goal
+use Rattle.guard_compiler.proofs.implicants.ways_of.Goals as goal
 
-pub clauses_of-requires-clause-denied : goal.clauses_of-requires-clause-denied
-clauses_of-requires-clause-denied c = λ x e.
+pub asked_of-requires-clause-guard : goal.asked_of-requires-clause-guard
+asked_of-requires-clause-guard c =
     let m = c.args.model.now in
     let move = c.get-the_move.result.now in
     let there : slice_get m.moves c.args.move_number ≡ Some move = ap (λ z. slice_get z c.args.move_number) (sym c.moves.ensures.value) ∙ c.get-the_move.ensures.value in
-    subst (λ z. is_within (length m.components) (length m.variables) z.now ≡ true) (some_inj _ x e) (guard_within m move (move_of m c.args.move_number move c.moves.ensures.well_formed there))
+    guard_within m move (move_of m c.args.move_number move c.moves.ensures.well_formed there)
 
 pub with_value-requires-clause-subject : goal.with_value-requires-clause-subject
 with_value-requires-clause-subject c =
