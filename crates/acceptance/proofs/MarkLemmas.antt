@@ -14,7 +14,8 @@ use Rattle.cca_base.specs.Relations.{AreExactly}
 use Rattle.cca_base.proofs.Members.{all_from, contains_cases, contains_here, contains_there, contains_none, some_inj}
 use Rattle.cca_base.proofs.Within.{mode_within}
 use Rattle.causal_graph.specs.Laws.{AreNeedsOf}
-use Rattle.causal_graph.specs.Search.{IsSet, Marks}
+use Rattle.causal_graph.specs.Search.{Marks}
+use Rattle.cca_base.specs.Flags.{IsSet}
 use Rattle.causal_graph.proofs.FlagLemmas.{set_within, marks_new}
 use Rattle.causal_graph.proofs.NeededLemmas.{none_set}
 use Rattle.causal_graph.proofs.ReachLemmas.{AreListed}

@@ -12,9 +12,8 @@ use Rattle.cca_base.specs.Implicants.{IsAcyclic}
 use Rattle.cca_base.specs.Model.{WellFormed, IsComplete}
 use Rattle.cca_base.specs.Orders.{IsEffectsFirst}
 use Rattle.cca_base.specs.Shown.{CanShow, IsConflict, IsShownCycle}
-use Rattle.cca_base.specs.State.{HasWorld}
+use Rattle.cca_base.specs.State.{HasWorld, HasWorlds}
 use Rattle.acceptance.specs.AllWays.{AreAllWays, IsFirstStop}
-use Rattle.guard_compiler.specs.Ways.{HasWorlds}
 use Rattle.acceptance.specs.Clashes.{IsFirstWorldless, IsClashOrNone}
 use Rattle.acceptance.specs.Laws.{AcceptedAreNotRefused}
 use Rattle.acceptance.specs.Parts.{IsStop}

@@ -3,9 +3,8 @@ use Rattle.std.specs.Prelude.{ℕ, List, Option, Some, None}
 use Rattle.cca_base.specs.declared.cube.Pair.{Pair}
 use Rattle.cca_base.specs.Automata.{Automata}
 use Rattle.cca_base.specs.Shown.{IsShownClash}
-use Rattle.cca_base.specs.State.{IsState, HasWorld}
+use Rattle.cca_base.specs.State.{IsState, HasWorld, HasWorlds}
 use Rattle.cca_base.specs.Estimates.{IsEarlier}
-use Rattle.guard_compiler.specs.Ways.{HasWorlds}
 
 -- the first state in mode order that has no world
 pub record IsFirstWorldless (m : Automata) (s : List ℕ) : Type 0 where

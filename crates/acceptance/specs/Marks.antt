@@ -3,7 +3,7 @@ use Rattle.std.specs.Prelude.{◌≡◌, ℕ, ◌⊎◌, ◌↔◌, Bool, List, 
 use Rattle.cca_base.specs.declared.cube.Pair.{Pair}
 use Rattle.cca_base.specs.Automata.{Automata}
 use Rattle.cca_base.specs.Implicants.{Needs}
-use Rattle.causal_graph.specs.Search.{IsSet}
+use Rattle.cca_base.specs.Flags.{IsSet}
 
 -- the pairs' components
 abbrev pub components_of : List Pair → List ℕ

@@ -1,5 +1,5 @@
 ghost use Rattle.std.specs.Prelude.{IfErr, IfOk};
-ghost use Rattle.guard_compiler.specs.Ways.{HasWorlds};
+ghost use Rattle.cca_base.specs.State.{HasWorlds};
 ghost use Rattle.acceptance.specs.AllWays.{AreAllWays, IsFirstStop};
 
 use cca_base::{Cube, List, Model, Stop};

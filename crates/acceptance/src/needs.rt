@@ -2,7 +2,8 @@ ghost use Rattle.std.specs.Prelude.{◌<◌, ◌≤◌, All, IfOk, length};
 ghost use Rattle.cca_base.specs.Model.{WellFormed};
 ghost use Rattle.cca_base.specs.Relations.{AreExactly};
 ghost use Rattle.causal_graph.specs.Laws.{AreNeedsOf};
-ghost use Rattle.causal_graph.specs.Search.{IsSet, Marks};
+ghost use Rattle.causal_graph.specs.Search.{Marks};
+ghost use Rattle.cca_base.specs.Flags.{IsSet};
 ghost use Rattle.acceptance.specs.AllWays.{AreAllWays};
 ghost use Rattle.acceptance.specs.Marks.{AddsMarks, AreNeedsMarked, OccursIn, components_of};
 

@@ -9,7 +9,8 @@ use Rattle.cca_base.proofs.Pairwise.{AllPairs-head, AllPairs-tail}
 use Rattle.cca_base.proofs.RelationLemmas.{numbers_are_below, numbers_rise, below_contains, takes_out, order_acyclic}
 use Rattle.cca_base.specs.Relations.{numbers_below, PathBy, IsAcyclicBy, IsFreeBy, TakesEffectsFirstBy, IsEffectsFirstBy}
 use Rattle.causal_graph.specs.Needs.{RowNeeds, AreRows}
-use Rattle.causal_graph.specs.Search.{IsSet, AreNeeded, IsFirstUnset, HasStuck}
+use Rattle.causal_graph.specs.Search.{AreNeeded, IsFirstUnset, HasStuck}
+use Rattle.cca_base.specs.Flags.{IsSet}
 use Rattle.causal_graph.proofs.DistanceLemmas.{row_within}
 
 -- rising numbers without the one at a place

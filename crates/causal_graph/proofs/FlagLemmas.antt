@@ -5,7 +5,8 @@ use Rattle.std.proofs.lemmas.List.{get_or_past, get_or-set_same, get_or-set_othe
 use Rattle.std.proofs.lemmas.List.Elements.{All-contains, Contains-push, Contains-push_cases, Contains-append_left}
 use Rattle.std.proofs.lemmas.List.Sums.{sum_by-set}
 use Rattle.cca_base.proofs.Members.{contains_none}
-use Rattle.causal_graph.specs.Search.{IsSet, AreNarrow, Marks, unset}
+use Rattle.causal_graph.specs.Search.{AreNarrow, Marks}
+use Rattle.cca_base.specs.Flags.{IsSet, unset}
 
 -- only flags of the list are set
 pub set_within : (flags : List Bool) (u : ℕ) → IsSet flags u → u < length flags

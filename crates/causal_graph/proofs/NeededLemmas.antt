@@ -4,7 +4,8 @@ use Rattle.std.proofs.lemmas.Bool.{cases_lt, false≢true}
 use Rattle.std.proofs.lemmas.List.{get_or_past, get_or-replicate, length-replicate}
 use Rattle.std.proofs.lemmas.List.Elements.{Contains-push, Contains-push_cases, Contains-append_left}
 use Rattle.cca_base.proofs.Members.{contains_none}
-use Rattle.causal_graph.specs.Search.{IsSet, Marks, AreNeeded}
+use Rattle.causal_graph.specs.Search.{Marks, AreNeeded}
+use Rattle.cca_base.specs.Flags.{IsSet}
 
 -- no flag of a list of false ones is set
 pub none_set : (n u : ℕ) → IsSet (replicate n false) u → ⊥

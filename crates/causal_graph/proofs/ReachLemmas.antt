@@ -7,7 +7,8 @@ use Rattle.cca_base.proofs.Members.{contains_none}
 use Rattle.cca_base.proofs.RelationLemmas.{ancestor_direct, ancestor_join}
 use Rattle.cca_base.specs.Relations.{PathBy, AncestorBy}
 use Rattle.causal_graph.specs.Needs.{RowNeeds, AreAncestors}
-use Rattle.causal_graph.specs.Search.{IsSet, AreNarrow, unset, Marks, Spreads, AreReached}
+use Rattle.causal_graph.specs.Search.{AreNarrow, Marks, Spreads, AreReached}
+use Rattle.cca_base.specs.Flags.{IsSet, unset}
 use Rattle.causal_graph.proofs.DistanceLemmas.{row_within}
 use Rattle.causal_graph.proofs.FlagLemmas.{set_within}
 

@@ -1,20 +1,13 @@
 -- What the steps of the searches find.
 use Rattle.std.specs.Prelude.{◌≡◌, ℕ, ◌+◌, ◌<◌, ◌≤◌, ◌==◌, ◌⊎◌, ◌↔◌, Bool, true, false, not, List, length, slice_index, slice_index_or, Contains, count_by}
 use Rattle.cca_base.specs.Estimates.{IsEarlier}
+use Rattle.cca_base.specs.Flags.{IsSet}
 use Rattle.cca_base.specs.Relations.{PathBy, AncestorBy, IsCycleBy}
 use Rattle.causal_graph.specs.Needs.{RowNeeds}
-
--- the flag of u is set
-abbrev pub IsSet : List Bool → ℕ → Type 0
-IsSet flags u = slice_index_or flags u false ≡ true
 
 -- flags are set only at places that a u16 numbers
 abbrev pub AreNarrow : List Bool → Type 0
 AreNarrow flags = (u : ℕ) → IsSet flags u → u < 65536
-
--- how many flags are not set
-abbrev pub unset : List Bool → ℕ
-unset flags = count_by not flags
 
 -- exactly the flags of the row's numbers are set besides those that were
 pub record Marks (row : List ℕ) (old new : List Bool) : Type 0 where

@@ -1,7 +1,8 @@
 ghost use Rattle.std.specs.Prelude.{◌≡◌, ◌<◌, ◌≤◌, All, IfOk, MatchOption, length};
 ghost use Rattle.cca_base.specs.Relations.{IsEffectsFirstBy, numbers_below};
 ghost use Rattle.causal_graph.specs.Needs.{AreRows, RowNeeds};
-ghost use Rattle.causal_graph.specs.Search.{AreNeeded, HasStuck, IsFirstUnset, IsSet};
+ghost use Rattle.causal_graph.specs.Search.{AreNeeded, HasStuck, IsFirstUnset};
+ghost use Rattle.cca_base.specs.Flags.{IsSet};
 
 use crate::flags::mark;
 use cca_base::List;

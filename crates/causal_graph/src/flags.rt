@@ -1,5 +1,6 @@
 ghost use Rattle.std.specs.Prelude.{◌≡◌, ◌<◌, All, MatchBool, length};
-ghost use Rattle.causal_graph.specs.Search.{AreNarrow, Marks, unset};
+ghost use Rattle.causal_graph.specs.Search.{AreNarrow, Marks};
+ghost use Rattle.cca_base.specs.Flags.{unset};
 
 /// Sets the flag of each number of the row, and says whether one was not set before.
 pub(crate) fn mark(row: &[u16], flags: &mut [bool]) -> bool

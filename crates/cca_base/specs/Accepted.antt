@@ -5,7 +5,7 @@ use Rattle.cca_base.specs.declared.model.Move.{Move}
 use Rattle.cca_base.specs.declared.limits.TheConstants.{MAX_WAYS, MAX_BOUND}
 use Rattle.cca_base.specs.Automata.{Automata}
 use Rattle.cca_base.specs.Model.{WellFormed, IsComplete}
-use Rattle.cca_base.specs.State.{IsState, HasWorld}
+use Rattle.cca_base.specs.State.{HasWorlds}
 use Rattle.cca_base.specs.Cube.{AreInCubeOrder}
 use Rattle.cca_base.specs.Implicants.{PrimeImplicant, IsAcyclic}
 use Rattle.cca_base.specs.Orders.{IsEffectsFirst}
@@ -28,7 +28,7 @@ SumFits bounds = sum bounds ≤ MAX_BOUND
 pub record Accepted (m : Automata) : Type 0 where
   pub well_formed : WellFormed m
   pub complete : IsComplete m
-  pub worlds : (s : List ℕ) → IsState m s → HasWorld m s
+  pub worlds : HasWorlds m
   pub few_ways : All (HasFewWays m) m.moves
   pub acyclic : IsAcyclic m
   pub bounded : (bounds : List ℕ) × AreBounds m bounds × SumFits bounds

@@ -5,6 +5,7 @@ pub mod Bounds
 pub mod Choice
 pub mod Cube
 pub mod Estimates
+pub mod Flags
 pub mod Formula
 pub mod Goals
 pub mod Implicants

@@ -33,6 +33,10 @@ pub record IsWorld (m : Automata) (s w : List ℕ) : Type 0 where
 abbrev pub HasWorld : Automata → List ℕ → Type 0
 HasWorld m s = (w : List ℕ) × IsWorld m s w
 
+-- every state has a world
+abbrev pub HasWorlds : Automata → Type 0
+HasWorlds m = (s : List ℕ) → IsState m s → HasWorld m s
+
 -- the formula is true in every world of the state
 abbrev pub Holds : Automata → List ℕ → Formula → Type 0
 Holds m s f = (w : List ℕ) → IsWorld m s w → IsTrue (truth s w f)

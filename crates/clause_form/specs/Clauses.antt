@@ -28,11 +28,15 @@ meets xs clause = is_met xs clause.literals
 abbrev pub all_met : List ℕ → List Clause → Bool
 all_met xs clauses = list_all (meets xs) clauses
 
--- the clause speaks of the subjects alone
-abbrev pub IsOfSubjects : List ℕ → Clause → Type 0
-IsOfSubjects sizes clause = All (λ literal. literal.subject < length sizes) clause.literals
+-- each subject is one of so many
+abbrev pub AreBelow : ℕ → List Literal → Type 0
+AreBelow n literals = All (λ literal. literal.subject < n) literals
+
+-- each subject of each clause is one of so many
+abbrev pub AllBelow : ℕ → List Clause → Type 0
+AllBelow n clauses = All (λ clause. AreBelow n clause.literals) clauses
 
 -- each subject has no more values than a set can hold, and each clause speaks of the subjects alone
 pub record AreClauses (c : Clauses) : Type 0 where
   pub few : All (λ n. n ≤ MAX_CHOICES) c.sizes
-  pub subjects : All (IsOfSubjects c.sizes) c.clauses
+  pub subjects : AllBelow (length c.sizes) c.clauses

@@ -42,14 +42,6 @@ pub record AreDenying (m : Automata) (f : Formula) (c : Clauses) : Type 0 where
   pub meaning : (modes values : List ℕ) → AreValues (mode_counts m) modes → AreValues (value_counts m) values
       → all_met (modes ++ values) c.clauses ≡ not (truth modes values f)
 
--- each subject is one of so many
-abbrev pub AreBelow : ℕ → List Literal → Type 0
-AreBelow n literals = All (λ literal. literal.subject < n) literals
-
--- each subject of each clause is one of so many
-abbrev pub AllBelow : ℕ → List Clause → Type 0
-AllBelow n clauses = All (λ clause. AreBelow n clause.literals) clauses
-
 -- a truth value where it is wanted, and else its opposite
 abbrev pub agrees : Bool → Bool → Bool
 agrees true b = b

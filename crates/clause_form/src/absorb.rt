@@ -1,7 +1,6 @@
 ghost use Rattle.std.specs.Prelude.{◌≡◌, ℕ, List, ◌≤◌, length, All, IsTrue};
 ghost use Rattle.cca_base.specs.declared.limits.TheConstants.{MAX_CHOICES};
-ghost use Rattle.clause_form.specs.Clauses.{AreValues, is_true, is_met};
-ghost use Rattle.clause_form.specs.Formulas.{AreBelow};
+ghost use Rattle.clause_form.specs.Clauses.{AreValues, is_true, is_met, AreBelow};
 
 use crate::clause::Literal;
 use cca_base::ValueSet;

@@ -2,8 +2,8 @@ ghost use Rattle.std.specs.Prelude.{◌≡◌, ℕ, List, ◌+◌, ◌-◌, ◌<
 ghost use Rattle.cca_base.specs.Formula.{is_within, subject_within};
 ghost use Rattle.cca_base.specs.Sets.{has};
 ghost use Rattle.cca_base.specs.declared.limits.TheConstants.{MAX_CHOICES};
-ghost use Rattle.clause_form.specs.Clauses.{AreValues, all_met};
-ghost use Rattle.clause_form.specs.Formulas.{AllBelow, subject_number, Means, MeansAmong};
+ghost use Rattle.clause_form.specs.Clauses.{AreValues, all_met, AllBelow};
+ghost use Rattle.clause_form.specs.Formulas.{subject_number, Means, MeansAmong};
 
 use crate::clause::{Clause, Literal};
 use crate::join::{join, with_clause};

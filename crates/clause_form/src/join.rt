@@ -1,7 +1,7 @@
 ghost use Rattle.std.specs.Prelude.{◌≡◌, ℕ, List, ◌&&◌, ◌||◌, ◌≤◌, length, All, IfOk, OnOk, IsTrue};
 ghost use Rattle.cca_base.specs.declared.limits.TheConstants.{MAX_CHOICES};
-ghost use Rattle.clause_form.specs.Clauses.{AreValues, is_met, all_met};
-ghost use Rattle.clause_form.specs.Formulas.{AreBelow, AllBelow, combine};
+ghost use Rattle.clause_form.specs.Clauses.{AreValues, is_met, all_met, AreBelow, AllBelow};
+ghost use Rattle.clause_form.specs.Formulas.{combine};
 
 use crate::absorb::{absorbs, is_always_met};
 use crate::clause::{Clause, Literal};

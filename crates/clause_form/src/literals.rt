@@ -1,6 +1,5 @@
 ghost use Rattle.std.specs.Prelude.{◌≡◌, ℕ, List, ◌<◌, ◌||◌, IfOk, OnOk};
-ghost use Rattle.clause_form.specs.Clauses.{is_true, is_met};
-ghost use Rattle.clause_form.specs.Formulas.{AreBelow};
+ghost use Rattle.clause_form.specs.Clauses.{is_true, is_met, AreBelow};
 
 use crate::clause::{Clause, Literal};
 use cca_base::List;

@@ -4,7 +4,8 @@ ghost use Rattle.std.specs.Option.{ForSome, option_copied};
 ghost use Rattle.cca_base.specs.Formula.{truth, is_within};
 ghost use Rattle.cca_base.specs.Model.{HasMode};
 ghost use Rattle.cca_base.specs.declared.limits.TheConstants.{MAX_CHOICES};
-ghost use Rattle.clause_form.specs.Formulas.{AllBelow, Adds, agrees, has_fixed, is_denied, AreClausesOf, AreDenying};
+ghost use Rattle.clause_form.specs.Formulas.{Adds, agrees, has_fixed, is_denied, AreClausesOf, AreDenying};
+ghost use Rattle.clause_form.specs.Clauses.{AllBelow};
 
 use crate::clause::{Clause, Clauses, Literal};
 use crate::convert::clauses_where;
@@ -164,13 +165,7 @@ pub fn denied_clauses(
     let components = model.components().len() as u16;
     let sizes = sizes_of(alloc, model)?;
     let mut clauses = List::new(alloc);
-    add_formula(
-        alloc,
-        components,
-        sizes.as_slice(),
-        formula,
-        false,
-        &mut clauses,
-    )?;
+    let counts = sizes.as_slice();
+    add_formula(alloc, components, counts, formula, false, &mut clauses)?;
     Ok(Clauses { sizes, clauses })
 }

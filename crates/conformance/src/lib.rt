@@ -15,6 +15,8 @@ mod documented;
 #[cfg(test)]
 mod first_path;
 #[cfg(test)]
+mod goals;
+#[cfg(test)]
 mod graph;
 #[cfg(test)]
 mod hostile;

@@ -50,6 +50,12 @@ fn a_mode_that_no_world_allows_clashes(rt: HostRuntime) -> Result<(), Fail> {
     assert_refused(&rt, rt.alloc(), input, "refused 4 9 clash c=q\n")
 }
 
+#[test]
+fn where_no_world_is_allowed_no_mode_is_to_blame(rt: HostRuntime) -> Result<(), Fail> {
+    let input = "titan 1\nrule false\nscript\n";
+    assert_refused(&rt, rt.alloc(), input, "refused 3 9 clash\n")
+}
+
 /// One value for any two of three that are on, and none for all three. The idle one has nothing to do with them.
 const THREE: &str =
     "titan 1\ncomponent a = off, on start off\ncomponent idle = p, q start q\ncomponent b = on, off start off\ncomponent c = off, on start off\nvar x = r, s, t\n";

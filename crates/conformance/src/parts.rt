@@ -1,7 +1,7 @@
 ghost use Rattle.std.specs.Prelude.{◌≡◌, ◌<◌, ◌≤◌, ◌↔◌, All, IfOk, IsTrue, length};
 ghost use Rattle.cca_base.specs.Cube.{Lacks};
 ghost use Rattle.cca_base.specs.Formula.{is_within, subject_within};
-ghost use Rattle.cca_base.specs.Model.{HasMode};
+ghost use Rattle.cca_base.specs.Model.{HasMode, IsComplete};
 ghost use Rattle.cca_base.specs.State.{HasValue};
 ghost use Rattle.clause_form.specs.Clauses.{AreClauses};
 
@@ -12,7 +12,9 @@ use std::alloc::Global;
 use std::test::*;
 
 /// The model of these lines.
-pub fn model_of(alloc: Global, lines: &[&str]) -> Result<Model, Fail> {
+pub fn model_of(alloc: Global, lines: &[&str]) -> Result<Model, Fail>
+    ensures { IfOk result (λ m. IsComplete m) }
+{
     let mut reader = ModelReader::open(alloc)?;
     let mut refused = false;
     for line in lines {
@@ -53,7 +55,7 @@ fn has_value(model: &Model, v: u16, value: u8) -> bool
     (v as usize) < variables.len() && (value as usize) < variables.get(v as usize).values.len()
 }
 
-fn lacks(pairs: &[Pair], c: u16) -> bool
+pub fn lacks(pairs: &[Pair], c: u16) -> bool
     ensures { IsTrue result → Lacks c pairs.now }
 {
     pairs.iter().all(|p| p.item != c)

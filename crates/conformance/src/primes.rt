@@ -20,7 +20,7 @@ fn states_of(alloc: Global, model: &Model) -> Result<Clauses, Fail> {
 }
 
 /// The ways of the model's first move.
-fn ways_of(alloc: Global, model: &Model) -> Result<List<Cube>, Fail> {
+fn first_ways(alloc: Global, model: &Model) -> Result<List<Cube>, Fail> {
     if model.moves().len() == 0 {
         return Err(Fail::from("no move"));
     }
@@ -141,7 +141,7 @@ fn cases_over_all_modes_need_none_of_them(rt: HostRuntime) -> Result<(), Fail> {
             "move c off -> on by c_on when (a = p and b = q) or (a = r and b = q)",
         ],
     )?;
-    let cubes = ways_of(rt.alloc(), &model)?;
+    let cubes = first_ways(rt.alloc(), &model)?;
     assert_eq!(rt; cubes.len(), 1);
     assert_way(&rt, &cubes, 0, &[Pair { item: 1, value: 1 }])
 }
@@ -152,7 +152,7 @@ fn as_many_ways_as_there_may_be(rt: HostRuntime) -> Result<(), Fail> {
         rt.alloc(),
         "move f off -> on by go when a in {m0, m1, m2, m3} and b in {m0, m1, m2, m3} and c in {m0, m1, m2, m3} and d in {m0, m1, m2, m3}",
     )?;
-    let cubes = ways_of(rt.alloc(), &model)?;
+    let cubes = first_ways(rt.alloc(), &model)?;
     assert_eq!(rt; cubes.len(), 256);
     let last = [
         Pair { item: 0, value: 3 },
@@ -190,14 +190,14 @@ fn a_guard_over_a_variable_of_two_components(rt: HostRuntime) -> Result<(), Fail
             "move c off -> on by go when bus = live",
         ],
     )?;
-    let cubes = ways_of(rt.alloc(), &model)?;
+    let cubes = first_ways(rt.alloc(), &model)?;
     assert_eq!(rt; cubes.len(), 2);
     assert_way(&rt, &cubes, 0, &[Pair { item: 0, value: 1 }])?;
     assert_way(&rt, &cubes, 1, &[Pair { item: 1, value: 1 }])
 }
 
 #[test]
-fn a_guard_over_a_variable_of_a_variable(rt: HostRuntime) -> Result<(), Fail> {
+fn a_guard_over_a_chain_of_variables(rt: HostRuntime) -> Result<(), Fail> {
     let model = model_of(
         rt.alloc(),
         &[
@@ -207,14 +207,16 @@ fn a_guard_over_a_variable_of_a_variable(rt: HostRuntime) -> Result<(), Fail> {
             "component c = off, on start off",
             "var lamp = dark, lit",
             "var fan = still, turning",
+            "var line = dead, live",
             "var bus = dead, live",
-            "rule lamp = lit iff bus = live",
-            "rule fan = turning iff b = on",
             "rule bus = live iff a = on",
+            "rule line = live iff bus = live",
+            "rule fan = turning iff b = on",
+            "rule lamp = lit iff line = live",
             "move c off -> on by go when lamp = lit",
         ],
     )?;
-    let cubes = ways_of(rt.alloc(), &model)?;
+    let cubes = first_ways(rt.alloc(), &model)?;
     assert_eq!(rt; cubes.len(), 1);
     assert_way(&rt, &cubes, 0, &[Pair { item: 0, value: 1 }])
 }

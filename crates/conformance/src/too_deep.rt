@@ -2,18 +2,18 @@ use crate::row::{assert_refused, assert_shown};
 use std::alloc::{AllocError, Global};
 use std::test::Fail;
 
-/// Adds that all lamps before this one are on, with this text around `=`, and before each with one of these.
+/// Adds that all components before this one stand so, and before each of them one of these.
 fn push_earlier(
     alloc: Global,
     text: &mut String,
-    lamp: u64,
+    component: u64,
     first: &str,
     other: &str,
-    equals: &str,
+    stands: &str,
 ) -> Result<(), AllocError> {
-    for c in 1..lamp {
+    for c in 1..component {
         let before = if c == 1 { first } else { other };
-        text.push_str(&format!(in alloc; "{before}c{c}{equals}on")?)?;
+        text.push_str(&format!(in alloc; "{before}c{c}{stands}")?)?;
     }
     Ok(())
 }
@@ -30,7 +30,8 @@ fn push_moves(
     if lamp == 1 {
         text.push_str("true")?;
     }
-    push_earlier(alloc, text, lamp, "", " and ", equals)?;
+    let on = format!(in alloc; "{equals}on")?;
+    push_earlier(alloc, text, lamp, "", " and ", &on)?;
     text.push_str(&format!(in alloc; "\nmove c{lamp} on{arrow}off by off{lamp} when true\n")?)
 }
 
@@ -76,7 +77,7 @@ fn push_bounds(alloc: Global, text: &mut String) -> Result<(), AllocError> {
 fn push_ways(alloc: Global, text: &mut String) -> Result<(), AllocError> {
     for lamp in 1..64u64 {
         text.push_str(&format!(in alloc; "ways c{lamp} off on{lamp} 1\ncube")?)?;
-        push_earlier(alloc, text, lamp, " ", " ", "=")?;
+        push_earlier(alloc, text, lamp, " ", " ", "=on")?;
         text.push_str(&format!(in alloc; "\nways c{lamp} on off{lamp} 1\ncube\n")?)?;
     }
     Ok(())
@@ -107,10 +108,10 @@ fn bounds_past_the_limit_are_too_deep(rt: HostRuntime) -> Result<(), Fail> {
     assert_refused(&rt, alloc, &input, "refused 194 12 deep c63\n")
 }
 
-/// A chain of 17 components of 16 modes, each of which needs the one before; these lines stand before the moves.
-fn long_chain(alloc: Global, lines: &str) -> Result<String, AllocError> {
+/// 16 components of 16 modes, each of which needs all before it; these lines stand before the moves.
+fn wide_chain(alloc: Global, lines: &str) -> Result<String, AllocError> {
     let mut text = String::from_str(alloc, "titan 1\n")?;
-    for c in 1..18u64 {
+    for c in 1..17u64 {
         text.push_str(&format!(in alloc; "component c{c} = m0, m1, m2, m3, m4, m5, m6, m7")?)?;
         text.push_str(", m8, m9, m10, m11, m12, m13, m14, m15 start m0\n")?;
     }
@@ -120,28 +121,29 @@ fn long_chain(alloc: Global, lines: &str) -> Result<String, AllocError> {
 }
 
 fn push_chain_moves(alloc: Global, text: &mut String) -> Result<(), AllocError> {
-    for c in 1..17u64 {
-        let next = c + 1;
-        text.push_str(&format!(in alloc; "move c{next} m0 -> m1 by go{next} when c{c} = m0\n")?)?;
+    for c in 2..17u64 {
+        text.push_str(&format!(in alloc; "move c{c} m0 -> m1 by go{c} when")?)?;
+        push_earlier(alloc, text, c, " ", " and ", " = m0")?;
+        text.push_str("\n")?;
     }
     Ok(())
 }
 
 #[test]
-fn a_long_chain_of_many_modes_is_too_deep(rt: HostRuntime) -> Result<(), Fail> {
+fn a_chain_of_many_modes_is_too_deep(rt: HostRuntime) -> Result<(), Fail> {
     let alloc = rt.alloc();
-    let mut input = long_chain(alloc, "")?;
+    let mut input = wide_chain(alloc, "")?;
     input.push_str("script\n")?;
-    assert_refused(&rt, alloc, &input, "refused 35 12 deep c17\n")
+    assert_refused(&rt, alloc, &input, "refused 33 12 deep c16\n")
 }
 
 #[test]
 fn a_cycle_comes_before_too_deep(rt: HostRuntime) -> Result<(), Fail> {
     let alloc = rt.alloc();
     let lines = "component a = off, on start off\ncomponent b = off, on start off\n";
-    let mut input = long_chain(alloc, lines)?;
+    let mut input = wide_chain(alloc, lines)?;
     input.push_str("move b off -> on by b_on when a = on\n")?;
     input.push_str("move a off -> on by a_on when b = on\n")?;
     input.push_str("script\n")?;
-    assert_refused(&rt, alloc, &input, "refused 39 11 cycle a b a\n")
+    assert_refused(&rt, alloc, &input, "refused 37 11 cycle a b a\n")
 }

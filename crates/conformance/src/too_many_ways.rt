@@ -61,15 +61,15 @@ fn the_first_move_of_too_many_ways_is_named(rt: HostRuntime) -> Result<(), Fail>
     assert_refused(&rt, alloc, &input, "refused 10 10 ways f off go\n")
 }
 
-const EIGHT: &str =
-    "titan 1\ncomponent a = m0, m1, m2, m3, m4, m5, m6, m7 start m0\ncomponent b = m0, m1, m2, m3, m4, m5, m6, m7 start m0\ncomponent c = m0, m1, m2, m3, m4, m5, m6, m7 start m0\n";
+const THREE: &str =
+    "titan 1\ncomponent a = m0, m1, m2, m3, m4, m5, m6, m7 start m0\ncomponent b = m0, m1, m2, m3, m4, m5, m6, m7 start m0\ncomponent c = m0, m1, m2, m3, m4, m5, m6 start m0\n";
 
 #[test]
-fn a_move_of_343_ways_is_refused(rt: HostRuntime) -> Result<(), Fail> {
+fn a_move_of_294_ways_is_refused(rt: HostRuntime) -> Result<(), Fail> {
     let alloc = rt.alloc();
     let last =
         "component d = p start p\nmove d p -> p by go when a != m0 and b != m0 and c != m0\nscript\n";
-    let input = joined(alloc, &[EIGHT, last])?;
+    let input = joined(alloc, &[THREE, last])?;
     assert_refused(&rt, alloc, &input, "refused 7 10 ways d p go\n")
 }
 

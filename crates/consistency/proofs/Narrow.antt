@@ -7,11 +7,10 @@ use Rattle.std.proofs.lemmas.List.Elements.{at_read}
 use Rattle.cca_base.specs.Sets.{has}
 use Rattle.clause_form.specs.declared.clause.Literal.{Literal}
 use Rattle.clause_form.specs.declared.clause.Clause.{Clause}
-use Rattle.clause_form.specs.Clauses.{is_true, is_met}
+use Rattle.clause_form.specs.Clauses.{is_true, is_met, AreBelow}
 use Rattle.consistency.specs.declared.domain.Domain.{Domain}
 use Rattle.consistency.specs.declared.subjects.SubjectSet.{SubjectSet}
 use Rattle.consistency.specs.Subjects.{is_in}
-use Rattle.clause_form.specs.Formulas.{AreBelow}
 use Rattle.consistency.specs.Search.{AllMet, OthersFalse, HasReasons, Agrees, Knows, nothing, values_at}
 
 -- a true literal of a clause that is met

@@ -2,7 +2,7 @@
 use Rattle.std.specs.Prelude.{◌≡◌, ℕ, ◌<◌, ◌≤◌, true, length, slice_index}
 use Rattle.cca_base.specs.Sets.{has}
 use Rattle.cca_base.specs.declared.limits.TheConstants.{MAX_CHOICES}
-use Rattle.clause_form.specs.Formulas.{AllBelow}
+use Rattle.clause_form.specs.Clauses.{AllBelow}
 use Rattle.consistency.specs.declared.problem.Problem.{Problem}
 use Rattle.consistency.specs.declared.subjects.TheConstants.{MAX_SUBJECTS}
 

@@ -1,6 +1,6 @@
 ghost use Rattle.std.specs.Prelude.{◌<◌, length, IfOk, OnOk};
 ghost use Rattle.cca_base.specs.declared.limits.TheConstants.{MAX_CHOICES};
-ghost use Rattle.clause_form.specs.Formulas.{AllBelow};
+ghost use Rattle.clause_form.specs.Clauses.{AllBelow};
 ghost use Rattle.consistency.specs.declared.subjects.TheConstants.{MAX_SUBJECTS};
 ghost use Rattle.consistency.specs.Search.{KeepsAll, IsClashOfAll, Chooses, KeepsMore, IsClashOfMore};
 

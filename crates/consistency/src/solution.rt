@@ -1,6 +1,5 @@
 ghost use Rattle.std.specs.Prelude.{◌≡◌, length, true, false};
-ghost use Rattle.clause_form.specs.Clauses.{is_met};
-ghost use Rattle.clause_form.specs.Formulas.{AreBelow};
+ghost use Rattle.clause_form.specs.Clauses.{is_met, AreBelow};
 ghost use Rattle.consistency.specs.Search.{IsSolution};
 ghost use Rattle.consistency.specs.Problem.{IsProblem};
 

@@ -1,5 +1,5 @@
 ghost use Rattle.std.specs.Prelude.{◌≤◌, length, IfSome};
-ghost use Rattle.clause_form.specs.Formulas.{AreBelow};
+ghost use Rattle.clause_form.specs.Clauses.{AreBelow};
 ghost use Rattle.consistency.specs.Search.{OthersFalse, HasReasons, Keeps, IsVisit};
 
 use crate::domain::Domain;

@@ -6,6 +6,7 @@ use mathlib.Core.Bool.{or-true, and-false}
 use Rattle.cca_base.specs.Sets.{has}
 use Rattle.elimination.specs.Partial.{IsWithin, IsTotal, HasOutside}
 use Rattle.elimination.specs.Rows.{fits, row_open, all_open, is_wide, any_below, is_zero, fix_row, CanMeet}
+use Rattle.std.proofs.lemmas.Bool.{and_from}
 use Rattle.elimination.proofs.RowLemmas.{and_parts, eqb_same, fits_empty, length-within, list_all_implies}
 
 -- ---- rows that name the subject, and the others
@@ -92,6 +93,13 @@ any_alike (suc (suc n)) b t h e = or_same b ∙ ap (λ c. c || b) (any_alike (su
 
 pub unnamed_open : (n x : ℕ) (q : List (Option ℕ)) (rows : List (List ℕ)) → 0 < n → list_all (is_zero x) rows ≡ true → all_open q rows ≡ any_below n (λ v. all_open (set q x (Some v)) rows)
 unnamed_open n x q rows some h = any_alike n (all_open q rows) (λ v. all_open (set q x (Some v)) rows) some (λ v. same_open q x v rows h)
+
+pub unnamed_zero : (x y : ℕ) (rows : List (List ℕ)) → list_all (is_zero x) rows ≡ true → list_all (λ row. is_zero y (fix_row x row)) rows ≡ true → list_all (is_zero y) rows ≡ true
+unnamed_zero x y [] h k = refl
+unnamed_zero x y (r ∷ rows) h k =
+    let a = and_parts (is_zero x r) (list_all (is_zero x) rows) h in
+    let b = and_parts (is_zero y (fix_row x r)) (list_all (λ row. is_zero y (fix_row x row)) rows) k in
+    and_from (is_zero y r) (list_all (is_zero y) rows) (zero_unfixed x y r a.0 b.0) (unnamed_zero x y rows a.1 b.1)
 
 -- ---- some value
 

@@ -1,6 +1,6 @@
 ghost use Rattle.std.specs.Prelude.{◌≡◌, ℕ, true, ◌≤◌, ◌<◌, ◌||◌, All, IfOk, OnOk, length, nat_le, slice_index, take};
 ghost use Rattle.std.specs.List.{list_all};
-ghost use Rattle.clause_form.specs.Clauses.{AreClauses, IsOfSubjects, all_met, is_met, is_true, meets};
+ghost use Rattle.clause_form.specs.Clauses.{AreBelow, AreClauses, all_met, is_met, is_true, meets};
 ghost use Rattle.cca_base.specs.Sets.{has};
 ghost use Rattle.elimination.specs.Partial.{Values, given};
 ghost use Rattle.elimination.specs.Rows.{all_open, row_open, is_wide, is_zero};
@@ -42,7 +42,7 @@ pub fn least_rows_of(alloc: Global, clauses: &Clauses) -> Result<Vec<Row>, Alloc
 
 // The row of a clause over `n` subjects.
 fn row_of(alloc: Global, n: usize, clause: &Clause) -> Result<Row, AllocError>
-    requires { All (λ literal. literal.subject < n) clause.now.literals }
+    requires { AreBelow n clause.now.literals }
     ensures wide { IfOk result (λ r. is_wide n r ≡ true) }
     ensures open { IfOk result (λ r. (xs : Values) → length xs ≡ n
         → row_open (given xs) r ≡ meets xs clause.now) }

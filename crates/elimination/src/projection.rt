@@ -3,7 +3,7 @@ ghost use Rattle.std.specs.List.{list_all};
 ghost use Rattle.clause_form.specs.Clauses.{AreClauses};
 ghost use Rattle.elimination.specs.Partial.{Partial, IsWithin, HasOutside};
 ghost use Rattle.elimination.specs.Rows.{all_open, any_below, CanMeet, fix_row, is_wide, is_zero};
-ghost use Rattle.elimination.specs.Projection.{IsProjection};
+ghost use Rattle.elimination.specs.Projection.{IsProjection, Projects};
 
 use crate::convert::{clauses_of, first_sizes, rows_of};
 use crate::gathering::gather;
@@ -57,13 +57,7 @@ fn project_one(alloc: Global, sizes: &[u8], rows: &mut Vec<Row>, x: usize) -> Re
     requires small { All (λ n. n ≤ 16) sizes.now }
     requires subject { x < length sizes.now }
     requires wide { list_all (is_wide (length sizes.now)) rows.old.items ≡ true }
-    ensures wide { OnOk result (list_all (is_wide (length sizes.now)) rows.new.items ≡ true) }
-    ensures zero { OnOk result ((y : ℕ)
-        → list_all (λ row. is_zero y (fix_row x row)) rows.old.items ≡ true
-        → list_all (is_zero y) rows.new.items ≡ true) }
-    ensures open { OnOk result ((q : Partial) → IsWithin sizes.now q
-        → all_open q rows.new.items ≡ any_below (slice_index sizes.now x) (λ v.
-        all_open (slice_set q x (Some v)) rows.old.items)) }
+    ensures { OnOk result (Projects sizes.now x rows.old.items rows.new.items) }
 {
     if sizes[x] > 0 && are_unnamed(rows.as_slice(), x) {
         return Ok(());
@@ -71,7 +65,7 @@ fn project_one(alloc: Global, sizes: &[u8], rows: &mut Vec<Row>, x: usize) -> Re
     project_named(alloc, sizes, rows, x)
 }
 
-// The same where rows may name the subject.
+// The same by joining the rows that name the subject.
 fn project_named(
     alloc: Global,
     sizes: &[u8],
@@ -81,13 +75,7 @@ fn project_named(
     requires small { All (λ n. n ≤ 16) sizes.now }
     requires subject { x < length sizes.now }
     requires wide { list_all (is_wide (length sizes.now)) rows.old.items ≡ true }
-    ensures wide { OnOk result (list_all (is_wide (length sizes.now)) rows.new.items ≡ true) }
-    ensures zero { OnOk result ((y : ℕ)
-        → list_all (λ row. is_zero y (fix_row x row)) rows.old.items ≡ true
-        → list_all (is_zero y) rows.new.items ≡ true) }
-    ensures open { OnOk result ((q : Partial) → IsWithin sizes.now q
-        → all_open q rows.new.items ≡ any_below (slice_index sizes.now x) (λ v.
-        all_open (slice_set q x (Some v)) rows.old.items)) }
+    ensures { OnOk result (Projects sizes.now x rows.old.items rows.new.items) }
 {
     let with = naming(alloc, rows.as_slice(), x)?;
     let more = gather(alloc, sizes, with.as_slice(), x)?;

@@ -8,15 +8,15 @@ use Rattle.std.proofs.lemmas.List.Sums.{list_all-from_AllPass}
 use Rattle.cca_base.specs.Automata.{Automata}
 use Rattle.cca_base.specs.Model.{value_counts}
 use Rattle.cca_base.specs.Formula.{truth}
-use Rattle.cca_base.specs.State.{IsWorld}
+use Rattle.cca_base.specs.State.{IsWorld, HasWorlds}
 use Rattle.cca_base.specs.declared.formula.Formula.{Formula}
 use Rattle.cca_base.specs.declared.limits.TheConstants.{MAX_CHOICES}
 use Rattle.clause_form.specs.declared.clause.Clauses.{Clauses}
-use Rattle.clause_form.specs.Clauses.{AreValues, IsOfSubjects}
+use Rattle.clause_form.specs.declared.clause.Clause.{Clause}
+use Rattle.clause_form.specs.Clauses.{AreValues, AreBelow, AllBelow}
 use Rattle.clause_form.specs.Formulas.{is_asked, AreClausesOf, AreDenying}
 use Rattle.guard_compiler.specs.Asked.{AreAskedOf}
 use Rattle.guard_compiler.specs.Relevant.{names_one, IsWithRelevant}
-use Rattle.guard_compiler.specs.Ways.{HasWorlds}
 use Rattle.guard_compiler.proofs.MeaningLemmas.{to_state}
 use Rattle.guard_compiler.proofs.RelevantLemmas.{relevant_exact}
 
@@ -26,20 +26,21 @@ from_world m s w k =
     (record { full = k.full ∙ sym long; values = λ x h. k.values x (omega (arith, long)) }, and_from (list_all (truth s w) m.rules && true) true (and_from (list_all (truth s w) m.rules) true (list_all-from_AllPass (truth s w) m.rules k.rules) refl) refl)
 
 -- the rules' subjects are the guard's
-pub same_subjects : (m : Automata) (guard : Formula) (rules denied : Clauses) → AreClausesOf m None None rules → AreDenying m guard denied → All (IsOfSubjects denied.sizes) rules.clauses
-same_subjects m guard rules denied r d = subst (λ z. All (IsOfSubjects z) rules.clauses) (r.sizes ∙ sym d.sizes) r.proper.subjects
+pub same_subjects : (m : Automata) (guard : Formula) (rules denied : Clauses) → AreClausesOf m None None rules → AreDenying m guard denied → AllBelow (length denied.sizes) rules.clauses
+same_subjects m guard rules denied r d = subst (λ (z : List ℕ). AllBelow (length z) rules.clauses) (r.sizes ∙ sym d.sizes) r.proper.subjects
 
 pub asked : (m : Automata) (guard : Formula) (n : ℕ) (rules denied all : Clauses) → n ≡ length m.components → HasWorlds m → AreClausesOf m None None rules → AreDenying m guard denied
     → all.sizes ≡ denied.sizes → IsWithRelevant n rules.clauses denied.clauses all.clauses → AreAskedOf m guard all
 asked m guard n rules denied all count worlds r d same with =
     let chosen = filter (names_one with.set) rules.clauses in
-    let subjects : All (IsOfSubjects denied.sizes) (denied.clauses ++ chosen) =
-    All-append (IsOfSubjects denied.sizes) denied.clauses chosen d.proper.subjects (All-filter (names_one with.set) (IsOfSubjects denied.sizes) rules.clauses (same_subjects m guard rules denied r d)) in
+    let below : Clause → Type 0 = λ clause. AreBelow (length denied.sizes) clause.literals in
+    let subjects : AllBelow (length denied.sizes) (denied.clauses ++ chosen) =
+    All-append below denied.clauses chosen d.proper.subjects (All-filter (names_one with.set) below rules.clauses (same_subjects m guard rules denied r d)) in
     record {
       sizes = same ∙ d.sizes;
       proper = record {
         few = subst (All (λ k. k ≤ MAX_CHOICES)) (sym same) d.proper.few;
-        subjects = subst (λ z. All (IsOfSubjects z) all.clauses) (sym same) (subst (All (IsOfSubjects denied.sizes)) (sym with.are) subjects);
+        subjects = subst (λ (z : List ℕ). AllBelow (length z) all.clauses) (sym same) (subst (AllBelow (length denied.sizes)) (sym with.are) subjects);
       };
       meaning = λ s v.
           let long : length s ≡ n = v.full ∙ (length-map m.components (λ c. length c.modes) ∙ sym count) in

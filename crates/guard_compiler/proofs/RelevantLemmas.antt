@@ -11,13 +11,14 @@ use Rattle.clause_form.specs.declared.clause.Literal.{Literal}
 use Rattle.clause_form.specs.declared.clause.Clause.{Clause}
 use Rattle.clause_form.specs.Clauses.{AreValues, is_true, is_met, meets, all_met}
 use Rattle.guard_compiler.specs.Relevant.{names_one, IsOver, IsWithRelevant}
-use Rattle.guard_compiler.specs.Marks.{is_marked, IsClosed}
+use Rattle.guard_compiler.specs.Marks.{IsClosed}
+use Rattle.cca_base.specs.Flags.{is_set}
 
 -- those of closed clauses that name a marked subject have only marked variables
-pub filtered_over : (n : ℕ) (marks : List Bool) (rules : List Clause) → IsClosed n rules marks → All (IsOver n (is_marked marks)) (filter (names_one (is_marked marks)) rules)
-filtered_over n marks rules closed = all_from (IsOver n (is_marked marks)) (filter (names_one (is_marked marks)) rules) (λ clause h.
-    let there = from_filter (names_one (is_marked marks)) rules clause h in
-    all_of (λ c. names_one (is_marked marks) c ≡ true → IsOver n (is_marked marks) c) rules clause closed there.1 there.0)
+pub filtered_over : (n : ℕ) (marks : List Bool) (rules : List Clause) → IsClosed n rules marks → All (IsOver n (is_set marks)) (filter (names_one (is_set marks)) rules)
+filtered_over n marks rules closed = all_from (IsOver n (is_set marks)) (filter (names_one (is_set marks)) rules) (λ clause h.
+    let there = from_filter (names_one (is_set marks)) rules clause h in
+    all_of (λ c. names_one (is_set marks) c ≡ true → IsOver n (is_set marks) c) rules clause closed there.1 there.0)
 
 -- ---- values of two lists, by a set
 

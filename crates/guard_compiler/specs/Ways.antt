@@ -9,11 +9,6 @@ use Rattle.cca_base.specs.declared.limits.TheConstants.{MAX_WAYS}
 use Rattle.cca_base.specs.Automata.{Automata}
 use Rattle.cca_base.specs.Cube.{AreInCubeOrder}
 use Rattle.cca_base.specs.Implicants.{PrimeImplicant}
-use Rattle.cca_base.specs.State.{IsState, HasWorld}
-
--- every state has a world
-abbrev pub HasWorlds : Automata → Type 0
-HasWorlds m = (s : List ℕ) → IsState m s → HasWorld m s
 
 -- so it is of the model's move with that number
 abbrev pub AtMove : Automata → ℕ → (Move → Type 0) → Type 0

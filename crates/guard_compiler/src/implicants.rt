@@ -4,7 +4,8 @@ ghost use Rattle.cca_base.specs.Formula.{is_within};
 ghost use Rattle.cca_base.specs.declared.limits.TheConstants.{MAX_WAYS};
 ghost use Rattle.clause_form.specs.Formulas.{AreClausesOf};
 ghost use Rattle.guard_compiler.specs.Asked.{AreAskedOf};
-ghost use Rattle.guard_compiler.specs.Ways.{AtMove, HasManyWays, HasWorlds, IsStop};
+ghost use Rattle.guard_compiler.specs.Ways.{AtMove, HasManyWays, IsStop};
+ghost use Rattle.cca_base.specs.State.{HasWorlds};
 
 use crate::fixed::with_value;
 use crate::relevant::with_relevant;
@@ -35,8 +36,8 @@ fn asked_of(
     Ok(asked)
 }
 
-/// Exactly the prime implicants of a move, in cube order, by the clauses of the model's rules. The move is refused where
-/// it has more than `MAX_WAYS`; the other error is want of memory.
+/// Exactly the prime implicants of a move, in cube order, by the clauses of the model's rules, for a model whose states all
+/// have a world. The move is refused where it has more than `MAX_WAYS`; the other error is want of memory.
 pub fn ways_of(
     alloc: Global,
     model: &Model,
@@ -65,8 +66,8 @@ pub fn ways_of(
     }
 }
 
-/// Exactly the prime implicants of a move, in cube order. The move is refused where it has more than `MAX_WAYS`; the
-/// other error is want of memory.
+/// Exactly the prime implicants of a move, in cube order, for a model whose states all have a world. The move is refused
+/// where it has more than `MAX_WAYS`; the other error is want of memory.
 pub fn ways(alloc: Global, model: &Model, move_number: u16) -> Result<List<Cube>, Stop>
     requires worlds { HasWorlds model.now }
     requires number { move_number < length model.now.moves }

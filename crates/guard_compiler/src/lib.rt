@@ -1,5 +1,5 @@
-//! Guards as their prime implicants. A caller gets, for a move of a model, exactly the minimal conditions on the other
-//! components from which the guard follows, in cube order, or hears that there are too many.
+//! Guards as their prime implicants. A caller whose model has a world for every state gets, for a move of it, exactly the
+//! minimal conditions on the other components from which the guard follows, in cube order, or hears that there are too many.
 #![tactic(auto)]
 
 mod fixed;

@@ -1,6 +1,7 @@
 ghost use Rattle.std.specs.Prelude.{◌≡◌, ◌++◌, All, IfOk, OnOk, filter, length};
-ghost use Rattle.clause_form.specs.Formulas.{AllBelow};
-ghost use Rattle.guard_compiler.specs.Marks.{AreOfVariables, AreRelevantMarks, is_marked};
+ghost use Rattle.clause_form.specs.Clauses.{AllBelow};
+ghost use Rattle.guard_compiler.specs.Marks.{AreOfVariables, AreRelevantMarks};
+ghost use Rattle.cca_base.specs.Flags.{is_set};
 ghost use Rattle.guard_compiler.specs.Relevant.{IsOver, IsWithRelevant, names_one};
 
 use crate::marks::{mark_all, names_marked, spread};
@@ -18,14 +19,14 @@ fn guard_marks(
     requires { AllBelow subjects guard.now }
     ensures full { IfOk result (λ v. length v.items ≡ subjects) }
     ensures variables { IfOk result (λ v. AreOfVariables components v.items) }
-    ensures over { IfOk result (λ v. All (IsOver components (is_marked v.items)) guard.now) }
+    ensures over { IfOk result (λ v. All (IsOver components (is_set v.items)) guard.now) }
 {
     let mut marks = vec![in alloc; false; subjects]?;
     mark_all(guard, components, marks.as_mut_slice());
     Ok(marks)
 }
 
-/// Marks of the guard's variables, and of the variables that rules' clauses name beside a marked one.
+/// Marks of some variables, among them those of the guard and, beside one of a rule's clause, the others of that clause.
 fn marks_of(
     alloc: Global,
     components: u16,
@@ -50,7 +51,7 @@ fn add_marked(
     clauses: &mut List<Clause>,
 ) -> Result<(), AllocError>
     requires { AllBelow (length marks.now) rules.now }
-    ensures { OnOk result (clauses.new ≡ clauses.old ++ filter (names_one (is_marked marks.now)) rules.now) }
+    ensures { OnOk result (clauses.new ≡ clauses.old ++ filter (names_one (is_set marks.now)) rules.now) }
 {
     for clause in rules {
         if names_marked(clause, marks) {
@@ -62,8 +63,8 @@ fn add_marked(
     Ok(())
 }
 
-/// The guard's clauses, and behind them those of the rules' that share a variable with it, directly or through other such
-/// clauses. The variables are the subjects from `components` on. The error is want of memory.
+/// The guard's clauses, and behind them those of the rules' that name one of some variables, among which are all variables
+/// of both. The variables are the subjects from `components` on. The error is want of memory.
 pub(crate) fn with_relevant(
     alloc: Global,
     components: u16,

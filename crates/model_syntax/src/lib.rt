@@ -4,6 +4,7 @@
 
 mod additions;
 mod atom;
+mod atom_steps;
 mod checks;
 mod codes;
 mod faults;
@@ -29,6 +30,7 @@ mod refused;
 mod shorter;
 mod steps;
 mod token_lines;
+mod transitions;
 
 pub use formula::texts_are_read_one_way;
 pub use item::lines_are_spelled;

@@ -1,12 +1,11 @@
 -- Models of the first forms, and what the plain planner's replies are good for.
 use Rattle.std.specs.Prelude.{◌≡◌, ℕ, false, List, [], ◌∷◌, ◌-◌, length, map, All}
-use Rattle.cca_base.specs.Model.{IsComplete}
+use Rattle.cca_base.specs.Model.{IsComplete, WellFormed, HasMode}
 use Rattle.cca_base.specs.Orders.{numbers_below}
 use Rattle.cca_base.specs.Accepted.{CompiledParts, IsCompiled}
 use Rattle.cca_base.specs.declared.cube.Pair.{Pair}
 use Rattle.cca_base.specs.declared.formula.Formula.TheVariants.{True}
 use Rattle.cca_base.specs.Automata.{Automata}
-use Rattle.cca_base.specs.Model.{WellFormed, HasMode}
 use Rattle.cca_base.specs.Cube.{IsCube}
 use Rattle.cca_base.specs.State.{IsState}
 use Rattle.cca_base.specs.Choice.{Chosen}

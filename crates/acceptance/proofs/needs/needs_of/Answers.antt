@@ -1,6 +1,6 @@
 use Rattle.std.proofs.Common.{length, ap, subst, arith}
 use Rattle.cca_base.specs.Relations.{AreExactly}
-use Rattle.causal_graph.specs.Search.{IsSet}
+use Rattle.cca_base.specs.Flags.{IsSet}
 use Rattle.acceptance.proofs.MarkLemmas.{row_none, row_more, row_all}
 use Rattle.acceptance.proofs.needs.needs_of.Goals as goal
 

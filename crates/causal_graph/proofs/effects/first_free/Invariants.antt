@@ -1,5 +1,5 @@
 use Rattle.std.proofs.Common.{ℕ, ◌<◌, slice_index}
-use Rattle.causal_graph.specs.Search.{IsSet}
+use Rattle.cca_base.specs.Flags.{IsSet}
 use Rattle.causal_graph.proofs.effects.first_free.Given as goal
 
 abbrev pub invariant-loop-i : goal.invariant-loop-i

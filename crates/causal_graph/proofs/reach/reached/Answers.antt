@@ -1,7 +1,8 @@
 use Rattle.std.proofs.Common.{◌≡◌, ◌++◌, ℕ, Bool, false, List, [], length, get_or, take, drop, replicate, sym, ap, subst, ◌∙◌, rules}
 use Rattle.std.proofs.lemmas.Option.{get_or_from_slice_get}
 use Rattle.std.proofs.lemmas.List.{length-replicate}
-use Rattle.causal_graph.specs.Search.{IsSet, AreNarrow, Marks, Spreads}
+use Rattle.causal_graph.specs.Search.{AreNarrow, Marks, Spreads}
+use Rattle.cca_base.specs.Flags.{IsSet}
 use Rattle.causal_graph.proofs.NeededLemmas.{none_set}
 use Rattle.causal_graph.proofs.ReachLemmas.{reaching_first, reaching_more, reached_all}
 use Rattle.causal_graph.proofs.Written.{written_back}

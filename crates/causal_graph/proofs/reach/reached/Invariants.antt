@@ -1,4 +1,4 @@
-use Rattle.causal_graph.specs.Search.{unset}
+use Rattle.cca_base.specs.Flags.{unset}
 use Rattle.causal_graph.proofs.ReachLemmas.{IsReaching}
 use Rattle.causal_graph.proofs.reach.reached.Given as goal
 

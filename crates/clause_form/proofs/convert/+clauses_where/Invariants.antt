@@ -1,8 +1,8 @@
 use Rattle.std.proofs.Common.{◌≡◌, ℕ, List, ◌++◌, ◌-◌, length, IsTrue, drop, map, not}
 use Rattle.std.specs.List.{list_all, list_any}
 use Rattle.cca_base.specs.Formula.{truth, is_within}
-use Rattle.clause_form.specs.Clauses.{AreValues, all_met}
-use Rattle.clause_form.specs.Formulas.{AllBelow, agrees, combine}
+use Rattle.clause_form.specs.Clauses.{AreValues, all_met, AllBelow}
+use Rattle.clause_form.specs.Formulas.{agrees, combine}
 use Rattle.clause_form.proofs.convert.+clauses_where.Given as goal
 
 abbrev pub decreases-clauses_where : goal.decreases-clauses_where

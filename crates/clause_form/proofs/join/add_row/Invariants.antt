@@ -1,6 +1,5 @@
 use Rattle.std.proofs.Common.{◌≡◌, ℕ, List, ◌||◌, ◌&&◌, take, length}
-use Rattle.clause_form.specs.Clauses.{AreValues, is_met, all_met}
-use Rattle.clause_form.specs.Formulas.{AllBelow}
+use Rattle.clause_form.specs.Clauses.{AreValues, is_met, all_met, AllBelow}
 use Rattle.clause_form.proofs.join.add_row.Given as goal
 
 abbrev pub invariant-loop-clause : goal.invariant-loop-clause

@@ -1,7 +1,6 @@
 use Rattle.std.proofs.Common.{◌≡◌, List, true, subst}
 use Rattle.clause_form.specs.declared.clause.Literal.{Literal}
-use Rattle.clause_form.specs.Clauses.{is_met, meets}
-use Rattle.clause_form.specs.Formulas.{AreBelow}
+use Rattle.clause_form.specs.Clauses.{is_met, meets, AreBelow}
 use Rattle.clause_form.proofs.ClauseLemmas.{kept_push, fewer_push, kept_skip, fewer_skip, All-before, below_push}
 use Rattle.clause_form.proofs.join.without_absorbed.Goals as goal
 

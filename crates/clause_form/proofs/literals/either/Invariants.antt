@@ -1,6 +1,5 @@
 use Rattle.std.proofs.Common.{◌≡◌, ℕ, List, ◌||◌, take}
-use Rattle.clause_form.specs.Clauses.{is_met}
-use Rattle.clause_form.specs.Formulas.{AreBelow}
+use Rattle.clause_form.specs.Clauses.{is_met, AreBelow}
 use Rattle.clause_form.proofs.literals.either.Given as goal
 
 abbrev pub invariant-loop-literal : goal.invariant-loop-literal

@@ -1,7 +1,8 @@
 use Rattle.std.proofs.Common.{take, length}
 use Rattle.std.specs.List.{list_all}
 use Rattle.cca_base.specs.Formula.{truth}
-use Rattle.clause_form.specs.Formulas.{AllBelow, Adds}
+use Rattle.clause_form.specs.Formulas.{Adds}
+use Rattle.clause_form.specs.Clauses.{AllBelow}
 use Rattle.clause_form.proofs.whole.add_rules.Given as goal
 
 abbrev pub invariant-loop-rule : goal.invariant-loop-rule

@@ -2,7 +2,7 @@ use Rattle.std.proofs.Common.{◌≡◌, ℕ, ◌<◌, ◌++◌, List, length, s
 use Rattle.cca_base.specs.Model.{mode_counts, value_counts}
 use Rattle.clause_form.proofs.ModelLemmas.{within_counts, all_within_counts, mode_small, asked}
 use Rattle.cca_base.proofs.Within.{mode_within}
-use Rattle.clause_form.specs.Formulas.{AllBelow}
+use Rattle.clause_form.specs.Clauses.{AllBelow}
 use Rattle.clause_form.proofs.whole.clauses_of.Goals as goal
 
 pub add_rules-requires-clause-within : goal.add_rules-requires-clause-within

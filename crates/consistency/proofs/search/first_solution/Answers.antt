@@ -2,7 +2,7 @@ use Rattle.std.proofs.Common.{◌≡◌, ℕ, ◌<◌, List, [], length, arith, 
 use Rattle.clause_form.specs.declared.clause.Clause.{Clause}
 use Rattle.consistency.specs.declared.domain.Domain.{Domain}
 use Rattle.cca_base.specs.Sets.{has}
-use Rattle.clause_form.specs.Formulas.{AllBelow}
+use Rattle.clause_form.specs.Clauses.{AllBelow}
 use Rattle.consistency.specs.Search.{IsSolution, Knows, IsClashOfAll, values_at}
 use Rattle.consistency.proofs.Seek.{written}
 use Rattle.consistency.proofs.search.first_solution.Goals as goal

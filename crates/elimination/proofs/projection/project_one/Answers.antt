@@ -1,10 +1,16 @@
-use Rattle.std.proofs.Common.{get_or, sym, subst, ◌≡◌, ◌∙◌, true}
+use Rattle.std.proofs.Common.{get_or, length, sym, subst, ◌≡◌, ◌∙◌, true}
 use Rattle.std.specs.List.{list_all}
 use Rattle.elimination.specs.Rows.{is_zero}
-use Rattle.elimination.proofs.ProjectLemmas.{unnamed_open}
+use Rattle.elimination.proofs.ProjectLemmas.{unnamed_open, unnamed_zero}
 use Rattle.elimination.proofs.projection.project_one.Goals as goal
 
-pub returns-then-are_unnamed-clause-open : goal.returns-then-are_unnamed-clause-open
-returns-then-are_unnamed-clause-open c = λ q w.
-    let unnamed : list_all (is_zero c.args.x) c.args.rows.now.items ≡ true = subst (λ rows. list_all (is_zero c.args.x) rows ≡ true) c.as_slice.ensures.value (sym c.are_unnamed.ensures ∙ c.if-are_unnamed.true) in
-    unnamed_open (get_or c.args.sizes.now c.args.x 0) c.args.x q c.args.rows.now.items c.if-sizes-x-gt0.true unnamed
+pub returns-then-are_unnamed : goal.returns-then-are_unnamed
+returns-then-are_unnamed c =
+    let x = c.args.x in
+    let rows = c.args.rows.now.items in
+    let unnamed : list_all (is_zero x) rows ≡ true = subst (λ rows. list_all (is_zero x) rows ≡ true) c.as_slice.ensures.value (sym c.are_unnamed.ensures ∙ c.if-are_unnamed.true) in
+    record {
+      wide = c.requires.wide;
+      zero = λ y h. unnamed_zero x y rows unnamed h;
+      «open» = λ q w. unnamed_open (get_or c.args.sizes.now x 0) x q rows c.if-sizes-x-gt0.true unnamed;
+    }

@@ -1,6 +1,6 @@
 use Rattle.std.proofs.Common.{All, List, length, ap, subst, sym, ◌∙◌}
 use Rattle.clause_form.specs.declared.clause.Clause.{Clause}
-use Rattle.clause_form.specs.Clauses.{IsOfSubjects}
+use Rattle.clause_form.specs.Clauses.{AllBelow}
 use Rattle.guard_compiler.specs.Relevant.{IsWithRelevant}
 use Rattle.guard_compiler.proofs.AskedLemmas.{asked, same_subjects}
 use Rattle.guard_compiler.proofs.implicants.asked_of.Goals as goal
@@ -8,7 +8,7 @@ use Rattle.guard_compiler.proofs.implicants.asked_of.Goals as goal
 pub with_relevant-requires-clause-rules : goal.with_relevant-requires-clause-rules
 with_relevant-requires-clause-rules c =
     let denied = c.in_ok-denied.denied in
-    subst (All (IsOfSubjects denied.sizes)) (sym c.as_slice.ensures) (same_subjects c.args.model.now c.args.guard.now c.args.rules.now denied c.requires.rules c.in_ok-denied.ensures)
+    subst (AllBelow (length denied.sizes)) (sym c.as_slice.ensures) (same_subjects c.args.model.now c.args.guard.now c.args.rules.now denied c.requires.rules c.in_ok-denied.ensures)
 
 pub returns : goal.returns
 returns c =

@@ -1,7 +1,7 @@
 use Rattle.std.proofs.Common.{◌≡◌, ◌<◌, ◌≤◌, ◌∙◌, true, All, length, subst, sym, arith}
 use Rattle.std.proofs.lemmas.List.{take_all}
 use Rattle.clause_form.specs.declared.clause.Literal.{Literal}
-use Rattle.guard_compiler.specs.Marks.{is_marked}
+use Rattle.cca_base.specs.Flags.{is_set}
 use Rattle.guard_compiler.proofs.MarkLemmas.{marked_new, marked_old}
 use Rattle.guard_compiler.proofs.marks.mark.Goals.{then-literal-components+then-not-marks-at, else-literal-components, else-literal-components-via-then-literal-components+else-not-marks-at, else-literal-components-via-else-literal-components}
 use Rattle.guard_compiler.proofs.marks.mark.Goals as goal
@@ -25,5 +25,5 @@ loop-literal-preserved c =
 
 pub returns-clause-over : goal.returns-clause-over
 returns-clause-over c =
-    let P : Literal → Type 0 = λ l. c.args.components ≤ l.subject → is_marked c.loop-literal.marks l.subject ≡ true in
+    let P : Literal → Type 0 = λ l. c.args.components ≤ l.subject → is_set c.loop-literal.marks l.subject ≡ true in
     subst (All P) (take_all c.loop-literal.literal-index c.as_slice-literal-items.result.now c.loop-literal-test.false ∙ c.as_slice-literal-items.ensures) c.loop-literal.invariant.over

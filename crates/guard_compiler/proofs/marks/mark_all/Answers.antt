@@ -1,6 +1,6 @@
 use Rattle.std.proofs.Common.{All, subst}
 use Rattle.std.proofs.lemmas.List.{take_all}
-use Rattle.guard_compiler.specs.Marks.{is_marked}
+use Rattle.cca_base.specs.Flags.{is_set}
 use Rattle.guard_compiler.specs.Relevant.{IsOver}
 use Rattle.guard_compiler.proofs.MarkLemmas.{all_marked_more}
 use Rattle.guard_compiler.proofs.marks.mark_all.Goals as goal
@@ -12,4 +12,4 @@ loop-clause-preserved c =
 
 pub returns-clause-over : goal.returns-clause-over
 returns-clause-over c =
-    subst (All (IsOver c.args.components (is_marked c.loop-clause.marks))) (take_all c.loop-clause.clause-index c.args.clauses.now c.loop-clause-test.false) c.loop-clause.invariant.over
+    subst (All (IsOver c.args.components (is_set c.loop-clause.marks))) (take_all c.loop-clause.clause-index c.args.clauses.now c.loop-clause-test.false) c.loop-clause.invariant.over
