@@ -40,6 +40,8 @@ pub mod NumberPlaces
 pub mod ItemWidths
 pub mod HeaderLine
 pub mod JoinedTokens
+pub mod PrintedParts
+pub mod PrintedRows
 pub mod PrintedFormulas
 pub mod PrintedNames
 pub mod PrintedLines

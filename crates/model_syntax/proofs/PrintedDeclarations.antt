@@ -21,9 +21,9 @@ use Rattle.model_syntax.specs.Lines.{Goes, Reads, Leads, unless, component_next}
 use Rattle.model_syntax.specs.Printing.{joined, name_at, component_said, variable_said}
 use Rattle.model_syntax.specs.RoundTrip.{AreOfTheirKinds}
 use Rattle.model_syntax.proofs.LookupLemmas.{position_none, different_text}
-use Rattle.model_syntax.proofs.PrintedFormulas.{names_kinds, name_parts, kinds_append, word_kind}
 use Rattle.model_syntax.proofs.PrintedLines.{begun, line_leads, IsAt, name_there, not_too_long, never_twice, none_long, name_words, all_are_names}
 use Rattle.model_syntax.proofs.PrintedNames.{pairs_right, pairs_across, all_left, all_right, not_first}
+use Rattle.model_syntax.proofs.PrintedParts.{names_kinds, name_parts, kinds_append, word_kind}
 
 pub or_no : (a b : Bool) → a ≡ false → b ≡ false → (a || b) ≡ false
 or_no true b e f = absurd cc

@@ -32,8 +32,9 @@ use Rattle.model_syntax.proofs.FormulaLemmas.{one_way}
 use Rattle.model_syntax.proofs.ItemGrammar.{item_again}
 use Rattle.model_syntax.proofs.JoinedTokens.{joined_read}
 use Rattle.model_syntax.proofs.LookupLemmas.{different_text}
-use Rattle.model_syntax.proofs.PrintedFormulas.{printed_text, name_parts}
+use Rattle.model_syntax.proofs.PrintedFormulas.{printed_text}
 use Rattle.model_syntax.proofs.PrintedNames.{HasNames, atom_read, place_found, member_at}
+use Rattle.model_syntax.proofs.PrintedParts.{name_parts}
 
 -- a reader behind `titan 1`
 abbrev pub begun : Automata → Reading

@@ -24,9 +24,9 @@ use Rattle.model_syntax.specs.RoundTrip.{AreOfTheirKinds}
 use Rattle.model_syntax.proofs.LookupLemmas.{position_none, different_text}
 use Rattle.model_syntax.proofs.PrintedDeclarations.{or_no}
 use Rattle.model_syntax.proofs.PrintedFaults.{not_ambiguous, not_into_broken, not_unmarked_exit, not_mended_twice}
-use Rattle.model_syntax.proofs.PrintedFormulas.{name_parts, word_kind}
 use Rattle.model_syntax.proofs.PrintedLines.{begun, line_leads, IsAt, name_there, not_too_long, IsReadAs, formula_read}
 use Rattle.model_syntax.proofs.PrintedNames.{HasNames, all_left, all_right, pairs_across, place_found}
+use Rattle.model_syntax.proofs.PrintedParts.{name_parts, word_kind}
 use Rattle.model_syntax.proofs.PrintedRules.{ends_words, ends_found, ends_kinds, ends_free}
 
 -- ---- lists by their front

@@ -28,7 +28,7 @@ use Rattle.model_syntax.specs.Meanings.{has_twice, with_found, with_numbers}
 use Rattle.model_syntax.specs.Printing.{name_of, names_in}
 use Rattle.model_syntax.proofs.LookupLemmas.{position_none, different_text}
 use Rattle.model_syntax.proofs.PositionLemmas.{position_map, position_cons}
-use Rattle.model_syntax.proofs.PrintedFormulas.{IsAtom}
+use Rattle.model_syntax.proofs.PrintedParts.{IsAtom}
 
 -- ---- elements of lists
 

@@ -21,9 +21,9 @@ use Rattle.model_syntax.specs.Lines.{Goes, Reads, Leads, unless, rule_next, with
 use Rattle.model_syntax.specs.Printing.{joined, name_of, name_at, formula_said, rule_said, ends_said, failure_said}
 use Rattle.model_syntax.specs.RoundTrip.{AreOfTheirKinds}
 use Rattle.model_syntax.proofs.PrintedDeclarations.{or_no, none_applies}
-use Rattle.model_syntax.proofs.PrintedFormulas.{name_parts, word_kind}
 use Rattle.model_syntax.proofs.PrintedLines.{begun, line_leads, IsAt, name_there, decimal_digits, IsReadAs, formula_read}
 use Rattle.model_syntax.proofs.PrintedNames.{HasNames, IsThere, there, all_right}
+use Rattle.model_syntax.proofs.PrintedParts.{name_parts, word_kind}
 
 module _ (m : Automata) (h : HasNames m) (rules : All (IsFormula m) m.rules) (few : length m.rules ≤ MAX_RULES) where
   -- the model with some of its rules, and without moves and failures
