@@ -1,5 +1,5 @@
 -- Which clauses say what formulas say.
-use Rattle.std.specs.Prelude.{◌≡◌, ◌==◌, ℕ, ◌<◌, Bool, true, false, not, ◌&&◌, ◌||◌, ◌+◌, ◌++◌, length, List, Option, Some, None, slice_index, All}
+use Rattle.std.specs.Prelude.{◌≡◌, ◌==◌, ℕ, Bool, true, false, not, ◌&&◌, ◌||◌, ◌+◌, ◌++◌, length, List, Option, Some, None, slice_index}
 use Rattle.std.specs.List.{list_all}
 use Rattle.cca_base.specs.Sets.{has}
 use Rattle.cca_base.specs.Automata.{Automata}
@@ -9,7 +9,6 @@ use Rattle.cca_base.specs.declared.cube.Pair.{Pair}
 use Rattle.cca_base.specs.declared.formula.Formula.{Formula}
 use Rattle.cca_base.specs.declared.formula.Subject.{Subject}
 use Rattle.cca_base.specs.declared.formula.Subject.TheVariants.{Component, Variable}
-use Rattle.clause_form.specs.declared.clause.Literal.{Literal}
 use Rattle.clause_form.specs.declared.clause.Clause.{Clause}
 use Rattle.clause_form.specs.declared.clause.Clauses.{Clauses}
 use Rattle.clause_form.specs.Clauses.{AreValues, AreClauses, all_met}

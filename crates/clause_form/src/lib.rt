@@ -11,4 +11,5 @@ mod sizes;
 mod whole;
 
 pub use clause::{Clause, Clauses, Literal};
+pub use sizes::sizes_of;
 pub use whole::{clauses_of, denied_clauses};

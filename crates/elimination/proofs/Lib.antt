@@ -2,3 +2,4 @@ pub mod ProjectLemmas
 pub mod RowLemmas
 pub mod ValueLemmas
 pub mod Projected
+pub mod SubjectLemmas

@@ -140,53 +140,53 @@ value_at (n ∷ sizes) (o ∷ b) (suc k) w t h = let l : k < length sizes = omeg
 abbrev pub IsProjected : List ℕ → ℕ → List (List ℕ) → List (List ℕ) → Type 0
 IsProjected sizes x rows more = (q : List (Option ℕ)) → IsWithin sizes q → all_open q more ≡ any_below (get_or sizes x 0) (λ v. all_open (set q x (Some v)) rows)
 
-wider : (keep x i : ℕ) → (i < keep) ⊎ (x + 1 ≤ i) → (i < keep) ⊎ (x ≤ i)
-wider keep x i (inl l) = inl l
-wider keep x i (inr l) = inr (omega arith)
+wider : (n x i : ℕ) → (i < x) ⊎ (n ≤ i) → (i < x + 1) ⊎ (n ≤ i)
+wider n x i (inl l) = inl (omega arith)
+wider n x i (inr l) = inr l
 
-apart : (keep x i : ℕ) → keep ≤ x → (i < keep) ⊎ (x + 1 ≤ i) → i ≢ x
-apart keep x i k (inl l) e = absurd (omega arith)
-apart keep x i k (inr l) e = absurd (omega arith)
+apart : (n x i : ℕ) → x < n → (i < x) ⊎ (n ≤ i) → i ≢ x
+apart n x i k (inl l) e = absurd (omega arith)
+apart n x i k (inr l) e = absurd (omega arith)
 
-place : (keep x i : ℕ) → (i < keep) ⊎ (x ≤ i) → (i ≡ x) ⊎ ((i < keep) ⊎ (x + 1 ≤ i))
-place keep x i (inl l) = inr (inl l)
-place keep x i (inr l) = grind arith
+place : (n x i : ℕ) → (i < x + 1) ⊎ (n ≤ i) → (i ≡ x) ⊎ ((i < x) ⊎ (n ≤ i))
+place n x i (inl l) = grind arith
+place n x i (inr l) = inr (inr l)
 
 some_of : (o : Option ℕ) (v : ℕ) → o ≡ Some v → IsSome o
 some_of o v e = subst (λ z. IsSome z) (sym e) refl
 
-has_set : (a : List (Option ℕ)) (keep x v : ℕ) → keep ≤ x → HasOutside keep (x + 1) a → HasOutside keep x (set a x (Some v))
-has_set a keep x v k t i h e =
+has_set : (a : List (Option ℕ)) (n x v : ℕ) → x < n → HasOutside x n a → HasOutside (x + 1) n (set a x (Some v))
+has_set a n x v k t i h e =
     let inside : i < length a = omega (arith, length-set a x (Some v)) in
-    elim (place keep x i e) [
+    elim (place n x i e) [
       | inl s ↦ let P : ℕ → Type 0 = λ z. IsSome (get_or (set a x (Some v)) z None) in
           subst P (sym s) (some_of _ v (get_or-set_same a x (Some v) None (subst (λ z. z < length a) s inside)))
-      | inr d ↦ subst (λ z. IsSome z) (sym (get_or-set_other a x i (Some v) None (apart keep x i k d))) (t i inside d)
+      | inr d ↦ subst (λ z. IsSome z) (sym (get_or-set_other a x i (Some v) None (apart n x i k d))) (t i inside d)
     ]
 
-pub sound_step : (sizes : List ℕ) (rows out more : List (List ℕ)) (keep x : ℕ) → keep ≤ x → x < length sizes → IsProjected sizes x out more
-    → ((a : List (Option ℕ)) → IsWithin sizes a → HasOutside keep x a → all_open a out ≡ true → CanMeet sizes rows keep x a)
-    → (a : List (Option ℕ)) → IsWithin sizes a → HasOutside keep (x + 1) a → all_open a more ≡ true → CanMeet sizes rows keep (x + 1) a
-sound_step sizes rows out more keep x k h projected was a w t o =
+pub sound_step : (sizes : List ℕ) (rows out more : List (List ℕ)) (n x : ℕ) → x < n → n ≡ length sizes → IsProjected sizes x out more
+    → ((a : List (Option ℕ)) → IsWithin sizes a → HasOutside (x + 1) n a → all_open a out ≡ true → CanMeet sizes rows (x + 1) n a)
+    → (a : List (Option ℕ)) → IsWithin sizes a → HasOutside x n a → all_open a more ≡ true → CanMeet sizes rows x n a
+sound_step sizes rows out more n x k h projected was a w t o =
     let r = any_true (get_or sizes x 0) (λ v. all_open (set a x (Some v)) out) (sym (projected a w) ∙ o) in
-    let m = was (set a x (Some r.0)) (within-set sizes a x r.0 w r.1) (has_set a keep x r.0 k t) r.2 in
-    (m.0, m.1, m.2, (λ i e. m.3 i (wider keep x i e) ∙ get_or-set_other a x i (Some r.0) None (apart keep x i k e)), m.4)
+    let m = was (set a x (Some r.0)) (within-set sizes a x r.0 w r.1) (has_set a n x r.0 k t) r.2 in
+    (m.0, m.1, m.2, (λ i e. m.3 i (wider n x i e) ∙ get_or-set_other a x i (Some r.0) None (apart n x i k e)), m.4)
 
-pub complete_step : (sizes : List ℕ) (rows out more : List (List ℕ)) (keep x : ℕ) → keep ≤ x → x < length sizes → IsProjected sizes x out more
-    → ((a : List (Option ℕ)) → IsWithin sizes a → CanMeet sizes rows keep x a → all_open a out ≡ true)
-    → (a : List (Option ℕ)) → IsWithin sizes a → CanMeet sizes rows keep (x + 1) a → all_open a more ≡ true
-complete_step sizes rows out more keep x k h projected was a w m =
-    let r = value_at sizes m.0 x m.1 m.2 h in
-    let inside : x < length a = omega (arith, length-within sizes a w) in
+pub complete_step : (sizes : List ℕ) (rows out more : List (List ℕ)) (n x : ℕ) → x < n → n ≡ length sizes → IsProjected sizes x out more
+    → ((a : List (Option ℕ)) → IsWithin sizes a → CanMeet sizes rows (x + 1) n a → all_open a out ≡ true)
+    → (a : List (Option ℕ)) → IsWithin sizes a → CanMeet sizes rows x n a → all_open a more ≡ true
+complete_step sizes rows out more n x k h projected was a w m =
+    let r = value_at sizes m.0 x m.1 m.2 (omega (arith, k, h)) in
+    let inside : x < length a = omega (arith, length-within sizes a w, k, h) in
     projected a w ∙ some_below (get_or sizes x 0) (λ v. all_open (set a x (Some v)) out) r.0 r.1
     (was (set a x (Some r.0)) (within-set sizes a x r.0 w r.1) (
       m.0,
       m.1,
       m.2,
-      (λ i e. elim (place keep x i e) [
+      (λ i e. elim (place n x i e) [
         | inl s ↦ let P : ℕ → Type 0 = λ z. get_or m.0 z None ≡ get_or (set a x (Some r.0)) z None in
             subst P (sym s) (r.2 ∙ sym (get_or-set_same a x (Some r.0) None inside))
-        | inr d ↦ m.3 i d ∙ sym (get_or-set_other a x i (Some r.0) None (apart keep x i k d))
+        | inr d ↦ m.3 i d ∙ sym (get_or-set_other a x i (Some r.0) None (apart n x i k d))
       ]),
       m.4,
     ))

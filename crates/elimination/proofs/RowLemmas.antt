@@ -36,9 +36,6 @@ and_parts false b h = absurd (cc)
 pub eqb_same : (m n : ℕ) → eqb m n ≡ true → m ≡ n
 eqb_same m n h = grind (arith, nat_tests)
 
-pub implied : (a b c : Bool) → b ≡ (a || b) → (c ≡ true → a ≡ true) → c ≡ true → b ≡ true
-implied a b c e f h = rw (e, f h)
-
 -- ---- rows
 
 swapped : (a b c d : Bool) → ((a || b) || (c || d)) ≡ ((a || c) || (b || d))
@@ -187,12 +184,6 @@ joined false r t b = refl
 joined true true t b = refl
 joined true false t b = refl
 
-pub joined_always : (o r t b : Bool) → (r || b) ≡ true → (o && (r || t)) ≡ (o && (r || (t && b)))
-joined_always false r t b e = refl
-joined_always true true t b e = refl
-joined_always true false true b e = sym e
-joined_always true false false b e = refl
-
 pub gone_through : (t r all : Bool) → ((t || all) && (r || all)) ≡ ((t && r) || all)
 gone_through true true all = refl
 gone_through true false all = refl
@@ -218,9 +209,6 @@ union_open n q a b h k = row_open-union q a b (widths n a h ∙ sym (widths n b 
 
 pub unless_always : (o x : Bool) → x ≡ true → o ≡ (o && x)
 unless_always o x e = rw e (sym (and-true o))
-
-pub true_if : (o x : Bool) → x ≡ true → o ≡ (o && (x || false))
-true_if o x e = rw e (sym (and-true o))
 
 pub widths-of : (n : ℕ) (r : List ℕ) → is_wide n r ≡ true → length r ≡ n
 widths-of n r h = widths n r h

@@ -1,5 +1,5 @@
 -- Subjects projected away.
-use Rattle.std.specs.Prelude.{◌≡◌, ℕ, true, IsTrue, ◌↔◌, ◌++◌, List, Some, length, take, drop, slice_index, slice_set}
+use Rattle.std.specs.Prelude.{◌≡◌, ◌<◌, ℕ, true, IsTrue, ◌↔◌, ◌++◌, List, Some, length, take, drop, slice_index, slice_set}
 use Rattle.std.specs.List.{list_all}
 use Rattle.clause_form.specs.declared.clause.Clauses.{Clauses}
 use Rattle.clause_form.specs.Clauses.{AreValues, all_met}
@@ -14,8 +14,13 @@ CanBeMet all keep xs = (ys : List ℕ) × AreValues (drop keep all.sizes) ys × 
 abbrev pub IsProjection : Clauses → ℕ → Clauses → Type 0
 IsProjection all keep kept = (xs : List ℕ) → AreValues (take keep all.sizes) xs → IsTrue (all_met xs kept.clauses) ↔ CanBeMet all keep xs
 
--- the new rows don't name x, nor another that the old ones don't name, and may be true where some value of x lets the old ones be true
+-- the new rows don't name x, nor another that the old ones don't name, and may be true exactly where some value of x lets the old ones be true
 pub record Projects (sizes : List ℕ) (x : ℕ) (old new : List (List ℕ)) : Type 0 where
   pub wide : list_all (is_wide (length sizes)) new ≡ true
   pub zero : (y : ℕ) → list_all (λ row. is_zero y (fix_row x row)) old ≡ true → list_all (is_zero y) new ≡ true
   pub «open» : (q : Partial) → IsWithin sizes q → all_open q new ≡ any_below (slice_index sizes x) (λ v. all_open (slice_set q x (Some v)) old)
+
+-- true exactly where some value of the subject makes all of the first clauses true
+abbrev pub IsWithout : Clauses → ℕ → Clauses → Type 0
+IsWithout all x rest = (xs : List ℕ) → AreValues all.sizes xs
+    → IsTrue (all_met xs rest.clauses) ↔ ((v : ℕ) × (v < slice_index all.sizes x) × IsTrue (all_met (slice_set xs x v) all.clauses))

@@ -1,8 +1,8 @@
-ghost use Rattle.std.specs.Prelude.{◌≡◌, ℕ, true, ◌≤◌, ◌<◌, All, IfOk, OnOk, Some, length, slice_index, slice_set, take};
+ghost use Rattle.std.specs.Prelude.{◌≡◌, ℕ, true, ◌≤◌, ◌<◌, All, IfOk, OnOk, length, take};
 ghost use Rattle.std.specs.List.{list_all};
 ghost use Rattle.clause_form.specs.Clauses.{AreClauses};
 ghost use Rattle.elimination.specs.Partial.{Partial, IsWithin, HasOutside};
-ghost use Rattle.elimination.specs.Rows.{all_open, any_below, CanMeet, fix_row, is_wide, is_zero};
+ghost use Rattle.elimination.specs.Rows.{all_open, CanMeet, is_wide, is_zero};
 ghost use Rattle.elimination.specs.Projection.{IsProjection, Projects};
 
 use crate::convert::{clauses_of, first_sizes, rows_of};
@@ -46,14 +46,19 @@ fn project_rows(
     ensures complete { IfOk result (λ r. (a : Partial) → IsWithin sizes.now a
         → CanMeet sizes.now rows.items keep (length sizes.now) a → all_open a r.items ≡ true) }
 {
-    for x in keep..sizes.len() {
+    for x in (keep..sizes.len()).rev() {
         project_one(alloc, sizes, &mut rows, x)?;
     }
     Ok(rows)
 }
 
 // Puts what the rows say of the other subjects in their place.
-fn project_one(alloc: Global, sizes: &[u8], rows: &mut Vec<Row>, x: usize) -> Result<(), AllocError>
+pub(crate) fn project_one(
+    alloc: Global,
+    sizes: &[u8],
+    rows: &mut Vec<Row>,
+    x: usize,
+) -> Result<(), AllocError>
     requires small { All (λ n. n ≤ 16) sizes.now }
     requires subject { x < length sizes.now }
     requires wide { list_all (is_wide (length sizes.now)) rows.old.items ≡ true }

@@ -1,4 +1,4 @@
-use Rattle.std.proofs.Common.{get_or, length, sym, subst, ◌≡◌, ◌∙◌, true}
+use Rattle.std.proofs.Common.{get_or, sym, subst, ◌≡◌, ◌∙◌, true}
 use Rattle.std.specs.List.{list_all}
 use Rattle.elimination.specs.Rows.{is_zero}
 use Rattle.elimination.proofs.ProjectLemmas.{unnamed_open, unnamed_zero}

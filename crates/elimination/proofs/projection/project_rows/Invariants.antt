@@ -7,8 +7,9 @@ use Rattle.elimination.proofs.projection.project_rows.Given as goal
 abbrev pub invariant-loop-x : goal.invariant-loop-x
 invariant-loop-x l =
     record {
+      above : l.keep ≤ l.x;
       wide : list_all (is_wide (length l.sizes)) l.rows.items ≡ true;
-      zero : (y : ℕ) → l.keep ≤ y → y < l.x → list_all (is_zero y) l.rows.items ≡ true;
-      sound : (a : Partial) → IsWithin l.sizes a → HasOutside l.keep l.x a → all_open a l.rows.items ≡ true → CanMeet l.sizes l.initial.rows.items l.keep l.x a;
-      complete : (a : Partial) → IsWithin l.sizes a → CanMeet l.sizes l.initial.rows.items l.keep l.x a → all_open a l.rows.items ≡ true;
+      zero : (y : ℕ) → l.x ≤ y → y < length l.sizes → list_all (is_zero y) l.rows.items ≡ true;
+      sound : (a : Partial) → IsWithin l.sizes a → HasOutside l.x (length l.sizes) a → all_open a l.rows.items ≡ true → CanMeet l.sizes l.initial.rows.items l.x (length l.sizes) a;
+      complete : (a : Partial) → IsWithin l.sizes a → CanMeet l.sizes l.initial.rows.items l.x (length l.sizes) a → all_open a l.rows.items ≡ true;
     }
