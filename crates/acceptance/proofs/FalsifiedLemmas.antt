@@ -7,7 +7,7 @@ use Rattle.std.specs.declared.cmp.Ordering.{Ordering}
 use Rattle.std.specs.declared.cmp.Ordering.TheVariants.{Less, Equal, Greater}
 use Rattle.std.proofs.lemmas.Bool.{cases_lt, cases_Bool, cases_eq, and_parts, and_from, or_parts, or_left, or_right, or_cases, both_ways, not-true, not_from_false, eqb-false, ne_eqb, false≢true}
 use Rattle.std.proofs.lemmas.Cmp.{ranked, nat_list_cmp_total}
-use Rattle.std.proofs.lemmas.List.{length_push, get_or_append_left, get_or_push, take_more}
+use Rattle.std.proofs.lemmas.List.{take_more}
 use Rattle.std.proofs.lemmas.List.Elements.{All-head, All-tail}
 use Rattle.std.proofs.lemmas.List.Folds.{list_all-append}
 use Rattle.cca_base.specs.Sets.{has}
@@ -52,23 +52,6 @@ free_unmet n xs (l ∷ literals) below h =
 pub record IsLeastTo (sizes : List ℕ) (literals : List Literal) (n : ℕ) (xs : List ℕ) : Type 0 where
   pub full : length xs ≡ n
   pub each : (i : ℕ) → i < n → IsLeastFree literals i (slice_index sizes i) (slice_index xs i)
-
-pub no_subject : (sizes : List ℕ) (literals : List Literal) → IsLeastTo sizes literals 0 []
-no_subject sizes literals = record { full = refl; each = λ i h. absurd (omega arith) }
-
-pub one_subject : (sizes : List ℕ) (literals : List Literal) (n v : ℕ) (xs : List ℕ) → IsLeastTo sizes literals n xs → IsLeastFree literals n (slice_index sizes n) v → IsLeastTo sizes literals (n + 1) (xs ++ v ∷ [])
-one_subject sizes literals n v xs h k =
-    let full : length xs ≡ n = h.full in
-    record {
-      full = length_push xs v ∙ omega arith;
-      each = λ i within. elim (cases_lt i n) [
-        | inl old ↦ subst (IsLeastFree literals i (slice_index sizes i)) (sym (get_or_append_left xs (v ∷ []) 0 i (omega arith))) (h.each i old)
-        | inr new ↦
-            let last : i ≡ n = omega arith in
-            subst (λ j. IsLeastFree literals j (slice_index sizes j) (slice_index (xs ++ v ∷ []) j)) (sym last)
-            (subst (IsLeastFree literals n (slice_index sizes n)) (sym (get_or_push xs v 0 n (omega arith))) k)
-      ];
-    }
 
 pub all_subjects : (sizes : List ℕ) (literals : List Literal) (xs : List ℕ) → All (λ l. l.subject < length sizes) literals → IsLeastTo sizes literals (length sizes) xs → IsLeastFalse sizes literals xs
 all_subjects sizes literals xs below h = record {

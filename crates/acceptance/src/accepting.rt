@@ -3,6 +3,7 @@ ghost use Rattle.cca_base.specs.Accepted.{Accepted, IsCompiled};
 ghost use Rattle.cca_base.specs.Model.{IsComplete};
 ghost use Rattle.acceptance.specs.Refusals.{HandsBack, IsMemory};
 ghost use Rattle.acceptance.specs.Parts.{AreParts, IsStop};
+ghost use Rattle.guard_compiler.specs.Rules.{AreRulesOf};
 
 use crate::all_ways::all_ways;
 use crate::bounds::{Bounds, bounds_of};
@@ -10,6 +11,7 @@ use crate::clash::clash;
 use crate::needs::needs_of;
 use causal_graph::{Order, order};
 use cca_base::{Compiled, Cube, Detail, List, Model, Refusal, Stop};
+use guard_compiler::{RuleClause, rules_of};
 use std::alloc::{AllocError, Global};
 
 /// The code of a model with a state that has no world.
@@ -54,16 +56,17 @@ fn one(alloc: Global, c: u16) -> Result<List<u16>, AllocError>
     Ok(list)
 }
 
-/// What is compiled from the model, or the first refusal that applies, or want of memory.
-fn parts_of(alloc: Global, model: &Model) -> Result<Parts, Stop>
+/// What is compiled from the model by the clauses of its rules, or the first refusal that applies, or want of memory.
+fn parts_by(alloc: Global, model: &Model, rules: &List<RuleClause>) -> Result<Parts, Stop>
     requires complete { IsComplete model.now }
+    requires rules { AreRulesOf model.now rules.now }
     ensures compiled { IfOk result (AreParts model.now) }
     ensures refused { IfErr result (IsStop model.now) }
 {
-    if let Some(cube) = clash(alloc, model)? {
+    if let Some(cube) = clash(alloc, model, rules)? {
         return Err(refused(CLASH, Detail::Pairs(cube)));
     }
-    let ways = all_ways(alloc, model)?;
+    let ways = all_ways(alloc, model, rules)?;
     let needs = needs_of(alloc, model, &ways)?;
     match order(alloc, &needs)? {
         Order::Cycle(list) => Err(refused(CYCLE, Detail::Components(list))),
@@ -76,6 +79,16 @@ fn parts_of(alloc: Global, model: &Model) -> Result<Parts, Stop>
             }),
         },
     }
+}
+
+/// The same, from the model alone.
+fn parts_of(alloc: Global, model: &Model) -> Result<Parts, Stop>
+    requires complete { IsComplete model.now }
+    ensures compiled { IfOk result (AreParts model.now) }
+    ensures refused { IfErr result (IsStop model.now) }
+{
+    let rules = rules_of(alloc, model)?;
+    parts_by(alloc, model, &rules)
 }
 
 /// The model with its moves' prime implicants, its order and its bounds. It is refused exactly where it is not accepted,

@@ -1,17 +1,24 @@
 ghost use Rattle.std.specs.Prelude.{IfOk};
 ghost use Rattle.acceptance.specs.Clashes.{IsClashOrNone};
+ghost use Rattle.guard_compiler.specs.Rules.{AreRulesOf};
 
 use crate::worldless::first_worldless;
 use cca_base::{Cube, List, Model, Seen};
 use consistency::conflict;
+use guard_compiler::RuleClause;
 use std::alloc::{AllocError, Global};
 
 /// The shown clash: what is to blame that the first state in mode order without a world has none. None comes exactly
 /// where every state has a world.
-pub fn clash(alloc: Global, model: &Model) -> Result<Option<Cube>, AllocError>
+pub fn clash(
+    alloc: Global,
+    model: &Model,
+    rules: &List<RuleClause>,
+) -> Result<Option<Cube>, AllocError>
+    requires { AreRulesOf model.now rules.now }
     ensures { IfOk result (IsClashOrNone model.now) }
 {
-    let Some(state) = first_worldless(alloc, model)? else {
+    let Some(state) = first_worldless(alloc, model, rules)? else {
         return Ok(None);
     };
     let nothing = Seen {

@@ -1,5 +1,5 @@
 -- What the steps of the searches find.
-use Rattle.std.specs.Prelude.{◌≡◌, ℕ, ◌+◌, ◌<◌, ◌≤◌, ◌==◌, ◌⊎◌, ◌↔◌, Bool, true, false, not, List, length, slice_index, slice_index_or, Contains, count_by}
+use Rattle.std.specs.Prelude.{◌≡◌, ℕ, ◌+◌, ◌<◌, ◌≤◌, ◌==◌, ◌⊎◌, ◌↔◌, Bool, List, length, slice_index, Contains, count_by}
 use Rattle.cca_base.specs.Estimates.{IsEarlier}
 use Rattle.cca_base.specs.Flags.{IsSet}
 use Rattle.cca_base.specs.Relations.{PathBy, AncestorBy, IsCycleBy}

@@ -60,6 +60,10 @@ fn a_goal_is_sorted_effects_first(rt: HostRuntime) -> Result<(), Fail> {
 fn the_bounds_of_a_goal_add_up(rt: HostRuntime) -> Result<(), Fail> {
     let alloc = rt.alloc();
     let compiled = compiled_valve(alloc)?;
+    if compiled.model().components().len() != 2 {
+        return Err(Fail::from("not two components"));
+    }
+    assert_eq!(rt; (compiled.bound_of(0), compiled.bound_of(1)), (1, 4));
     let pairs = pairs_of(alloc, &compiled, &[(0, 0), (1, 1)])?;
     assert_eq!(rt; compiled.bound_of_goal(&Goal { pairs }), 5);
     let pairs = pairs_of(alloc, &compiled, &[(1, 1)])?;

@@ -3,7 +3,7 @@ use acceptance::first_worldless;
 use cca_base::*;
 use clause_form::{Clauses, clauses_of};
 use elimination::project;
-use guard_compiler::ways;
+use guard_compiler::{rules_of, ways};
 use prime_implicants::{Primes, primes};
 use std::alloc::Global;
 use std::process::Abort;
@@ -24,7 +24,8 @@ fn first_ways(alloc: Global, model: &Model) -> Result<List<Cube>, Fail> {
     if model.moves().len() == 0 {
         return Err(Fail::from("no move"));
     }
-    if first_worldless(alloc, model)?.is_some() {
+    let rules = rules_of(alloc, model)?;
+    if first_worldless(alloc, model, &rules)?.is_some() {
         return Err(Fail::from("no world"));
     }
     match ways(alloc, model, 0) {
@@ -38,7 +39,8 @@ fn refusal_of(alloc: Global, model: &Model) -> Result<Refusal, Fail> {
     if model.moves().len() == 0 {
         return Err(Fail::from("no move"));
     }
-    if first_worldless(alloc, model)?.is_some() {
+    let rules = rules_of(alloc, model)?;
+    if first_worldless(alloc, model, &rules)?.is_some() {
         return Err(Fail::from("no world"));
     }
     match ways(alloc, model, 0) {
@@ -219,4 +221,27 @@ fn a_guard_over_a_chain_of_variables(rt: HostRuntime) -> Result<(), Fail> {
     let cubes = first_ways(rt.alloc(), &model)?;
     assert_eq!(rt; cubes.len(), 1);
     assert_way(&rt, &cubes, 0, &[Pair { item: 0, value: 1 }])
+}
+
+/// None of the three variables can be given a value whatever the other two have.
+#[test]
+fn a_guard_over_variables_that_depend_on_one_another(rt: HostRuntime) -> Result<(), Fail> {
+    let model = model_of(
+        rt.alloc(),
+        &[
+            "titan 1",
+            "component c = off, on start off",
+            "component d = off, on start off",
+            "var x = off, on",
+            "var y = off, on",
+            "var z = off, on",
+            "rule x = on or y = on or c = on",
+            "rule x = on implies z = on",
+            "rule y = on implies z = off",
+            "move d off -> on by go when x = on or y = on",
+        ],
+    )?;
+    let cubes = first_ways(rt.alloc(), &model)?;
+    assert_eq!(rt; cubes.len(), 1);
+    assert_way(&rt, &cubes, 0, &[Pair { item: 0, value: 0 }])
 }

@@ -3,6 +3,7 @@ use acceptance::first_worldless;
 use cca_base::*;
 use clause_form::clauses_of;
 use consistency::{Found, find_counter, find_world};
+use guard_compiler::rules_of;
 use std::alloc::Global;
 use std::process::Abort;
 use std::test::*;
@@ -107,7 +108,8 @@ pub fn tied_model(alloc: Global) -> Result<Model, Fail> {
 
 /// Whether each state of the model has a world.
 fn all_have_worlds(alloc: Global, model: &Model) -> Result<bool, Fail> {
-    Ok(first_worldless(alloc, model)?.is_none())
+    let rules = rules_of(alloc, model)?;
+    Ok(first_worldless(alloc, model, &rules)?.is_none())
 }
 
 #[test]
@@ -178,7 +180,8 @@ fn ties_are_broken_in_both_orders(rt: HostRuntime) -> Result<(), Fail> {
 fn a_state_may_have_no_world(rt: HostRuntime) -> Result<(), Fail> {
     let model = tied_model(rt.alloc())?;
     assert_none(&rt, &model, rt.alloc(), &[(0, 0), (1, 0)], &[])?;
-    let first = first_worldless(rt.alloc(), &model)?.ok_or("each state has a world")?;
+    let rules = rules_of(rt.alloc(), &model)?;
+    let first = first_worldless(rt.alloc(), &model, &rules)?.ok_or("each state has a world")?;
     assert_eq!(rt; first.modes.as_slice(), [0, 0].as_slice());
     Ok(())
 }

@@ -41,7 +41,7 @@ pub record AreStatesOf (m : Automata) (move : Move) (states : Clauses) : Type 0 
 same_or_not : (i j : ℕ) → (i ≡ j) ⊎ (i ≢ j)
 same_or_not i j = grind arith
 
-to_values : (m : Automata) (s : List ℕ) → IsState m s → AreValues (mode_counts m) s
+pub to_values : (m : Automata) (s : List ℕ) → IsState m s → AreValues (mode_counts m) s
 to_values m s k =
     let long = length-map m.components (λ c. length c.modes) in
     record { full = k.full ∙ sym long; values = λ c h. k.modes c (omega (arith, long)) }

@@ -1,24 +1,22 @@
 -- Values that make the guard's and all rules' clauses true, where the relevant ones alone can be met.
-use Rattle.std.proofs.Common.{◌≡◌, ℕ, zero, suc, ◌<◌, ◌≤◌, ◌+◌, ◌-◌, ◌↔◌, ◌||◌, ◌&&◌, Bool, true, false, cond, List, [], ◌∷◌, ◌++◌, length, get_or, filter, All, inl, inr, refl, sym, ap, subst, ◌∙◌, arith}
+use Rattle.std.proofs.Common.{◌≡◌, ℕ, zero, suc, ◌<◌, ◌≤◌, ◌+◌, ◌-◌, ◌↔◌, ◌||◌, ◌&&◌, Bool, true, false, cond, List, [], ◌∷◌, ◌++◌, length, get_or, filter, Option, Some, None, All, Contains, inl, inr, refl, sym, ap, subst, ◌∙◌, arith}
 use Rattle.std.specs.List.{list_any}
-use Rattle.std.proofs.lemmas.Bool.{cases_lt, and_parts, and_from}
+use Rattle.std.specs.Option.{ForSome}
+use Rattle.std.proofs.lemmas.Bool.{cases_lt, cases_Bool, and_parts, and_from, false≢true}
 use Rattle.std.proofs.lemmas.List.{get_or_append_left, get_or-append-add}
 use Rattle.std.proofs.lemmas.List.Folds.{list_all-append}
 use Rattle.cca_base.specs.Sets.{has}
-use Rattle.cca_base.proofs.Members.{all_from, from_filter}
+use Rattle.cca_base.proofs.Members.{from_filter, to_filter}
 use Rattle.prime_implicants.proofs.PairLemmas.{all_of}
+use Rattle.clause_form.proofs.ModelLemmas.{both_values}
 use Rattle.clause_form.specs.declared.clause.Literal.{Literal}
 use Rattle.clause_form.specs.declared.clause.Clause.{Clause}
 use Rattle.clause_form.specs.Clauses.{AreValues, is_true, is_met, meets, all_met}
-use Rattle.guard_compiler.specs.Relevant.{names_one, IsOver, IsWithRelevant}
-use Rattle.guard_compiler.specs.Marks.{IsClosed}
-use Rattle.cca_base.specs.Flags.{is_set}
-
--- those of closed clauses that name a marked subject have only marked variables
-pub filtered_over : (n : ℕ) (marks : List Bool) (rules : List Clause) → IsClosed n rules marks → All (IsOver n (is_set marks)) (filter (names_one (is_set marks)) rules)
-filtered_over n marks rules closed = all_from (IsOver n (is_set marks)) (filter (names_one (is_set marks)) rules) (λ clause h.
-    let there = from_filter (names_one (is_set marks)) rules clause h in
-    all_of (λ c. names_one (is_set marks) c ≡ true → IsOver n (is_set marks) c) rules clause closed there.1 there.0)
+use Rattle.guard_compiler.proofs.CompletionLemmas.{met_one, all_of_them, completed_world}
+use Rattle.guard_compiler.specs.Naming.{names_one, IsOver}
+use Rattle.guard_compiler.specs.Relevant.{bears, bears_by, IsWithRelevant}
+use Rattle.guard_compiler.specs.Rules.{clauses_in, is_one_of, is_none_or_one_of, AreCompletable}
+use Rattle.guard_compiler.specs.declared.rules.RuleClause.{RuleClause}
 
 -- ---- values of two lists, by a set
 
@@ -87,31 +85,25 @@ module _ (xs ys : List ℕ) (n : ℕ) (set : ℕ → Bool) where
       ap (λ v. has l.values v || is_met xs literals) (same l.subject parts.0)
       ∙ ap (λ b. is_true ys l || b) (apart_met same literals parts.1)
 
-  step : ((u : ℕ) → set u ≡ false → get_or xs u 0 ≡ get_or ys u 0) → (c : Clause) (rest kept : List Clause) (b : Bool) → names_one set c ≡ b → (all_met xs kept ≡ true → all_met xs rest ≡ true)
-      → all_met xs (cond b (c ∷ kept) kept) ≡ true → meets ys c ≡ true → (meets xs c && all_met xs rest) ≡ true
-  step same c rest kept true e more met there = let parts = and_parts (meets xs c) (all_met xs kept) met in and_from (meets xs c) (all_met xs rest) parts.0 (more parts.1)
-  step same c rest kept false e more met there = and_from (meets xs c) (all_met xs rest) (apart_met same c.literals e ∙ there) (more met)
-
-  -- clauses that name none of the set are true as with the other values
-  rules_met : ((u : ℕ) → set u ≡ false → get_or xs u 0 ≡ get_or ys u 0) → (rules : List Clause) → all_met xs (filter (names_one set) rules) ≡ true → all_met ys rules ≡ true → all_met xs rules ≡ true
-  rules_met same [] met there = refl
-  rules_met same (c ∷ rules) met there =
-      let parts = and_parts (meets ys c) (all_met ys rules) there in
-      step same c rules (filter (names_one set) rules) (names_one set c) refl (λ h. rules_met same rules h parts.1) met parts.0
-
-kept_step : (p : Clause → Bool) (xs : List ℕ) (c : Clause) (kept : List Clause) (b : Bool) → meets xs c ≡ true → all_met xs kept ≡ true → all_met xs (cond b (c ∷ kept) kept) ≡ true
-kept_step p xs c kept true h k = and_from (meets xs c) (all_met xs kept) h k
-kept_step p xs c kept false h k = k
-
-kept_met : (p : Clause → Bool) (xs : List ℕ) (rules : List Clause) → all_met xs rules ≡ true → all_met xs (filter p rules) ≡ true
-kept_met p xs [] h = refl
-kept_met p xs (c ∷ rules) h = let parts = and_parts (meets xs c) (all_met xs rules) h in kept_step p xs c (filter p rules) (p c) parts.0 (kept_met p xs rules parts.1)
-
 -- some values of the variables make all clauses true
 abbrev pub CanMeet : List ℕ → List ℕ → List Clause → Type 0
 CanMeet sizes s clauses = (w : List ℕ) × AreValues sizes w × (all_met (s ++ w) clauses ≡ true)
 
-module _ (n : ℕ) (rules guard all : List Clause) (with : IsWithRelevant n rules guard all) (sizes s v : List ℕ) (full : length s ≡ n) (values : AreValues sizes v) (world : all_met (s ++ v) rules ≡ true) where
+some_of_them : (set : ℕ → Bool) (xs : List ℕ) (rules : List RuleClause) → all_met xs (clauses_in rules) ≡ true → all_met xs (clauses_in (filter (bears set) rules)) ≡ true
+some_of_them set xs rules h = all_of_them xs (filter (bears set) rules) (λ rule there. met_one xs rules rule h (from_filter (bears set) rules rule there).1)
+
+-- a clause of an owner in the set bears on it
+owned_bears : (set : ℕ → Bool) (owner : Option ℕ) (clause : Clause) → is_one_of set owner ≡ true → bears_by set owner clause ≡ true
+owned_bears set None clause h = absurd cc
+owned_bears set (Some x) clause h = h
+
+-- a clause that is to be true and does not bear on the set names none of it
+names_none : (set : ℕ → Bool) (owner : Option ℕ) (clause : Clause) → is_none_or_one_of set owner ≡ true → bears_by set owner clause ≡ false → names_one set clause ≡ false
+names_none set None clause h k = k
+names_none set (Some x) clause h k = absurd (false≢true (sym k ∙ h))
+
+module _ (n : ℕ) (rules : List RuleClause) (guard all : List Clause) (with : IsWithRelevant n rules guard all) (counts sizes s v : List ℕ) (full : length s ≡ n) (state : AreValues counts s) (values : AreValues sizes v)
+    (owners : All (λ rule. ForSome rule.owner (λ x. n ≤ x)) rules) (completable : AreCompletable (counts ++ sizes) n rules) (world : all_met (s ++ v) (clauses_in rules) ≡ true) where
   module _ (w : List ℕ) (k : AreValues sizes w) where
     abbrev z : List ℕ
     z = mix (λ i. with.set (n + i)) w v
@@ -143,21 +135,42 @@ module _ (n : ℕ) (rules guard all : List Clause) (with : IsWithRelevant n rule
           ∙ sym (ap (λ x. get_or (s ++ v) x 0) is ∙ get_or-append-add s v j 0)
     ]
 
-    to_all : all_met (s ++ w) all ≡ true → (all_met (s ++ z) rules ≡ true) × (all_met (s ++ z) guard ≡ true)
-    to_all met =
-        let chosen = filter (names_one with.set) rules in
-        let parts = and_parts (all_met (s ++ w) guard) (all_met (s ++ w) chosen) (sym (ap (all_met (s ++ w)) with.are ∙ list_all-append (meets (s ++ w)) guard chosen) ∙ met) in (
-          rules_met (s ++ z) (s ++ v) n with.set as_other rules (all_over (s ++ z) (s ++ w) n with.set as_one chosen with.of_rules ∙ parts.1) world,
-          all_over (s ++ z) (s ++ w) n with.set as_one guard with.of_guard ∙ parts.0,
-        )
+    z_values : AreValues (counts ++ sizes) (s ++ z)
+    z_values = both_values counts sizes s z state (mixed_values (λ i. with.set (n + i)) sizes w v k values)
 
-    from_all : all_met (s ++ w) rules ≡ true → all_met (s ++ w) guard ≡ true → all_met (s ++ w) all ≡ true
-    from_all r g = ap (all_met (s ++ w)) with.are ∙ list_all-append (meets (s ++ w)) guard (filter (names_one with.set) rules)
-        ∙ and_from (all_met (s ++ w) guard) (all_met (s ++ w) (filter (names_one with.set) rules)) g (kept_met (names_one with.set) (s ++ w) rules r)
+    module _ (chosen : all_met (s ++ w) (clauses_in (filter (bears with.set) rules)) ≡ true) where
+      -- the clauses that bear on the set are true of the mixed values
+      bearing : (rule : RuleClause) → Contains rules rule → bears with.set rule ≡ true → meets (s ++ z) rule.clause ≡ true
+      bearing rule there h =
+          let over = all_of (λ r. bears with.set r ≡ true → IsOver n with.set r.clause) rules rule with.relevant.closed there h in
+          over_met (s ++ z) (s ++ w) n with.set as_one rule.clause.literals over ∙ met_one (s ++ w) (filter (bears with.set) rules) rule chosen (to_filter (bears with.set) rules rule h there)
+
+      held : (rule : RuleClause) → Contains rules rule → is_none_or_one_of with.set rule.owner ≡ true → meets (s ++ z) rule.clause ≡ true
+      held rule there h = elim (cases_Bool (bears with.set rule)) [
+        | inl does ↦ bearing rule there does
+        | inr doesnt ↦ apart_met (s ++ z) (s ++ v) n with.set as_other rule.clause.literals (names_none with.set rule.owner rule.clause h doesnt) ∙ met_one (s ++ v) rules rule world there
+      ]
+
+      owned : (rule : RuleClause) → Contains rules rule → is_one_of with.set rule.owner ≡ true → IsOver n with.set rule.clause
+      owned rule there h = all_of (λ r. bears with.set r ≡ true → IsOver n with.set r.clause) rules rule with.relevant.closed there (owned_bears with.set rule.owner rule.clause h)
+
+      completed : (y : List ℕ) × AreValues sizes y × ((u : ℕ) → (n ≤ u → with.set u ≡ true) → get_or (s ++ y) u 0 ≡ get_or (s ++ z) u 0) × (all_met (s ++ y) (clauses_in rules) ≡ true)
+      completed = completed_world n rules counts sizes s z with.set full state z_values owners completable held owned
+
+      guard_met : all_met (s ++ w) guard ≡ true → all_met (s ++ completed.0) guard ≡ true
+      guard_met met = all_over (s ++ completed.0) (s ++ z) n with.set completed.2 guard with.relevant.of_guard ∙ all_over (s ++ z) (s ++ w) n with.set as_one guard with.relevant.of_guard ∙ met
 
   -- where the rules can be met, the relevant clauses can be met beside the guard's exactly where all rules' can
-  pub relevant_exact : CanMeet sizes s all ↔ ((w : List ℕ) × AreValues sizes w × (all_met (s ++ w) rules ≡ true) × (all_met (s ++ w) guard ≡ true))
-  relevant_exact = (
-    λ h. (let to = to_all h.0 h.1 h.2 in (z h.0 h.1, mixed_values (λ i. with.set (n + i)) sizes h.0 v h.1 values, to.0, to.1)),
-    λ h. (h.0, h.1, from_all h.0 h.1 h.2 h.3),
-  )
+  pub relevant_exact : CanMeet sizes s all ↔ ((w : List ℕ) × AreValues sizes w × (all_met (s ++ w) (clauses_in rules) ≡ true) × (all_met (s ++ w) guard ≡ true))
+  relevant_exact =
+      let chosen = clauses_in (filter (bears with.set) rules) in (
+        λ h. (let parts = and_parts (all_met (s ++ h.0) guard) (all_met (s ++ h.0) chosen) (sym (ap (all_met (s ++ h.0)) with.are ∙ list_all-append (meets (s ++ h.0)) guard chosen) ∙ h.2) in
+            let y = completed h.0 h.1 parts.1 in
+            (y.0, y.1, y.3, guard_met h.0 h.1 parts.1 parts.0)),
+        λ h. (
+          h.0,
+          h.1,
+          ap (all_met (s ++ h.0)) with.are ∙ list_all-append (meets (s ++ h.0)) guard chosen
+              ∙ and_from (all_met (s ++ h.0) guard) (all_met (s ++ h.0) chosen) h.3 (some_of_them with.set (s ++ h.0) rules h.2),
+        ),
+      )

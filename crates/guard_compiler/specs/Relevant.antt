@@ -1,20 +1,30 @@
 -- Which of the rules' clauses bear on a guard.
-use Rattle.std.specs.Prelude.{◌≡◌, ◌≤◌, ℕ, Bool, IsTrue, List, ◌++◌, All, filter}
-use Rattle.std.specs.List.{list_any}
+use Rattle.std.specs.Prelude.{◌≡◌, ℕ, Bool, IsTrue, List, ◌++◌, Option, Some, None, All, filter}
 use Rattle.clause_form.specs.declared.clause.Clause.{Clause}
+use Rattle.guard_compiler.specs.Naming.{names_one, IsOver}
+use Rattle.guard_compiler.specs.Rules.{clauses_in}
+use Rattle.guard_compiler.specs.declared.rules.RuleClause.{RuleClause}
 
--- a literal of the clause is of a subject of the set
-abbrev pub names_one : (ℕ → Bool) → Clause → Bool
-names_one set clause = list_any (λ literal. set literal.subject) clause.literals
+-- by its owner: the owner is one of the set; without an owner, the clause names one of the set
+abbrev pub bears_by : (ℕ → Bool) → Option ℕ → Clause → Bool
+bears_by set None clause = names_one set clause
+bears_by set (Some x) clause = set x
 
--- each variable of the clause is in the set; the variables are the subjects from n on
-abbrev pub IsOver : ℕ → (ℕ → Bool) → Clause → Type 0
-IsOver n set clause = All (λ literal. n ≤ literal.subject → IsTrue (set literal.subject)) clause.literals
+-- the rule's clause bears on the subjects of the set
+abbrev pub bears : (ℕ → Bool) → RuleClause → Bool
+bears set rule = bears_by set rule.owner rule.clause
 
--- behind the guard's clauses exactly those of the rules that name one of a set of variables, which has those of both
-pub record IsWithRelevant (n : ℕ) (rules guard all : List Clause) : Type 0 where
-  pub set : ℕ → Bool
-  pub variables : (u : ℕ) → IsTrue (set u) → n ≤ u
+-- each of the rules' clauses that bears on the set has all its variables in the set
+abbrev pub IsClosed : ℕ → List RuleClause → (ℕ → Bool) → Type 0
+IsClosed n rules set = All (λ rule. IsTrue (bears set rule) → IsOver n set rule.clause) rules
+
+-- the set has the variables of the guard's clauses, and of each of the rules' that bears on it
+pub record IsRelevantSet (n : ℕ) (rules : List RuleClause) (guard : List Clause) (set : ℕ → Bool) : Type 0 where
   pub of_guard : All (IsOver n set) guard
-  pub of_rules : All (IsOver n set) (filter (names_one set) rules)
-  pub are : all ≡ guard ++ filter (names_one set) rules
+  pub closed : IsClosed n rules set
+
+-- behind the guard's clauses exactly those of the rules that bear on such a set
+pub record IsWithRelevant (n : ℕ) (rules : List RuleClause) (guard all : List Clause) : Type 0 where
+  pub set : ℕ → Bool
+  pub relevant : IsRelevantSet n rules guard set
+  pub are : all ≡ guard ++ clauses_in (filter (bears set) rules)

@@ -1,16 +1,17 @@
-ghost use Rattle.std.specs.Prelude.{◌<◌, ◌≤◌, IfErr, IfOk, IsErr, IsTrue, None, length};
+ghost use Rattle.std.specs.Prelude.{◌<◌, ◌≤◌, IfErr, IfOk, IsErr, IsTrue, length};
 ghost use Rattle.cca_base.specs.Accepted.{AreWays};
 ghost use Rattle.cca_base.specs.Formula.{is_within};
 ghost use Rattle.cca_base.specs.declared.limits.TheConstants.{MAX_WAYS};
-ghost use Rattle.clause_form.specs.Formulas.{AreClausesOf};
 ghost use Rattle.guard_compiler.specs.Asked.{AreAskedOf};
+ghost use Rattle.guard_compiler.specs.Rules.{AreRulesOf};
 ghost use Rattle.guard_compiler.specs.Ways.{AtMove, HasManyWays, IsStop};
 ghost use Rattle.cca_base.specs.State.{HasWorlds};
 
 use crate::fixed::with_value;
 use crate::relevant::with_relevant;
+use crate::rules::{RuleClause, rules_of};
 use cca_base::{Cube, Detail, Formula, List, MAX_WAYS, Model, Refusal, Stop};
-use clause_form::{Clauses, clauses_of, denied_clauses};
+use clause_form::{Clauses, denied_clauses};
 use elimination::project;
 use prime_implicants::{Primes, primes};
 use std::alloc::{AllocError, Global};
@@ -22,17 +23,17 @@ const MANY_WAYS: u8 = 10;
 fn asked_of(
     alloc: Global,
     model: &Model,
-    rules: &Clauses,
+    rules: &List<RuleClause>,
     guard: &Formula,
 ) -> Result<Clauses, AllocError>
     requires worlds { HasWorlds model.now }
-    requires rules { AreClausesOf model.now None None rules.now }
+    requires rules { AreRulesOf model.now rules.now }
     requires guard { IsTrue (is_within (length model.now.components) (length model.now.variables) guard.now) }
     ensures { IfOk result (AreAskedOf model.now guard.now) }
 {
     let denied = denied_clauses(alloc, model, guard)?;
     let components = model.components().len() as u16;
-    let asked = with_relevant(alloc, components, rules.clauses.as_slice(), denied)?;
+    let asked = with_relevant(alloc, components, rules.as_slice(), denied)?;
     Ok(asked)
 }
 
@@ -41,11 +42,11 @@ fn asked_of(
 pub fn ways_of(
     alloc: Global,
     model: &Model,
-    rules: &Clauses,
+    rules: &List<RuleClause>,
     move_number: u16,
 ) -> Result<List<Cube>, Stop>
     requires worlds { HasWorlds model.now }
-    requires rules { AreClausesOf model.now None None rules.now }
+    requires rules { AreRulesOf model.now rules.now }
     requires number { move_number < length model.now.moves }
     ensures ways { IfOk result (λ cubes. AtMove model.now move_number (λ move.
         AreWays model.now move cubes)) }
@@ -77,6 +78,6 @@ pub fn ways(alloc: Global, model: &Model, move_number: u16) -> Result<List<Cube>
     ensures refused { IfErr result (IsStop model.now move_number) }
     ensures many { AtMove model.now move_number (λ move. HasManyWays model.now move → IsErr result) }
 {
-    let rules = clauses_of(alloc, model, None, None)?;
+    let rules = rules_of(alloc, model)?;
     ways_of(alloc, model, &rules, move_number)
 }

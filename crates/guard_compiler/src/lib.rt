@@ -1,10 +1,16 @@
-//! Guards as their prime implicants. A caller whose model has a world for every state gets, for a move of it, exactly the
-//! minimal conditions on the other components from which the guard follows, in cube order, or hears that there are too many.
+//! A model's rules as clauses, the states that have a world by them, and guards as their prime implicants. Where all states
+//! have one, a caller gets, for a move, exactly the minimal conditions on the other components from which the guard follows,
+//! in cube order, or hears that there are too many.
 #![tactic(auto)]
 
 mod fixed;
 mod implicants;
 mod marks;
+mod owners;
 mod relevant;
+mod rules;
+mod worlds;
 
 pub use implicants::{ways, ways_of};
+pub use rules::{RuleClause, rules_of};
+pub use worlds::worlds_of;

@@ -1,13 +1,17 @@
 ghost use Rattle.std.specs.Prelude.{◌≡◌, ◌<◌, All, MatchBool, length};
 ghost use Rattle.clause_form.specs.Clauses.{AreBelow, AllBelow};
-ghost use Rattle.guard_compiler.specs.Marks.{AddsVariables, IsClosed};
+ghost use Rattle.guard_compiler.specs.Marks.{SetsMore};
 ghost use Rattle.cca_base.specs.Flags.{is_set, unset};
-ghost use Rattle.guard_compiler.specs.Relevant.{IsOver, names_one};
+ghost use Rattle.guard_compiler.specs.Naming.{IsOver, names_one};
+ghost use Rattle.guard_compiler.specs.Relevant.{IsClosed, bears};
+ghost use Rattle.guard_compiler.specs.Rules.{AreRulesBelow};
+ghost use Rattle.std.specs.Option.{ForSome};
 
+use crate::rules::RuleClause;
 use clause_form::Clause;
 
 /// Whether the clause names a marked subject.
-pub(crate) fn names_marked(clause: &Clause, marks: &[bool]) -> bool
+fn names_marked(clause: &Clause, marks: &[bool]) -> bool
     requires { AreBelow (length marks.now) clause.now.literals }
     ensures { result ≡ names_one (is_set marks.now) clause.now }
 {
@@ -18,11 +22,23 @@ pub(crate) fn names_marked(clause: &Clause, marks: &[bool]) -> bool
         .any(|literal| marks[literal.subject as usize])
 }
 
+/// Whether the rule's clause bears on the marked subjects: its owner is marked, or it has none and names a marked one.
+pub(crate) fn bears(rule: &RuleClause, marks: &[bool]) -> bool
+    requires below { AreBelow (length marks.now) rule.now.clause.literals }
+    requires owner { ForSome rule.now.owner (λ x. x < length marks.now) }
+    ensures { result ≡ bears (is_set marks.now) rule.now }
+{
+    match rule.owner {
+        Some(x) => marks[x as usize],
+        None => names_marked(&rule.clause, marks),
+    }
+}
+
 /// Marks the clause's variables, which are the subjects from `components` on, and says whether one was not marked
 /// before.
 fn mark(clause: &Clause, components: u16, marks: &mut [bool]) -> bool
     requires { AreBelow (length marks.old) clause.now.literals }
-    ensures keeps { AddsVariables components marks.old marks.new }
+    ensures keeps { SetsMore marks.old marks.new }
     ensures over { IsOver components (is_set marks.new) clause.now }
     ensures fresh { MatchBool result (unset marks.new < unset marks.old) (marks.new ≡ marks.old) }
 {
@@ -40,7 +56,7 @@ fn mark(clause: &Clause, components: u16, marks: &mut [bool]) -> bool
 /// Marks the variables of all clauses.
 pub(crate) fn mark_all(clauses: &[Clause], components: u16, marks: &mut [bool])
     requires { AllBelow (length marks.old) clauses.now }
-    ensures keeps { AddsVariables components marks.old marks.new }
+    ensures keeps { SetsMore marks.old marks.new }
     ensures over { All (IsOver components (is_set marks.new)) clauses.now }
 {
     for clause in clauses {
@@ -48,16 +64,17 @@ pub(crate) fn mark_all(clauses: &[Clause], components: u16, marks: &mut [bool])
     }
 }
 
-/// Marks the variables of each clause that names a marked subject, and says whether one was not marked before.
-pub(crate) fn spread(clauses: &[Clause], components: u16, marks: &mut [bool]) -> bool
-    requires { AllBelow (length marks.old) clauses.now }
-    ensures keeps { AddsVariables components marks.old marks.new }
+/// Marks the variables of each rule's clause that bears on the marked subjects, and says whether one was not marked
+/// before.
+pub(crate) fn spread(rules: &[RuleClause], components: u16, marks: &mut [bool]) -> bool
+    requires { AreRulesBelow (length marks.old) rules.now }
+    ensures keeps { SetsMore marks.old marks.new }
     ensures fresh { MatchBool result (unset marks.new < unset marks.old)
-        ((marks.new ≡ marks.old) × IsClosed components clauses.now marks.old) }
+        ((marks.new ≡ marks.old) × IsClosed components rules.now (is_set marks.old)) }
 {
     let mut fresh = false;
-    for clause in clauses {
-        if names_marked(clause, marks) && mark(clause, components, marks) {
+    for rule in rules {
+        if bears(rule, marks) && mark(&rule.clause, components, marks) {
             fresh = true;
         }
     }

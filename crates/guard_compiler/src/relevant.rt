@@ -1,10 +1,13 @@
 ghost use Rattle.std.specs.Prelude.{◌≡◌, ◌++◌, All, IfOk, OnOk, filter, length};
 ghost use Rattle.clause_form.specs.Clauses.{AllBelow};
-ghost use Rattle.guard_compiler.specs.Marks.{AreOfVariables, AreRelevantMarks};
 ghost use Rattle.cca_base.specs.Flags.{is_set};
-ghost use Rattle.guard_compiler.specs.Relevant.{IsOver, IsWithRelevant, names_one};
+ghost use Rattle.guard_compiler.specs.Naming.{IsOver};
+ghost use Rattle.guard_compiler.specs.Rules.{AreRulesBelow, clauses_in};
+ghost use Rattle.guard_compiler.specs.Relevant.{IsRelevantSet, IsWithRelevant, bears};
 
-use crate::marks::{mark_all, names_marked, spread};
+use crate::marks::{bears, mark_all, spread};
+use crate::owners::copy_of;
+use crate::rules::RuleClause;
 use cca_base::List;
 use clause_form::{Clause, Clauses};
 use std::alloc::{AllocError, Global};
@@ -18,7 +21,6 @@ fn guard_marks(
 ) -> Result<Vec<bool>, AllocError>
     requires { AllBelow subjects guard.now }
     ensures full { IfOk result (λ v. length v.items ≡ subjects) }
-    ensures variables { IfOk result (λ v. AreOfVariables components v.items) }
     ensures over { IfOk result (λ v. All (IsOver components (is_set v.items)) guard.now) }
 {
     let mut marks = vec![in alloc; false; subjects]?;
@@ -26,52 +28,51 @@ fn guard_marks(
     Ok(marks)
 }
 
-/// Marks of some variables, among them those of the guard and, beside one of a rule's clause, the others of that clause.
+/// Marks of some variables, among them those of the guard, and of each of the rules' clauses that bears on a marked one.
 fn marks_of(
     alloc: Global,
     components: u16,
     subjects: usize,
-    rules: &[Clause],
+    rules: &[RuleClause],
     guard: &[Clause],
 ) -> Result<Vec<bool>, AllocError>
-    requires rules { AllBelow subjects rules.now }
+    requires rules { AreRulesBelow subjects rules.now }
     requires guard { AllBelow subjects guard.now }
-    ensures { IfOk result (λ v. AreRelevantMarks components rules.now guard.now subjects v.items) }
+    ensures full { IfOk result (λ v. length v.items ≡ subjects) }
+    ensures relevant { IfOk result (λ v. IsRelevantSet components rules.now guard.now (is_set v.items)) }
 {
     let mut marks = guard_marks(alloc, components, subjects, guard)?;
     'rounds: while spread(rules, components, marks.as_mut_slice()) {}
     Ok(marks)
 }
 
-/// Adds the clauses that name a marked subject.
+/// Adds the clauses that bear on the marked subjects.
 fn add_marked(
     alloc: Global,
-    rules: &[Clause],
+    rules: &[RuleClause],
     marks: &[bool],
     clauses: &mut List<Clause>,
 ) -> Result<(), AllocError>
-    requires { AllBelow (length marks.now) rules.now }
-    ensures { OnOk result (clauses.new ≡ clauses.old ++ filter (names_one (is_set marks.now)) rules.now) }
+    requires { AreRulesBelow (length marks.now) rules.now }
+    ensures { OnOk result (clauses.new ≡ clauses.old ++ clauses_in (filter (bears (is_set marks.now)) rules.now)) }
 {
-    for clause in rules {
-        if names_marked(clause, marks) {
-            clauses.push(Clause {
-                literals: clause.literals.copy(alloc)?,
-            })?;
+    for rule in rules {
+        if bears(rule, marks) {
+            clauses.push(copy_of(alloc, &rule.clause)?)?;
         }
     }
     Ok(())
 }
 
-/// The guard's clauses, and behind them those of the rules' that name one of some variables, among which are all variables
-/// of both. The variables are the subjects from `components` on. The error is want of memory.
+/// The guard's clauses, and behind them the rules' clauses that bear on some variables; these have every variable of both.
+/// The variables are the subjects from `components` on. The error is want of memory.
 pub(crate) fn with_relevant(
     alloc: Global,
     components: u16,
-    rules: &[Clause],
+    rules: &[RuleClause],
     guard: Clauses,
 ) -> Result<Clauses, AllocError>
-    requires rules { AllBelow (length guard.sizes) rules.now }
+    requires rules { AreRulesBelow (length guard.sizes) rules.now }
     requires guard { AllBelow (length guard.sizes) guard.clauses }
     ensures sizes { IfOk result (λ r. r.sizes ≡ guard.sizes) }
     ensures relevant { IfOk result (λ r. IsWithRelevant components rules.now guard.clauses r.clauses) }

@@ -13,7 +13,7 @@ loop-i-preserved c =
 pub returns-in_err-cubes-clause-refused : goal.returns-in_err-cubes-clause-refused
 returns-in_err-cubes-clause-refused c =
     let within : c.loop-i.i < length c.args.model.now.moves = omega (arith, c.loop-i-test.true, c.len-i-end.ensures, ap length c.moves.ensures.value) in
-    let p = err_from_is_err_and c.from_residual-in_err-cubes.result c.from_residual-in_err-cubes.ensures.1 in
+    let p = err_from_is_err_and c.from_residual.result c.from_residual.ensures.1 in
     rw (p.1, p.2) (ways_stop c.args.model.now c.loop-i.all c.loop-i.i c.loop-i.invariant c.in_err-cubes.field-0.0 within c.in_err-cubes.ensures.refused)
 
 pub returns-clause-ways : goal.returns-clause-ways

@@ -1,13 +1,11 @@
 use Rattle.std.proofs.Common.{◌≡◌, All, length}
-use Rattle.guard_compiler.specs.Marks.{AreOfVariables}
 use Rattle.cca_base.specs.Flags.{is_set, unset}
-use Rattle.guard_compiler.specs.Relevant.{IsOver}
+use Rattle.guard_compiler.specs.Naming.{IsOver}
 use Rattle.guard_compiler.proofs.relevant.marks_of.Given as goal
 
 abbrev pub invariant-rounds : goal.invariant-rounds
 invariant-rounds l = record {
   full : length l.marks.items ≡ l.subjects;
-  variables : AreOfVariables l.components l.marks.items;
   of_guard : All (IsOver l.components (is_set l.marks.items)) l.guard;
 }
 

@@ -3,7 +3,7 @@ use Rattle.cca_base.specs.Shown.{IsShownCycle}
 use Rattle.causal_graph.proofs.ModelLemmas.{models_have_rows, orders_are_of_models, cycles_are_of_models}
 use Rattle.cca_base.specs.State.{HasWorlds}
 use Rattle.acceptance.proofs.RefusalLemmas.{stop_of_ways, cycle_refused, deep_refused, compiled}
-use Rattle.acceptance.proofs.accepting.parts_of.Goals as goal
+use Rattle.acceptance.proofs.accepting.parts_by.Goals as goal
 
 pub returns-in_err-ways-clause-refused : goal.returns-in_err-ways-clause-refused
 returns-in_err-ways-clause-refused c =

@@ -1,0 +1,154 @@
+ghost use Rattle.std.specs.Prelude.{◌≡◌, ◌++◌, ◌<◌, ◌≤◌, ◌==◌, All, IfOk, List, MatchBool, OnOk, filter, length};
+ghost use Rattle.cca_base.specs.declared.limits.TheConstants.{MAX_CHOICES};
+ghost use Rattle.clause_form.specs.Clauses.{AllBelow};
+ghost use Rattle.clause_form.specs.declared.clause.Clause.{Clause};
+ghost use Rattle.guard_compiler.specs.Naming.{names_one};
+ghost use Rattle.guard_compiler.specs.Shared.{AreSharedOut, owned_by};
+
+use crate::rules::RuleClause;
+use cca_base::List;
+use clause_form::{Clause, Clauses};
+use elimination::project_subject;
+use std::alloc::{AllocError, Global};
+
+/// The same clause.
+pub(crate) fn copy_of(alloc: Global, clause: &Clause) -> Result<Clause, AllocError>
+    ensures { IfOk result (λ r. r ≡ clause.now) }
+{
+    Ok(Clause {
+        literals: clause.literals.copy(alloc)?,
+    })
+}
+
+/// The same clauses.
+pub(crate) fn copies(alloc: Global, clauses: &[Clause]) -> Result<Vec<Clause>, AllocError>
+    ensures { IfOk result (λ r. r.items ≡ clauses.now) }
+{
+    let mut all = Vec::new(alloc);
+    for clause in clauses {
+        all.push(copy_of(alloc, clause)?)?;
+    }
+    Ok(all)
+}
+
+/// Whether the clause names the subject.
+fn names(clause: &Clause, x: u16) -> bool
+    ensures { result ≡ names_one (λ u. u == x) clause.now }
+{
+    clause
+        .literals
+        .as_slice()
+        .iter()
+        .any(|literal| literal.subject == x)
+}
+
+/// The clauses that name the subject.
+fn naming(alloc: Global, clauses: &[Clause], x: u16) -> Result<List<Clause>, AllocError>
+    ensures { IfOk result (λ r. r ≡ filter (names_one (λ u. u == x)) clauses.now) }
+{
+    let mut with = List::new(alloc);
+    for clause in clauses {
+        if names(clause, x) {
+            with.push(copy_of(alloc, clause)?)?;
+        }
+    }
+    Ok(with)
+}
+
+/// Adds the clauses, which belong to the subject.
+fn push_owned(
+    alloc: Global,
+    clauses: &[Clause],
+    x: u16,
+    rules: &mut List<RuleClause>,
+) -> Result<(), AllocError>
+    ensures { OnOk result (rules.new ≡ rules.old ++ owned_by x clauses.now) }
+{
+    for clause in clauses {
+        rules.push(RuleClause {
+            owner: Some(x),
+            clause: copy_of(alloc, clause)?,
+        })?;
+    }
+    Ok(())
+}
+
+/// Moves the clauses that name the variable to the rules, as its own, if there are no more than `most`, and where, whatever
+/// values the others have, some value of it makes them all true. Says whether they were moved.
+fn share(
+    alloc: Global,
+    sizes: &List<u8>,
+    components: u16,
+    most: usize,
+    x: u16,
+    left: &mut Vec<Clause>,
+    rules: &mut List<RuleClause>,
+) -> Result<bool, AllocError>
+    requires sizes { All (λ n. n ≤ MAX_CHOICES) sizes.now }
+    requires few { length sizes.now ≤ 65535 }
+    requires variable { components ≤ x }
+    requires subject { x < length sizes.now }
+    requires below { AllBelow (length sizes.now) left.old.items }
+    ensures below { OnOk result (AllBelow (length sizes.now) left.new.items) }
+    ensures fewer { IfOk result (λ found. MatchBool found
+        (length left.new.items < length left.old.items) (left.new.items ≡ left.old.items)) }
+    ensures shared { OnOk result ((given : List Clause)
+        → AreSharedOut sizes.now components given rules.old left.old.items
+        → AreSharedOut sizes.now components given rules.new left.new.items) }
+{
+    let with = naming(alloc, left.as_slice(), x)?;
+    if with.len() == 0 || with.len() > most {
+        return Ok(false);
+    }
+    let with = Clauses {
+        sizes: sizes.copy(alloc)?,
+        clauses: with,
+    };
+    if project_subject(alloc, &with, x)?.clauses.len() > 0 {
+        return Ok(false);
+    }
+    left.retain(|clause| !names(clause, x));
+    push_owned(alloc, with.clauses.as_slice(), x, rules)?;
+    Ok(true)
+}
+
+/// The number at place `k` from `first` to `end`, upwards, or else downwards.
+fn number_at(k: u16, first: u16, end: u16, up: bool) -> u16
+    requires above { first ≤ k }
+    requires below { k < end }
+    ensures above { first ≤ result }
+    ensures below { result < end }
+{
+    if up { k } else { end - 1 - (k - first) }
+}
+
+/// Tries each variable as an owner, the first or the last first, and says whether one got clauses.
+pub(crate) fn share_round(
+    alloc: Global,
+    sizes: &List<u8>,
+    components: u16,
+    most: usize,
+    up: bool,
+    left: &mut Vec<Clause>,
+    rules: &mut List<RuleClause>,
+) -> Result<bool, AllocError>
+    requires sizes { All (λ n. n ≤ MAX_CHOICES) sizes.now }
+    requires few { length sizes.now ≤ 65535 }
+    requires below { AllBelow (length sizes.now) left.old.items }
+    ensures below { OnOk result (AllBelow (length sizes.now) left.new.items) }
+    ensures fewer { IfOk result (λ found. MatchBool found
+        (length left.new.items < length left.old.items) (left.new.items ≡ left.old.items)) }
+    ensures shared { OnOk result ((given : List Clause)
+        → AreSharedOut sizes.now components given rules.old left.old.items
+        → AreSharedOut sizes.now components given rules.new left.new.items) }
+{
+    let mut found = false;
+    let subjects = sizes.len() as u16;
+    for k in components..subjects {
+        let x = number_at(k, components, subjects, up);
+        if share(alloc, sizes, components, most, x, left, rules)? {
+            found = true;
+        }
+    }
+    Ok(found)
+}
