@@ -43,6 +43,10 @@ sorted_differ R remaining (c ∷ order) h ps (inr (mode, others, e, in_order)) =
       ],
     )
 
+-- pairs in the order in which all components are taken are a cube
+pub sorted_once : (order : List ℕ) (R : ℕ → ℕ → Type 0) (n : ℕ) → TakesEffectsFirstBy R (numbers_below n) order → (sorted : List Pair) → AreInOrder order sorted → IsCube sorted
+sorted_once order R n takes sorted in_order = (sorted_differ R (numbers_below n) order takes sorted in_order).0
+
 module _ (order : List ℕ) (pairs : List Pair) where
   -- the pairs of the first components of the order are sorted
   pub record IsSorting (sorted : List Pair) (i : ℕ) : Type 0 where

@@ -21,7 +21,8 @@ fn pair_of(pairs: &[Pair], c: u16) -> Option<Pair>
 pub fn sort_goal(alloc: Global, compiled: &Compiled, pairs: &List<Pair>) -> Result<Goal, AllocError>
     requires once { IsCube pairs.now }
     requires within { All (λ p. p.item < length compiled.now.model.components) pairs.now }
-    ensures { IfOk result (λ goal. IsSorted compiled.now.order pairs.now goal.pairs) }
+    ensures sorted { IfOk result (λ goal. IsSorted compiled.now.order pairs.now goal.pairs) }
+    ensures once { IfOk result (λ goal. IsCube goal.pairs) }
 {
     let order = compiled.order();
     let mut sorted = List::new(alloc);

@@ -3,6 +3,7 @@ pub mod Accepted
 pub mod Automata
 pub mod Bounds
 pub mod Choice
+pub mod Choices
 pub mod Cube
 pub mod Estimates
 pub mod Flags

@@ -4,6 +4,7 @@ use Rattle.cca_base.specs.declared.cube.Pair.{Pair}
 use Rattle.cca_base.specs.declared.events.PlanEnd.{PlanEnd}
 use Rattle.cca_base.specs.declared.events.PlanEnd.TheVariants.{Plan, Long}
 use Rattle.cca_base.specs.declared.events.Route.{Route}
+use Rattle.cca_base.specs.declared.events.Reply.{Reply}
 use Rattle.cca_base.specs.declared.limits.TheConstants.{MAX_PLAN}
 use Rattle.cca_base.specs.Automata.{Automata}
 use Rattle.cca_base.specs.Accepted.{CompiledParts, IsCompiled}
@@ -12,13 +13,24 @@ use Rattle.cca_base.specs.State.{Extends, IsWorld}
 use Rattle.cca_base.specs.Steps.{Step, Reach}
 use Rattle.cca_base.specs.Orders.{AreInOrder}
 use Rattle.cca_base.specs.Estimates.{IsEarlier}
-use Rattle.cca_base.specs.Choice.{PicksForGoal}
+use Rattle.cca_base.specs.Choice.{PicksForGoal, Chosen}
+use Rattle.cca_base.specs.Bounds.{stated_number}
+use Rattle.cca_base.specs.Runs.{is_unreachable}
 
 -- the picked commands, each applied as its step, from a state until the goal stands
 abbrev pub Whole : CompiledParts → List Pair → List ℕ → List ℕ → List ℕ → Type 0
 Whole b goal s [] last = Extends s goal × (last ≡ s)
 Whole b goal s (k ∷ ks) last =
     (Extends s goal → ⊥) × PicksForGoal b s goal k × (next : List ℕ) × Step b.model s k next × Whole b goal next ks last
+
+-- the picked commands lead to the goal, and they are no more than its stated number
+abbrev pub CanBeServed : CompiledParts → List ℕ → List Pair → Type 0
+CanBeServed b s goal = (ks last : List ℕ) × Whole b goal s ks last × (length ks ≤ stated_number b.bounds goal)
+
+-- a good reply with the picked command; unless it is that the goal can't be reached, the picked commands lead there in time
+pub record Promising (b : CompiledParts) (s : List ℕ) (goal : List Pair) (reply : Reply) : Type 0 where
+  pub chosen : Chosen b s goal reply
+  pub served : is_unreachable (Some reply) ≡ false → CanBeServed b s goal
 
 -- where a component is to go back to: its mode in the state if that is not broken, and else its mended mode if that can be reached
 abbrev pub IsWanted : Automata → List ℕ → Pair → Type 0

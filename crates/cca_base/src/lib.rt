@@ -3,6 +3,7 @@
 #![tactic(auto)]
 
 mod boxed;
+mod choice;
 mod compiled;
 mod cube;
 mod events;
@@ -14,8 +15,10 @@ mod model;
 mod name;
 mod sets;
 mod state;
+mod steps;
 
 pub use boxed::Boxed;
+pub use choice::{Choice, Choices};
 pub use compiled::Compiled;
 pub use cube::{Cube, Pair};
 pub use events::{Detail, Event, PlanEnd, Refusal, Reply, Route, Shown, Stop, TickReport};
@@ -30,3 +33,4 @@ pub use model::{Component, Failure, Model, Move, Variable};
 pub use name::Name;
 pub use sets::{ValueSet, VarSet};
 pub use state::{Goal, Seen, State, World};
+pub use steps::Steps;

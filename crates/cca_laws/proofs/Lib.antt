@@ -6,6 +6,8 @@ pub mod OrderLemmas
 pub mod PickLemmas
 pub mod TraceLemmas
 pub mod CompiledLemmas
+pub mod Decided
+pub mod Minimal
 pub mod EmptyLemmas
 pub mod LampLemmas
 pub mod Tiny

@@ -66,7 +66,7 @@ module _ (b : CompiledParts) (s : List ℕ) (once : NoneTwice b.order) where
       let e : q ≡ p = one_next b.order s part q p once after (subst (λ z. IsNextOf b.order s z p) same next) in
       one_pick p.item p.value k l rest (opened p.item p.value l (subst (λ z. Picks b s z.item z.value l) e more))
 
-  one_command : (goal : List Pair) (k l : ℕ) → PicksForGoal b s goal k → PicksForGoal b s goal l → k ≡ l
+  pub one_command : (goal : List Pair) (k l : ℕ) → PicksForGoal b s goal k → PicksForGoal b s goal l → k ≡ l
   one_command goal k l (p, missing, picks) (q, other, more) =
       let e : q ≡ p = one_first_missing s goal q p other missing in
       one_pick p.item p.value k l picks (opened p.item p.value l (subst (λ z. Picks b s z.item z.value l) e more))

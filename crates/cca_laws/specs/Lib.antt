@@ -8,3 +8,4 @@ pub mod EdgeExamples
 pub mod OrderExamples
 pub mod ObservedExamples
 pub mod RightExamples
+pub mod Conditions

@@ -1,3 +1,4 @@
+ghost use Rattle.cca_laws.specs.Conditions.{FollowsIsDecided, SufficientCubesHavePrimes};
 ghost use Rattle.cca_laws.specs.Laws.{RunsJoin, AllowedPlansRun, MendsItself, RepairsAreAllowed, ImplicantsGiveSteps, OneEstimate, NeverBoth, OneObserved, OneFixedTrace, OneFirstMissing, NoneUnderNoOrder, SendsServe, StandingIsReached, StandingGivesNoCommands, FreeIsNominal, FirstIsRight, OneCompiled, InOrderIsPairwise, OrdersHaveNoneTwice, NominalIsFree, OneCost, CommandsAreUsed, NeverIdle, AsManyAsTicks};
 
 /// Runs and plans.
@@ -50,4 +51,10 @@ pub fn compiled()
 pub fn orders()
     ensures pairwise { InOrderIsPairwise }
     ensures none_twice { OrdersHaveNoneTwice }
+{}
+
+/// Conditions of moves.
+pub fn conditions()
+    ensures decided { FollowsIsDecided }
+    ensures primes { SufficientCubesHavePrimes }
 {}

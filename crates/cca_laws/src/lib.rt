@@ -7,7 +7,7 @@ mod examples;
 mod laws;
 
 pub use examples::{edges, empty, formulas, implicants, lamp, observed, right, successors, valve};
-pub use laws::{compiled, costs, estimates, goals, orders, plans, traces};
+pub use laws::{compiled, conditions, costs, estimates, goals, orders, plans, traces};
 
 /// The definitions are cited.
 pub fn cited()

@@ -3,7 +3,7 @@ use Rattle.std.proofs.lemmas.Option.{get_or_from_slice_get}
 use Rattle.cca_base.specs.Cube.{Lacks}
 use Rattle.cca_base.specs.Implicants.{Needs}
 use Rattle.cca_base.specs.declared.cube.Pair.{Pair}
-use Rattle.causal_graph.proofs.GoalLemmas.{sorting_none, sorting_yes, sorting_no, sorting_all}
+use Rattle.causal_graph.proofs.GoalLemmas.{sorting_none, sorting_yes, sorting_no, sorting_all, sorted_once}
 use Rattle.causal_graph.proofs.goal.sort_goal.Goals.{in-Some+in_ok-push, in_default}
 use Rattle.causal_graph.proofs.goal.sort_goal.Goals as goal
 
@@ -29,9 +29,14 @@ loop-i-preserved c =
           rw w.sorted-is (sorting_no order pairs sorted i c.loop-i.invariant within lacks)
     ]
 
-pub returns : goal.returns
-returns c =
+pub returns-clause-sorted : goal.returns-clause-sorted
+returns-clause-sorted c =
     let model = c.args.compiled.now.model in
     let order : List ℕ = c.args.compiled.now.order in
     sorting_all order c.args.pairs.now (Needs model) (length model.components) c.order-order.ensures.compiled.order c.requires.once c.requires.within c.loop-i.sorted c.loop-i.i
     (omega (arith, c.loop-i-test.false, c.len-i-end.ensures, ap length c.order-order.ensures.value)) c.loop-i.invariant
+
+pub returns-clause-once : goal.returns-clause-once
+returns-clause-once c = sorted_once c.args.compiled.now.order (Needs c.args.compiled.now.model) (length c.args.compiled.now.model.components)
+    c.order-order.ensures.compiled.order c.loop-i.sorted
+    (returns-clause-sorted c).in_order
