@@ -201,7 +201,7 @@ pair_same p q h =
 cube_same : (a b : List Pair) → cube_cmp a b ≡ Equal → a ≡ b
 cube_same a b h = slice_cmp-IsAntisymmetric pair_same a b (then_equal _ _ h).1
 
-cube_total : IsTotalOrder cube_cmp
+pub cube_total : IsTotalOrder cube_cmp
 cube_total = then_total (on_total (λ (a : List Pair). length a) nat_cmp_total) (lists_total (then_total (on_total (λ (p : Pair). p.item) nat_cmp_total) (on_total (λ (p : Pair). p.value) nat_cmp_total)))
 
 less_greater : ◌≡◌ {A = Ordering} Less Greater → ⊥

@@ -1,8 +1,5 @@
 -- What is picked is determined.
-use Rattle.std.proofs.Common.{◌≡◌, ℕ, List, [], ◌∷◌, sym, subst, ◌∙◌, refl}
-use Rattle.cca_base.specs.declared.cube.Pair.{Pair}
-use Rattle.cca_base.specs.Accepted.{CompiledParts}
-use Rattle.cca_base.specs.Orders.{IsEffectsFirst}
+use Rattle.std.proofs.Common.{◌≡◌, [], ◌∷◌, sym, subst, ◌∙◌, refl}
 use Rattle.cca_base.specs.Plans.{Whole}
 use Rattle.cca_base.specs.Steps.{Step}
 use Rattle.cca_laws.proofs.OrderLemmas.{compiled_none_twice}

@@ -1,0 +1,5 @@
+pub mod Places
+pub mod Approach
+pub mod FirstCube
+pub mod Filled
+pub mod Own

@@ -1,0 +1,21 @@
+use Rattle.std.proofs.Common.{◌∙◌, ap, sym, subst}
+use Rattle.reach_laws.specs.Cells.{IsCell}
+use Rattle.reversibility.specs.Parts.{in_row}
+use Rattle.policy_tables.specs.Tables.{IsTables}
+use Rattle.policy_tables.proofs.Places.{place_of}
+use Rattle.policy_tables.proofs.tables.Tables.look_up.Goals as goal
+
+pub returns-clause-place : goal.returns-clause-place
+returns-clause-place g c =
+    rw (← c.self.view_is)
+    (place_of c.self.inside.classes.compiled.model c.components.result.now c.self.inside.cells c.args.c c.args.from c.args.to c.len-modes.result
+    c.get-component.result.now c.get.result.now c.get-2.result.now
+    (c.components.ensures.value ∙ ap (λ z. z.components) (c.model.ensures.value ∙ ap (λ z. z.model) c.compiled.ensures.value))
+    c.get-component.ensures.value c.len-modes.ensures c.get.ensures.value c.get-2.ensures.value)
+
+pub returns-clause-cell : goal.returns-clause-cell
+returns-clause-cell g c =
+    let t = c.args.self.now in
+    let is : IsTables t = subst IsTables c.self.view_is c.self.invariant in
+    subst (IsCell t.classes.compiled (in_row t.classes.rows) c.args.c c.args.from c.args.to) (sym (returns-clause-place g c))
+    (is.cells.policy c.args.c c.args.from c.args.to c.requires.from c.requires.to c.requires.stands)

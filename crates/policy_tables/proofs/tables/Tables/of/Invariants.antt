@@ -1,0 +1,5 @@
+use Rattle.policy_tables.specs.Filling.{AreFilledTo}
+use Rattle.policy_tables.proofs.tables.Tables.of.Given as goal
+
+abbrev pub invariant-loop-c : goal.invariant-loop-c
+invariant-loop-c l = AreFilledTo l.classes l.cells l.c

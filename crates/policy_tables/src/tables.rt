@@ -1,0 +1,93 @@
+ghost use Rattle.std.specs.Prelude.{◌≡◌, ◌+◌, ◌⊎◌, ◌↔◌, ◌<◌, IsTrue, IfOk, true, Some, length, slice_index, slice_get};
+ghost use Rattle.cca_base.specs.Model.{HasMode};
+ghost use Rattle.reach_laws.specs.Cells.{cell_at, IsCell};
+ghost use Rattle.reach_laws.specs.Classes.{Stands};
+ghost use Rattle.reversibility.specs.Parts.{CoversState, in_row};
+ghost use Rattle.policy_tables.specs.Tables.{IsTables};
+
+use crate::filling::cells_of;
+use cca_base::{List, State, Steps};
+use reach_laws::Cell;
+use reversibility::Classes;
+use std::alloc::{AllocError, Global};
+use std::sync::ledger::Ledger;
+
+/// For each component and each two of its modes, what leads it from the one to the other.
+#[derive(Debug, Drop)]
+pub struct Tables {
+    classes: Classes,
+    cells: List<List<Cell>>,
+}
+
+impl std::marker::Model for Tables {
+    ghost use Rattle.policy_tables.specs.Tables.{TableParts};
+
+    ghost Value = { TableParts };
+
+    ghost use Rattle.cca_base.specs.contracts.formula.Formula as formula;
+    ghost use Rattle.std.specs.Coded.{codes};
+
+    ghost coded = { Prim.hlevel (codes, formula.the_row.coded) };
+
+    ghost use Rattle.policy_tables.specs.Tables.{IsTables};
+
+    ghost view = { λ t. record {
+      classes = t.classes;
+      cells = t.cells;
+    } };
+
+    ghost invariant = { λ t. IsTables (record {
+      classes = t.classes;
+      cells = t.cells;
+    }) };
+}
+
+impl Tables {
+    /// The tables of classes, which are gone where memory is wanting. That is the error.
+    pub fn of(alloc: Global, classes: Classes) -> Result<Tables, AllocError>
+        ensures { IfOk result (λ t. t.classes ≡ classes) }
+    {
+        let n = classes.rows().len();
+        let mut cells = List::new(alloc);
+        for c in 0..n {
+            cells.push(cells_of(alloc, &classes, c as u16)?)?;
+        }
+        Ok(Tables { classes, cells })
+    }
+
+    /// The classes that the tables are of.
+    pub fn classes(&self) -> &Classes
+        ensures value { result.now ≡ self.now.classes }
+        ensures tables { IsTables self.now }
+    {
+        &self.classes
+    }
+
+    /// The cell for a component from one mode to another. It is one step.
+    pub fn look_up<L: Ledger>(&self, c: u16, from: u8, to: u8, steps: &mut Steps<L>) -> &Cell
+        requires from { HasMode self.now.classes.compiled.model c from }
+        requires to { HasMode self.now.classes.compiled.model c to }
+        requires stands { Stands self.now.classes.compiled.model self.now.classes.base (in_row self.now.classes.rows) c from }
+        ensures cell { IsCell self.now.classes.compiled (in_row self.now.classes.rows) c from to result.now }
+        ensures place { result.now ≡ cell_at self.now.classes.compiled.model self.now.cells c from to }
+        ensures steps { steps.new ≡ steps.old + 1 }
+    {
+        steps.tick();
+        let component = self.classes.compiled().model().components().get(c as usize);
+        let modes = component.modes.len();
+        self.cells
+            .get(c as usize)
+            .get(from as usize * modes + to as usize)
+    }
+
+    /// Whether the state holds the pair, or its mode is in its component's class. It is one step.
+    pub fn reaches<L: Ledger>(&self, c: u16, to: u8, state: &State, steps: &mut Steps<L>) -> bool
+        requires within { c < length self.now.classes.compiled.model.components }
+        requires covers { CoversState self.now.classes state.now.modes }
+        ensures value { IsTrue result ↔ ((slice_get state.now.modes c ≡ Some to) ⊎ (in_row self.now.classes.rows c to ≡ true)) }
+        ensures steps { steps.new ≡ steps.old + 1 }
+    {
+        steps.tick();
+        *state.modes.get(c as usize) == to || self.classes.class(c).has(to)
+    }
+}

@@ -1,0 +1,6 @@
+pub mod Lists
+pub mod OpenMoves
+pub mod Near
+pub mod Shortest
+pub mod Taken
+pub mod Standing

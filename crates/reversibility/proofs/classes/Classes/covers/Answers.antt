@@ -1,0 +1,32 @@
+use Rattle.std.proofs.Common.{◌<◌, ◌∙◌, sym, subst, ◌+◌, slice_index, ℕ, List}
+use Rattle.std.proofs.lemmas.Bool.{false≢true}
+use Rattle.reach_laws.specs.Classes.{Covers, Stands}
+use Rattle.reversibility.specs.Parts.{ClassParts, in_row}
+use Rattle.reversibility.proofs.Standing.{below_next, inside_here, base_here, not_covered}
+use Rattle.reversibility.proofs.classes.Classes.covers.Goals.{else-not-has-via-then-not-has+else-mode-get, else-not-has-via-else-not-has}
+use Rattle.reversibility.proofs.classes.Classes.covers.Goals as goal
+
+pub returns-then-mode-get : goal.returns-then-mode-get
+returns-then-mode-get c =
+    let p : ClassParts = record { compiled = c.self.inside.compiled.value; base = c.self.inside.base.modes; rows = c.self.inside.rows; mendable = c.self.inside.mendable } in (
+      λ f. absurd (false≢true f),
+      λ covers. absurd (not_covered p c.self.invariant c.args.state.now.modes c.loop-c.c c.get.result.now c.get-mode.result.now c.get.ensures.value c.get-mode.ensures.value
+          c.get-then-not-has.result.now c.get-then-not-has.ensures.value (sym c.has.ensures ∙ c.if-not-has.true) c.if-mode-get.true
+          (subst (λ (z : ClassParts). Covers z.compiled.model z.base (in_row z.rows) c.args.state.now.modes) (sym c.self.view_is) covers)),
+    )
+
+pub loop-c-preserved : goal.loop-c-preserved
+loop-c-preserved c =
+    let p : ClassParts = record { compiled = c.self.inside.compiled.value; base = c.self.inside.base.modes; rows = c.self.inside.rows; mendable = c.self.inside.mendable } in
+    let s : List ℕ = c.args.state.now.modes in
+    let now : ClassParts = c.args.self.now in
+    let turn : Stands p.compiled.model p.base (in_row p.rows) c.loop-c.c (slice_index s c.loop-c.c) → (k : ℕ) → k < c.loop-c.c + 1 → Stands now.compiled.model now.base (in_row now.rows) k (slice_index s k) =
+    λ here. below_next (λ k. Stands now.compiled.model now.base (in_row now.rows) k (slice_index s k)) c.loop-c.c c.loop-c.invariant
+    (subst (λ (z : ClassParts). Stands z.compiled.model z.base (in_row z.rows) c.loop-c.c (slice_index s c.loop-c.c)) c.self.view_is here) in
+    elim c.else-not-has.branch [
+      | else-not-has-via-then-not-has+else-mode-get w ↦
+          turn (base_here p c.self.invariant s c.loop-c.c c.get.result.now c.get-mode.result.now c.get.ensures.value c.get-mode.ensures.value
+          w.get-then-not-has.result.now w.get-then-not-has.ensures.value w.if-mode-get.false)
+      | else-not-has-via-else-not-has w ↦
+          turn (inside_here p c.self.invariant s c.loop-c.c c.get.result.now c.get-mode.result.now c.get.ensures.value c.get-mode.ensures.value (sym c.has.ensures ∙ w.if-not-has.false))
+    ]

@@ -1,0 +1,20 @@
+use Rattle.std.proofs.Common.{◌≡◌, ◌-◌, ◌∙◌, ℕ, List, drop, length, sym, ap, subst, arith}
+use Rattle.cca_base.specs.Accepted.{CompiledParts, IsCompiled}
+use Rattle.reversibility.specs.Parts.{IsClasses}
+use Rattle.reversibility.specs.Levels.{AreDone}
+use Rattle.reversibility.proofs.Taken.{all_done}
+use Rattle.reversibility.proofs.classes.Classes.of.Goals as goal
+
+pub invariant_of-result : goal.invariant_of-result
+invariant_of-result c =
+    let b : CompiledParts = c.args.compiled.now.value in
+    let is : IsCompiled b = subst IsCompiled c.deref.ensures c.model.ensures.compiled in
+    let s : List ℕ = c.args.state.now.modes in
+    let order_is : c.order.result.now ≡ b.order = c.order.ensures.value ∙ ap (λ z. z.order) c.deref-2.ensures in
+    let none : length b.order - c.loop-i.i ≡ 0 = omega (arith, c.loop-i-test.false, c.len-i-end.ensures, ap length order_is) in
+    let done : AreDone b.model s c.loop-i.taken.rows c.loop-i.taken.mendable b.order =
+    subst (λ n. AreDone b.model s c.loop-i.taken.rows c.loop-i.taken.mendable (drop n b.order)) none c.loop-i.invariant in
+    let made : IsClasses (record { compiled = b; base = s; rows = c.loop-i.taken.rows; mendable = c.loop-i.taken.mendable }) =
+    all_done b is s c.loop-i.taken.rows c.loop-i.taken.mendable c.requires done in
+    subst (λ x. IsClasses (record { compiled = x; base = c.in_ok-copy.field-0.modes; rows = c.loop-i.taken.rows; mendable = c.loop-i.taken.mendable })) (sym c.in_ok-clone.ensures.cases)
+    (subst (λ y. IsClasses (record { compiled = b; base = y; rows = c.loop-i.taken.rows; mendable = c.loop-i.taken.mendable })) (sym (ap (λ z. z.modes) c.in_ok-copy.ensures)) made)

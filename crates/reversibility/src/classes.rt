@@ -1,0 +1,170 @@
+ghost use Rattle.std.specs.Prelude.{◌≡◌, ◌↔◌, ◌+◌, ◌-◌, ◌<◌, IsTrue, IfOk, OnOk, drop, length, slice_index};
+ghost use Rattle.reversibility.specs.Levels.{AreDone};
+ghost use Rattle.cca_base.specs.Flags.{is_set};
+ghost use Rattle.cca_base.specs.State.{IsState};
+ghost use Rattle.reach_laws.specs.Classes.{Covers, Stands};
+ghost use Rattle.reversibility.specs.Parts.{IsClasses, in_row};
+
+use crate::around::class_around;
+use cca_base::{Compiled, List, State, ValueSet};
+use std::alloc::{AllocError, Global};
+use std::rc::Rc;
+
+/// For each component the modes that open moves join both ways around the base.
+#[derive(Debug, Drop)]
+pub struct Classes {
+    compiled: Rc<Compiled>,
+    base: State,
+    rows: List<ValueSet>,
+    mendable: List<bool>,
+}
+
+impl std::marker::Model for Classes {
+    ghost use Rattle.reversibility.specs.Parts.{ClassParts};
+
+    ghost Value = { ClassParts };
+
+    ghost use Rattle.cca_base.specs.contracts.formula.Formula as formula;
+    ghost use Rattle.std.specs.Coded.{codes};
+
+    ghost coded = { Prim.hlevel (codes, formula.the_row.coded) };
+
+    ghost use Rattle.reversibility.specs.Parts.{IsClasses};
+
+    ghost view = { λ c. record {
+      compiled = c.compiled.value;
+      base = c.base.modes;
+      rows = c.rows;
+      mendable = c.mendable;
+    } };
+
+    ghost invariant = { λ c. IsClasses (record {
+      compiled = c.compiled.value;
+      base = c.base.modes;
+      rows = c.rows;
+      mendable = c.mendable;
+    }) };
+}
+
+/// The classes that are taken so far, causes first, and the flags of what can be mended.
+#[derive(Debug, Drop)]
+struct Taken {
+    rows: List<ValueSet>,
+    mendable: List<bool>,
+}
+
+/// The class of one component more, where the classes of so many from the order's end are there.
+fn take(
+    alloc: Global,
+    compiled: &Compiled,
+    base: &State,
+    taken: &mut Taken,
+    i: usize,
+) -> Result<(), AllocError>
+    requires state { IsState compiled.now.model base.now.modes }
+    requires within { i < length compiled.now.order }
+    requires done { AreDone compiled.now.model base.now.modes taken.old.rows taken.old.mendable
+        (drop (length compiled.now.order - i) compiled.now.order) }
+    ensures { OnOk result (AreDone compiled.now.model base.now.modes taken.new.rows taken.new.mendable
+        (drop (length compiled.now.order - (i + 1)) compiled.now.order)) }
+{
+    let order = compiled.order();
+    let c = *order.get(order.len() - 1 - i);
+    let mode = *base.modes.get(c as usize);
+    if let Some(class) = class_around(alloc, compiled, taken.rows.as_slice(), c, mode)? {
+        taken.rows.set(c as usize, class);
+        let broken = compiled.model().broken(c, mode);
+        taken.mendable.set(c as usize, broken);
+    }
+    Ok(())
+}
+
+impl Classes {
+    /// The classes around a state. The error is want of memory.
+    pub fn of(alloc: Global, compiled: &Rc<Compiled>, state: &State) -> Result<Classes, AllocError>
+        requires { IsState compiled.now.value.model state.now.modes }
+        ensures compiled { IfOk result (λ c. c.compiled ≡ compiled.now.value) }
+        ensures base { IfOk result (λ c. c.base ≡ state.now.modes) }
+    {
+        let n = compiled.model().components().len();
+        let mut taken = Taken {
+            rows: List::of(vec![in alloc; ValueSet::empty(); n]?),
+            mendable: List::of(vec![in alloc; false; n]?),
+        };
+        for i in 0..compiled.order().len() {
+            take(alloc, compiled, state, &mut taken, i)?;
+        }
+        let Taken { rows, mendable } = taken;
+        Ok(Classes {
+            compiled: compiled.clone()?,
+            base: state.copy(alloc)?,
+            rows,
+            mendable,
+        })
+    }
+
+    /// What the classes are of.
+    pub fn compiled(&self) -> &Compiled
+        ensures value { result.now ≡ self.now.compiled }
+        ensures classes { IsClasses self.now }
+    {
+        &self.compiled
+    }
+
+    /// The state around which they are taken.
+    pub fn base(&self) -> &State
+        ensures value { result.now.modes ≡ self.now.base }
+        ensures classes { IsClasses self.now }
+    {
+        &self.base
+    }
+
+    /// The modes of a component's class.
+    pub fn class(&self, c: u16) -> ValueSet
+        requires { c < length self.now.compiled.model.components }
+        ensures value { result ≡ slice_index self.now.rows c }
+        ensures classes { IsClasses self.now }
+    {
+        *self.rows.get(c as usize)
+    }
+
+    /// The sets of all components.
+    pub fn rows(&self) -> &[ValueSet]
+        ensures value { result.now ≡ self.now.rows }
+        ensures classes { IsClasses self.now }
+    {
+        self.rows.as_slice()
+    }
+
+    /// Whether the component may stand in the mode where the classes cover a state.
+    pub fn stands(&self, c: u16, mode: u8) -> bool
+        requires { c < length self.now.compiled.model.components }
+        ensures value { IsTrue result ↔ Stands self.now.compiled.model self.now.base (in_row self.now.rows) c mode }
+        ensures classes { IsClasses self.now }
+    {
+        self.rows.get(c as usize).has(mode) || mode == *self.base.modes.get(c as usize)
+    }
+
+    /// Whether the component is broken in the base, and can be mended.
+    pub fn mendable(&self, c: u16) -> bool
+        requires { c < length self.now.compiled.model.components }
+        ensures value { result ≡ is_set self.now.mendable c }
+        ensures classes { IsClasses self.now }
+    {
+        *self.mendable.get(c as usize)
+    }
+
+    /// Whether each component of the state stands in its class or in its base mode.
+    pub fn covers(&self, state: &State) -> bool
+        requires { IsState self.now.compiled.model state.now.modes }
+        ensures { IsTrue result ↔ Covers self.now.compiled.model self.now.base (in_row self.now.rows) state.now.modes }
+    {
+        for c in 0..self.rows.len() {
+            let mode = *state.modes.get(c);
+            if !self.rows.get(c).has(mode) && mode != *self.base.modes.get(c) {
+                return false;
+            }
+        }
+        true
+    }
+}
