@@ -1,9 +1,9 @@
 -- Paths and orders of a relation.
-use Rattle.std.proofs.Common.{◌≡◌, ◌≢◌, ◌<◌, ◌≤◌, ◌==◌, ◌⊎◌, ◌↔◌, ℕ, zero, suc, not, List, [], ◌∷◌, ◌++◌, length, All, AllPairs, Contains, filter, inl, inr, refl, sym, ap, subst, ◌∙◌, arith}
+use Rattle.std.proofs.Common.{◌≡◌, ◌≢◌, ◌<◌, ◌==◌, ◌↔◌, ℕ, zero, suc, not, List, [], ◌∷◌, ◌++◌, All, AllPairs, Contains, filter, inl, inr, refl, sym, ap, subst, ◌∙◌, arith}
 use Rattle.std.proofs.lemmas.Bool.{cases_Bool, cases_eq, cases_order, eqb-true, eq-eqb, ne_eqb, not_from_false, not_from_true, cond-true, cond-false}
 use Rattle.std.proofs.lemmas.List.Elements.{All-contains, All-head, All-tail, Contains-append_left, Contains-push, Contains-push_cases}
 use Rattle.std.proofs.lemmas.List.Kept.{AllPairs-cons}
-use Rattle.cca_base.proofs.Members.{all_from, contains_cases, contains_here, contains_there, contains_none, to_filter, from_filter}
+use Rattle.cca_base.proofs.Members.{all_from, contains_here, contains_there, contains_none, to_filter, from_filter}
 use Rattle.cca_base.proofs.Pairwise.{AllPairs-head, AllPairs-tail}
 use Rattle.cca_base.specs.Relations.{numbers_below, PathBy, AncestorBy, IsAcyclicBy, IsFreeBy, TakesEffectsFirstBy, IsCycleBy, IsShownCycleBy}
 

@@ -1,5 +1,5 @@
 -- How many commands are enough for a component, and for a goal.
-use Rattle.std.specs.Prelude.{◌≡◌, ℕ, ◌+◌, ◌-◌, ◌*◌, ◌<◌, ◌↔◌, List, length, slice_index, Contains, AllPairs, sum_by}
+use Rattle.std.specs.Prelude.{◌≡◌, ℕ, ◌+◌, ◌-◌, ◌*◌, ◌<◌, List, length, slice_index, sum_by}
 use Rattle.cca_base.specs.declared.cube.Pair.{Pair}
 use Rattle.cca_base.specs.Automata.{Automata}
 use Rattle.cca_base.specs.Model.{mode_counts}

@@ -1,5 +1,5 @@
 -- The minimal conditions of a move, and what a component needs.
-use Rattle.std.specs.Prelude.{◌≡◌, ℕ, List, [], ◌∷◌, All, Contains}
+use Rattle.std.specs.Prelude.{◌≡◌, ℕ, List, ◌∷◌, All, Contains}
 use Rattle.cca_base.specs.declared.cube.Pair.{Pair}
 use Rattle.cca_base.specs.declared.model.Move.{Move}
 use Rattle.cca_base.specs.Automata.{Automata}

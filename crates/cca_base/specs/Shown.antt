@@ -1,8 +1,7 @@
 -- The examples that are shown where a model is refused.
-use Rattle.std.specs.Prelude.{◌≡◌, ◌≤◌, ◌⊎◌, ℕ, List, [], ◌∷◌, ◌++◌, length}
+use Rattle.std.specs.Prelude.{◌≡◌, ◌⊎◌, ℕ, List, [], ◌∷◌, ◌++◌}
 use Rattle.cca_base.specs.declared.cube.Pair.{Pair}
 use Rattle.cca_base.specs.Automata.{Automata}
-use Rattle.cca_base.specs.Names.{AreDifferent}
 use Rattle.cca_base.specs.State.{IsState, IsWorld, Extends}
 use Rattle.cca_base.specs.Repairs.{pairs_of}
 use Rattle.cca_base.specs.Implicants.{Needs}

@@ -1,20 +1,18 @@
 -- What suffices for a move has a minimal part.
-use Rattle.std.proofs.Common.{◌≡◌, ◌<◌, ◌≤◌, ◌+◌, ◌⊎◌, ◌≢◌, ◌==◌, ◌&&◌, ℕ, Bool, true, false, not, List, [], ◌∷◌, length, get_or, slice_get, Some, Contains, filter, refl, sym, ap, subst, ◌∙◌, inl, inr, arith, zero, suc}
+use Rattle.std.proofs.Common.{◌≡◌, ◌<◌, ◌≤◌, ◌+◌, ◌⊎◌, ◌≢◌, ◌==◌, ℕ, Bool, true, false, not, List, [], ◌∷◌, length, get_or, slice_get, Some, Contains, filter, refl, sym, ap, subst, ◌∙◌, inl, inr, arith, zero, suc}
 use Rattle.std.specs.List.{AllPairs}
-use Rattle.std.proofs.lemmas.Bool.{cases_eq, cases_order, cases_Bool, both_ways, cond-true, cond-false, eq-eqb, ne_eqb, not-true, not_from_false, not_from_true, and_parts, and_from}
+use Rattle.std.proofs.lemmas.Bool.{cases_order, cases_Bool, both_ways, cond-true, cond-false, eq-eqb, ne_eqb, not_from_false, not_from_true}
 use Rattle.std.proofs.lemmas.List.{get_or_default}
 use Rattle.std.proofs.lemmas.List.Elements.{All-contains}
-use Rattle.std.proofs.lemmas.Option.{slice_get_within}
 use Rattle.std.proofs.lemmas.List.Kept.{AllPairs-cons, AllPairs-filter}
 use Rattle.cca_base.specs.declared.cube.Pair.{Pair}
 use Rattle.cca_base.specs.declared.model.Move.{Move}
 use Rattle.cca_base.specs.Automata.{Automata}
-use Rattle.cca_base.specs.Model.{HasMode, is_broken}
+use Rattle.cca_base.specs.Model.{HasMode}
 use Rattle.cca_base.specs.Implicants.{Suffices, PrimeImplicant, source_pair}
-use Rattle.cca_base.specs.Repairs.{pairs_from, pairs_of, sound_pairs}
-use Rattle.cca_base.specs.Steps.{support}
-use Rattle.cca_laws.specs.Conditions.{IsSufficient, SufficientCubesHavePrimes}
-use Rattle.cca_base.proofs.Members.{all_from, some_inj, contains_cases, contains_here, contains_there, contains_none, to_filter, from_filter, from_pairs, stands_in}
+use Rattle.cca_base.specs.Repairs.{pairs_from}
+use Rattle.cca_laws.specs.Conditions.{SufficientCubesHavePrimes}
+use Rattle.cca_base.proofs.Members.{all_from, contains_cases, contains_here, contains_there, contains_none, to_filter, from_filter, from_pairs}
 use Rattle.cca_laws.proofs.Decided.{dec_follows, dec_equal}
 
 -- one element for which it holds, or none

@@ -21,10 +21,10 @@ observed = record {
   each = λ p. (λ among. inl among, λ h. elim h [ inl among ↦ among | inr shown ↦ absurd (false≢true (sym (has-empty p.item) ∙ shown.0)) ]);
 }
 
-can_be_seen : CanBeSeen valve_model wrong_moment
+pub can_be_seen : CanBeSeen valve_model wrong_moment
 can_be_seen = (no_flow, 0 ∷ [], observed, start_world, one_at (λ (p : Pair). slice_get (0 ∷ []) p.item ≡ Some p.value) (record { item = 0; value = 0 }) refl)
 
-wrong : ◌≡◌ {A = List ℕ} (1 ∷ 0 ∷ []) (0 ∷ 0 ∷ []) → ⊥
+pub wrong : ◌≡◌ {A = List ℕ} (1 ∷ 0 ∷ []) (0 ∷ 0 ∷ []) → ⊥
 wrong e = absurd cc
 
 pub wrong_is_not_right : WrongIsNotRight

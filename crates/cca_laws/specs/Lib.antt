@@ -8,4 +8,7 @@ pub mod EdgeExamples
 pub mod OrderExamples
 pub mod ObservedExamples
 pub mod RightExamples
+pub mod ServeExamples
+pub mod EventLaws
+pub mod MoreExamples
 pub mod Conditions

@@ -5,6 +5,9 @@ ghost use Rattle.cca_laws.specs.CostExamples.{OpeningIsFree, StayingShutCosts, S
 ghost use Rattle.cca_laws.specs.EdgeExamples.{WhichAreNames, ForeignFailure, CostsAtTheEdge, OutOfFirstUse, WhichAreChoices, SixteenAreChoices, SeventeenAreTooMany};
 ghost use Rattle.cca_laws.specs.OrderExamples.{OneImplicant, OneNeed, CauseComesLast};
 ghost use Rattle.cca_laws.specs.ObservedExamples.{PendingRises, NothingMirrored, GoalIsTurned};
+ghost use Rattle.cca_laws.specs.ServeExamples.{OneOfOne, TwoOfOne, TooLate, NoneAfter, NotLost, LampIsPromised, LostBeginsNone};
+ghost use Rattle.cca_laws.specs.EventLaws.{FaultsMovePlant, ClearEndsGoal, CommandsMovePlant, UnexplainedHolds, HoldingGoesOn, TenThousandAreShown, OneMoreIsLong, LongBothWays};
+ghost use Rattle.cca_laws.specs.MoreExamples.{WrongAfterRight, BrokenIsNoGoal, MirroredIsNotObserved, OnceBeforeTick};
 ghost use Rattle.cca_laws.specs.RightExamples.{WrongIsNotRight, FaultsExcuse, ResetsEndExcuses, ResetKeepsTicks};
 
 /// The empty model.
@@ -76,4 +79,35 @@ pub fn observed()
     ensures pending { PendingRises }
     ensures mirrored { NothingMirrored }
     ensures goal { GoalIsTurned }
+{}
+
+/// Goals that are served in time, and goals that are not.
+pub fn serves()
+    ensures one { OneOfOne }
+    ensures two { TwoOfOne }
+    ensures late { TooLate }
+    ensures none { NoneAfter }
+    ensures lost { NotLost }
+    ensures lamp { LampIsPromised }
+    ensures begins { LostBeginsNone }
+{}
+
+/// What events and ticks change.
+pub fn changes()
+    ensures faults { FaultsMovePlant }
+    ensures clear { ClearEndsGoal }
+    ensures commands { CommandsMovePlant }
+    ensures unexplained { UnexplainedHolds }
+    ensures holding { HoldingGoesOn }
+    ensures shown { TenThousandAreShown }
+    ensures long { OneMoreIsLong }
+    ensures both { LongBothWays }
+{}
+
+/// What stays right from tick to tick, and which events may come.
+pub fn more()
+    ensures after { WrongAfterRight }
+    ensures broken { BrokenIsNoGoal }
+    ensures mirrored { MirroredIsNotObserved }
+    ensures once { OnceBeforeTick }
 {}

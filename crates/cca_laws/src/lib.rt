@@ -6,7 +6,10 @@ ghost use Rattle.cca_laws.specs.Cited.{Cited};
 mod examples;
 mod laws;
 
-pub use examples::{edges, empty, formulas, implicants, lamp, observed, right, successors, valve};
+pub use examples::{
+    changes, edges, empty, formulas, implicants, lamp, more, observed, right, serves, successors,
+    valve,
+};
 pub use laws::{compiled, conditions, costs, estimates, goals, orders, plans, traces};
 
 /// The definitions are cited.
