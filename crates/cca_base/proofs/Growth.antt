@@ -17,7 +17,7 @@ use Rattle.cca_base.specs.declared.model.Failure.{Failure}
 use Rattle.cca_base.specs.declared.limits.TheConstants.{MAX_COMPONENTS, MAX_VARIABLES, MAX_RULES, MAX_MOVES, MAX_FAILURES}
 use Rattle.cca_base.specs.Automata.{Automata}
 use Rattle.cca_base.specs.Names.{is_name, AreNames, AreDifferent}
-use Rattle.cca_base.specs.Model.{WellFormed, mode_counts, value_counts, AreChoices, IsComponent, IsFormula, IsMove, IsFailure, RepairsFit, IsMended, AreInOrderOfFirstUse, is_broken, is_repair_of, is_used, names_of, with_component, with_variable, with_rule, with_command, with_move, with_failure}
+use Rattle.cca_base.specs.Model.{WellFormed, mode_counts, value_counts, AreChoices, IsComponent, IsFormula, IsMove, IsFailure, RepairsFit, IsNext, AreInOrderOfFirstUse, is_broken, is_repair_of, is_used, names_of, with_component, with_variable, with_rule, with_command, with_move, with_failure}
 
 -- ---- names
 
@@ -208,7 +208,7 @@ broken_push [] x ordinary c mode = ap (λ b. b || false) (not_repair x c mode or
 broken_push (y ∷ moves) x ordinary c mode = ap (λ b. is_repair_of c mode y || b) (broken_push moves x ordinary c mode)
 
 -- and mends none
-mended_push : (moves : List Move) (x : Move) → x.repair ≡ false → (c mode a : ℕ) → IsMended (moves ++ x ∷ []) c mode a → IsMended moves c mode a
+mended_push : (moves : List Move) (x : Move) → x.repair ≡ false → (c mode a : ℕ) → IsNext (moves ++ x ∷ []) c mode a → IsNext moves c mode a
 mended_push moves x ordinary c mode a h =
     let old : Contains moves h.repair =
     elim (Contains-push_cases moves x h.repair h.of_model) [

@@ -11,3 +11,4 @@ pub mod TakenBack
 pub mod Within
 pub mod Members
 pub mod RelationLemmas
+pub mod NextModes

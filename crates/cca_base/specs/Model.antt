@@ -1,5 +1,5 @@
 -- Which models are well formed.
-use Rattle.std.specs.Prelude.{◌≡◌, ◌≢◌, ◌==◌, ◌&&◌, Bool, ℕ, ◌-◌, ◌<◌, ◌≤◌, false, IsTrue, List, [], ◌∷◌, ◌++◌, length, map, take, All, AllPairs, slice_get, slice_index, Some, Contains}
+use Rattle.std.specs.Prelude.{◌≡◌, ◌≢◌, ◌==◌, ◌&&◌, Bool, ℕ, zero, suc, ◌-◌, ◌<◌, ◌≤◌, true, false, IsTrue, List, [], ◌∷◌, ◌++◌, length, map, take, All, AllPairs, slice_get, slice_index, Some, Contains}
 use Rattle.std.specs.List.{list_any}
 use Rattle.cca_base.specs.declared.formula.Formula.{Formula}
 use Rattle.cca_base.specs.declared.model.Component.{Component}
@@ -61,16 +61,28 @@ is_repair_of c mode move = move.repair && (move.component == c && move.source ==
 abbrev pub is_broken : List Move → ℕ → ℕ → Bool
 is_broken moves c mode = list_any (is_repair_of c mode) moves
 
--- a repair of the mode leads to the mended mode
-pub record IsMended (moves : List Move) (c mode mended : ℕ) : Type 0 where
+-- a repair of the mode leads to the next mode
+pub record IsNext (moves : List Move) (c mode next : ℕ) : Type 0 where
   pub repair : Move
   pub of_model : Contains moves repair
   pub mends : IsTrue (is_repair_of c mode repair)
-  pub target : repair.target ≡ mended
+  pub target : repair.target ≡ next
+
+-- n repairs lead from a mode to the next one, and so on
+abbrev pub RepairChain : List Move → ℕ → ℕ → ℕ → ℕ → Type 0
+RepairChain moves c from to zero = from ≡ to
+RepairChain moves c from to (suc n) = (next : ℕ) × IsNext moves c from next × RepairChain moves c next to n
+
+-- the mended mode of a broken mode: repairs lead to it, and it is not broken
+pub record IsMended (moves : List Move) (c mode mended : ℕ) : Type 0 where
+  pub broken : is_broken moves c mode ≡ true
+  pub sound : is_broken moves c mended ≡ false
+  pub count : ℕ
+  pub chain : RepairChain moves c mode mended count
 
 -- all repairs of a mode lead to one mode; nothing leads into a broken mode, and only repairs leave one
 pub record RepairsFit (moves : List Move) : Type 0 where
-  pub one_target : (c mode a b : ℕ) → IsMended moves c mode a → IsMended moves c mode b → a ≡ b
+  pub one_target : (c mode a b : ℕ) → IsNext moves c mode a → IsNext moves c mode b → a ≡ b
   pub none_into : All (λ move. is_broken moves move.component move.target ≡ false) moves
   pub only_repairs_leave : All (λ move. IsTrue (is_broken moves move.component move.source) → IsTrue move.repair) moves
 

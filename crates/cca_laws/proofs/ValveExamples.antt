@@ -35,10 +35,19 @@ pub stuck_mends : StuckMends
 stuck_mends = (
   refl,
   record {
-    repair = record { component = 1; source = 2; target = 0; command = 4; repair = true; guard = driver_on };
-    of_model = (4, omega arith, refl);
-    mends = refl;
-    target = refl;
+    broken = refl;
+    sound = refl;
+    count = 1;
+    chain = (
+      0,
+      record {
+        repair = record { component = 1; source = 2; target = 0; command = 4; repair = true; guard = driver_on };
+        of_model = (4, omega arith, refl);
+        mends = refl;
+        target = refl;
+      },
+      refl,
+    );
   },
   refl,
   refl,
@@ -201,17 +210,10 @@ opens move own (suc (suc zero), h, e) = e
 opens move own (suc (suc (suc zero)), h, e) = absurd (omega (arith, ap (λ (y : Move). y.command) e))
 opens move own (suc (suc (suc (suc k))), h, e) = absurd (omega arith)
 
-closed_is_sound : (repair : Move) → is_repair_of 1 0 repair ≡ true → Contains no_way_back.moves repair → ⊥
-closed_is_sound repair mends (zero, h, e) = false≢true (ap (is_repair_of 1 0) e ∙ mends)
-closed_is_sound repair mends (suc zero, h, e) = false≢true (ap (is_repair_of 1 0) e ∙ mends)
-closed_is_sound repair mends (suc (suc zero), h, e) = false≢true (ap (is_repair_of 1 0) e ∙ mends)
-closed_is_sound repair mends (suc (suc (suc zero)), h, e) = false≢true (ap (is_repair_of 1 0) e ∙ mends)
-closed_is_sound repair mends (suc (suc (suc (suc k))), h, e) = absurd (omega arith)
-
 no_mending : (s2 : List ℕ) → slice_get s2 1 ≡ Some 1 → Mending no_way_back (1 ∷ 0 ∷ []) s2 → ⊥
 no_mending s2 h mending = elim (mending.each 1 (omega arith)) [
   | inl same ↦ omega (arith, index_of s2 1 1 h, same)
-  | inr mended ↦ closed_is_sound mended.repair mended.mends mended.of_model
+  | inr mended ↦ false≢true mended.broken
 ]
 
 not_allowed : (s : List ℕ) → Allowed no_way_back (1 ∷ 0 ∷ []) 2 s → ⊥

@@ -10,7 +10,7 @@ use Rattle.cca_base.specs.declared.model.Variable as variable
 use Rattle.cca_base.specs.declared.model.Move.{Move}
 use Rattle.cca_base.specs.Names.{is_name}
 use Rattle.cca_base.specs.Formula.{Printed, printed_step, fits_step, depth}
-use Rattle.cca_base.specs.Model.{WellFormed, AreChoices, IsComponent, IsFormula, IsMove, IsFailure, IsMended, is_repair_of, is_broken, IsComplete, CommandsFit}
+use Rattle.cca_base.specs.Model.{WellFormed, AreChoices, IsComponent, IsFormula, IsMove, IsFailure, IsNext, is_repair_of, is_broken, IsComplete, CommandsFit}
 use Rattle.cca_base.proofs.Members.{some_inj, none_some}
 use Rattle.cca_laws.proofs.Tiny.{one_at, two_at, three_at, four_at, five_at}
 use Rattle.cca_laws.proofs.EdgeExamples.{always_fits, one_name}
@@ -80,7 +80,7 @@ driver_fits = record {
 }
 
 -- all repairs lead to closed
-mends_to_closed : (c mode mended : ℕ) → (h : IsMended valve_model.moves c mode mended) → Contains valve_model.moves h.repair → 0 ≡ mended
+mends_to_closed : (c mode mended : ℕ) → (h : IsNext valve_model.moves c mode mended) → Contains valve_model.moves h.repair → 0 ≡ mended
 mends_to_closed c mode mended h (zero, lt, e) = absurd (false≢true (ap (is_repair_of c mode) e ∙ h.mends))
 mends_to_closed c mode mended h (suc zero, lt, e) = absurd (false≢true (ap (is_repair_of c mode) e ∙ h.mends))
 mends_to_closed c mode mended h (suc (suc zero), lt, e) = absurd (false≢true (ap (is_repair_of c mode) e ∙ h.mends))

@@ -5,7 +5,7 @@ use Rattle.cca_base.specs.declared.model.Move.{Move}
 use Rattle.cca_base.specs.declared.events.Reply.TheVariants.{Idle, Send, Unreachable}
 use Rattle.cca_base.specs.Automata.{Automata}
 use Rattle.cca_base.specs.Accepted.{Accepted, CompiledParts, IsCompiled}
-use Rattle.cca_base.specs.Model.{WellFormed, IsComplete, is_broken}
+use Rattle.cca_base.specs.Model.{WellFormed, IsComplete, IsMended, IsNext, is_broken}
 use Rattle.cca_base.specs.State.{IsState, Extends}
 use Rattle.cca_base.specs.Repairs.{Mending}
 use Rattle.cca_base.specs.Steps.{Step, Run, Allowed, AllowedPlan, Reach}
@@ -33,6 +33,10 @@ AllowedPlansRun = (m : Automata) (s t : List ℕ) (ks : List ℕ) → AllowedPla
 -- a state is a mending of itself
 abbrev pub MendsItself : Type 0
 MendsItself = (m : Automata) (s : List ℕ) → Mending m s s
+
+-- in a well-formed model the mended mode is the one that the repairs lead to
+abbrev pub MendedIsNext : Type 0
+MendedIsNext = (m : Automata) → WellFormed m → (c mode mended : ℕ) → IsMended m.moves c mode mended ↔ IsNext m.moves c mode mended
 
 -- a repair that is a step is allowed, also where nothing leads back
 abbrev pub RepairsAreAllowed : Type 0

@@ -1,11 +1,12 @@
 ghost use Rattle.cca_laws.specs.Conditions.{FollowsIsDecided, SufficientCubesHavePrimes};
-ghost use Rattle.cca_laws.specs.Laws.{RunsJoin, AllowedPlansRun, MendsItself, RepairsAreAllowed, ImplicantsGiveSteps, OneEstimate, NeverBoth, OneObserved, OneFixedTrace, OneFirstMissing, NoneUnderNoOrder, SendsServe, StandingIsReached, StandingGivesNoCommands, FreeIsNominal, FirstIsRight, OneCompiled, InOrderIsPairwise, OrdersHaveNoneTwice, NominalIsFree, OneCost, CommandsAreUsed, NeverIdle, AsManyAsTicks};
+ghost use Rattle.cca_laws.specs.Laws.{RunsJoin, AllowedPlansRun, MendsItself, MendedIsNext, RepairsAreAllowed, ImplicantsGiveSteps, OneEstimate, NeverBoth, OneObserved, OneFixedTrace, OneFirstMissing, NoneUnderNoOrder, SendsServe, StandingIsReached, StandingGivesNoCommands, FreeIsNominal, FirstIsRight, OneCompiled, InOrderIsPairwise, OrdersHaveNoneTwice, NominalIsFree, OneCost, CommandsAreUsed, NeverIdle, AsManyAsTicks};
 
 /// Runs and plans.
 pub fn plans()
     ensures join { RunsJoin }
     ensures allowed { AllowedPlansRun }
     ensures itself { MendsItself }
+    ensures mended { MendedIsNext }
     ensures repairs { RepairsAreAllowed }
     ensures implicants { ImplicantsGiveSteps }
 {}

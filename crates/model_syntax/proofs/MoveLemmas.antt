@@ -16,7 +16,7 @@ use Rattle.std.specs.Map.{lookup}
 use Rattle.cca_base.specs.declared.model.Move.{Move}
 use Rattle.cca_base.specs.declared.limits.TheConstants.{MAX_MOVES}
 use Rattle.cca_base.specs.Automata.{Automata}
-use Rattle.cca_base.specs.Model.{WellFormed, IsFormula, IsMove, HasMode, IsMended, RepairsFit, IsComplete, is_broken, is_repair_of, is_used, with_command, without_last_command, with_move}
+use Rattle.cca_base.specs.Model.{WellFormed, IsFormula, IsMove, HasMode, IsNext, RepairsFit, IsComplete, is_broken, is_repair_of, is_used, with_command, without_last_command, with_move}
 use Rattle.cca_base.proofs.Growth.{move_kept, ordinary_fits, command_kept}
 use Rattle.model_syntax.specs.Lookups.{place_of, or_else, NumbersFit}
 use Rattle.model_syntax.specs.Codes.{least, is_long, command_number, with_named, leads_to, leaves_unmarked, is_ambiguous, is_into_broken, is_unmarked_exit, mends_twice, move_faults}
@@ -91,7 +91,7 @@ module _ (moves : List Move) (x : Move) (h : RepairsFit moves) (repair : x.repai
   none_into_before = All-push (λ move. is_broken moves move.component move.target ≡ false) moves x h.none_into into
 
   -- the target of another repair of the same mode
-  same_target : (c mode a : ℕ) → IsMended moves c mode a → is_repair_of c mode x ≡ true → a ≡ x.target
+  same_target : (c mode a : ℕ) → IsNext moves c mode a → is_repair_of c mode x ≡ true → a ≡ x.target
   same_target c mode a p q =
       let y = p.repair in
       let is = and_parts x.repair (x.component == c && x.source == mode) q in
@@ -109,7 +109,7 @@ module _ (moves : List Move) (x : Move) (h : RepairsFit moves) (repair : x.repai
       at_member : {X : Type 0} (P : X → Type 0) (xs : List X) (y : X) → All P xs → Contains xs y → P y
       at_member P xs y all (k, within, is) = subst P is (all k y within)
 
-  mended_by : (c mode a : ℕ) → IsMended (moves ++ x ∷ []) c mode a → IsMended moves c mode a ⊎ ((is_repair_of c mode x ≡ true) × (a ≡ x.target))
+  mended_by : (c mode a : ℕ) → IsNext (moves ++ x ∷ []) c mode a → IsNext moves c mode a ⊎ ((is_repair_of c mode x ≡ true) × (a ≡ x.target))
   mended_by c mode a p = elim (Contains-push_cases moves x p.repair p.of_model) [
     | inl old ↦ inl (record { repair = p.repair; of_model = old; mends = p.mends; target = p.target })
     | inr e ↦ inr (ap (is_repair_of c mode) e ∙ p.mends, sym p.target ∙ ap (λ (y : Move). y.target) (sym e))

@@ -7,7 +7,7 @@ use Rattle.std.proofs.lemmas.List.{get_or_default, get_or_append_left}
 use Rattle.std.proofs.lemmas.List.Folds.{list_any-append, list_any_none}
 use Rattle.std.proofs.lemmas.List.Elements.{All-head}
 use Rattle.cca_base.specs.declared.model.Move.{Move}
-use Rattle.cca_base.specs.Model.{is_repair_of, is_broken, IsMended, RepairsFit, CommandsFit}
+use Rattle.cca_base.specs.Model.{is_repair_of, is_broken, IsNext, RepairsFit, CommandsFit}
 use Rattle.model_syntax.specs.Codes.{is_ambiguous, leads_to, is_into_broken, leaves_unmarked, is_unmarked_exit, mends_elsewhere, mends_twice}
 use Rattle.model_syntax.proofs.AdditionLemmas.{or_parts}
 use Rattle.model_syntax.proofs.PrintedDeclarations.{or_no}
@@ -133,8 +133,8 @@ module _ (front : List Move) (x : Move) (rest : List Move) (repairs : RepairsFit
   mended_alike e y h = no_and _ _ (λ a b.
       let p = and_parts (eqb y.component c && eqb y.source x.source) (not (eqb y.target x.target)) b in
       let q = and_parts (eqb y.component c) (eqb y.source x.source) p.0 in
-      let first : IsMended moves c x.source y.target = record { repair = y; of_model = h; mends = rw (a, q.0, q.1) refl; target = refl } in
-      let second : IsMended moves c x.source x.target = record { repair = x; of_model = seam_in front x rest; mends = rw (e, eq-eqb c c refl, eq-eqb x.source x.source refl) refl; target = refl } in
+      let first : IsNext moves c x.source y.target = record { repair = y; of_model = h; mends = rw (a, q.0, q.1) refl; target = refl } in
+      let second : IsNext moves c x.source x.target = record { repair = x; of_model = seam_in front x rest; mends = rw (e, eq-eqb c c refl, eq-eqb x.source x.source refl) refl; target = refl } in
       off (eqb y.target x.target) (eq-eqb y.target x.target (repairs.one_target c x.source y.target x.target first second)) (not_on (eqb y.target x.target) p.1))
 
   pub not_mended_twice : mends_twice front x ≡ false

@@ -13,16 +13,17 @@ use Rattle.cca_base.specs.Plans.{IsWanted, IsBackGoal}
 use Rattle.cca_base.proofs.Members.{all_from, some_inj, none_some, contains_here, contains_there, contains_none}
 use Rattle.reach_laws.specs.Classes.{AreInside, IsHome, InClass, IsOnWay}
 use Rattle.reach_laws.proofs.Facts.{RepairRules, get_at}
-use Rattle.reach_laws.proofs.Order.{Among, IsOrder, mended_broken, repair_rules, order_from}
+use Rattle.reach_laws.proofs.Order.{Among, IsOrder, repair_rules, order_from}
 use Rattle.reach_laws.proofs.Trails.{among_from}
 use Rattle.reach_laws.proofs.Walk.{way_on, repairs_from, home_member, member_sound}
-use Rattle.reach_laws.proofs.Sound.{class_is_reach, mended_sound, mending_one}
+use Rattle.reach_laws.proofs.Sound.{class_is_reach, mending_one}
 use Rattle.reach_laws.proofs.Answered.{on_way_base, way_back}
 use Rattle.reversibility.specs.Parts.{CoversState}
 use Rattle.policy_tables.specs.Tables.{TableParts, IsTables}
 use Rattle.planner_step.specs.Planning.{member_of, IsGoal}
 use Rattle.plan_runner.specs.Walks.{Wants, WantsOnly, WantsNone, AreBackPairs}
 use Rattle.planner_step.proofs.Planning.{setting, stands_in, inside_mode}
+use Rattle.cca_base.proofs.NextModes.{next_of_mended}
 
 pub take_next : (xs : List ℕ) (i x : ℕ) → slice_get xs i ≡ Some x → take (i + 1) xs ≡ take i xs ++ x ∷ []
 take_next [] i x at = absurd (none_some x at)
@@ -40,6 +41,10 @@ module _ (t : TableParts) (is : IsTables t) (s : List ℕ) (cov : CoversState t.
 
   abbrev rules : RepairRules b.model
   rules = repair_rules b.model well
+
+  -- a mode has one mended mode
+  one_mended : (c mode x y : ℕ) → IsMended b.model.moves c mode x → IsMended b.model.moves c mode y → x ≡ y
+  one_mended c mode x y h k = rules.one_target c mode x y (next_of_mended b.model.moves well.repairs c mode x h) (next_of_mended b.model.moves well.repairs c mode y k)
 
   -- a broken component stands on the way
   on_way : (c mode : ℕ) → slice_get s c ≡ Some mode → is_broken b.model.moves c mode ≡ true → IsOnWay b.model t.classes.base (member_of t) c mode
@@ -64,7 +69,7 @@ module _ (t : TableParts) (is : IsTables t) (s : List ℕ) (cov : CoversState t.
       | inl held ↦ some_inj x mode (sym held.0 ∙ at)
       | inr mended ↦
           let same : mended.0 ≡ mode = some_inj mended.0 mode (sym mended.1 ∙ at) in
-          absurd (both_ways (is_broken b.model.moves c mode) sound (subst (λ y. is_broken b.model.moves c y ≡ true) same (mended_broken b.model c mended.0 x mended.2)))
+          absurd (both_ways (is_broken b.model.moves c mode) sound (subst (λ y. is_broken b.model.moves c y ≡ true) same mended.2.broken))
     ]),
     (λ e. inl (at ∙ ap (λ v. Some v) (sym e), subst (λ y. is_broken b.model.moves c y ≡ false) (sym e) sound)),
   )
@@ -79,7 +84,7 @@ module _ (t : TableParts) (is : IsTables t) (s : List ℕ) (cov : CoversState t.
     pub only_mended : (a : ℕ) → IsMended b.model.moves c mode a → is_set t.classes.mendable c ≡ true → WantsOnly t s c a
     only_mended a mended flag x =
         let home = ((is.classes.mendable c within).0 flag).1 in
-        let home_is : home.0 ≡ a = rules.one_target c mode home.0 a (mended_home c mode home.0 at broken home.1) mended in
+        let home_is : home.0 ≡ a = one_mended c mode home.0 a (mended_home c mode home.0 at broken home.1) mended in
         let inside : member_of t c a ≡ true = subst (λ y. member_of t c y ≡ true) home_is (home_member b.model t.classes.base (member_of t) rules is.classes.classes c home.0 home.1) in
         let reach : Reach b.model s c a = ((class_is_reach b.model b.order t.classes.base (member_of t) s (setting t is s cov) c a).0 inside).1 in (
           (λ wanted. elim wanted [
@@ -88,7 +93,7 @@ module _ (t : TableParts) (is : IsTables t) (s : List ℕ) (cov : CoversState t.
                 absurd (both_ways (is_broken b.model.moves c mode) (subst (λ y. is_broken b.model.moves c y ≡ false) same held.1) broken)
             | inr other ↦
                 let same : other.0 ≡ mode = some_inj other.0 mode (sym other.1 ∙ at) in
-                rules.one_target c mode x a (subst (λ y. IsMended b.model.moves c y x) same other.2) mended
+                one_mended c mode x a (subst (λ y. IsMended b.model.moves c y x) same other.2) mended
           ]),
           (λ e. inr (mode, at, subst (IsMended b.model.moves c mode) (sym e) mended, subst (Reach b.model s c) (sym e) reach)),
         )
@@ -100,7 +105,7 @@ module _ (t : TableParts) (is : IsTables t) (s : List ℕ) (cov : CoversState t.
           both_ways (is_broken b.model.moves c mode) (subst (λ y. is_broken b.model.moves c y ≡ false) same held.1) broken
       | inr other ↦
           let inside : member_of t c x ≡ true = (class_is_reach b.model b.order t.classes.base (member_of t) s (setting t is s cov) c x).1
-          (mended_sound b.model well c other.0 x other.2, other.3) in
+          (other.2.sound, other.3) in
           let k : InClass b.model t.classes.base (member_of t) c x = (is.classes.classes.each c x).0 inside in
           both_ways (is_set t.classes.mendable c) flag
           ((is.classes.mendable c within).1 (subst (λ y. is_broken b.model.moves c y ≡ true) at_base broken, (k.home, k.is_home)))

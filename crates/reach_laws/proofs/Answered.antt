@@ -24,11 +24,12 @@ use Rattle.reach_laws.specs.Plans.{IsAnswer, IsFirstOutside, IsSoundGoal, Answer
 use Rattle.reach_laws.proofs.Facts.{RepairRules, at_get, get_at, step_other, step_state}
 use Rattle.reach_laws.proofs.Order.{Among, repair_rules}
 use Rattle.reach_laws.proofs.Walk.{mended_by, repairs_from, way_on, member_sound, home_member}
-use Rattle.reach_laws.proofs.Sound.{Inner, HasNone, inner_covers, find_home, allowed_plan, class_is_reach, mended_sound, mending_one}
+use Rattle.reach_laws.proofs.Sound.{Inner, HasNone, inner_covers, find_home, allowed_plan, class_is_reach, mending_one}
 use Rattle.reach_laws.proofs.Cells.{Held, missing_among, found_picks}
 use Rattle.reach_laws.proofs.Serial.{Done, Led, led_inner, led_end, whole_led}
 use Rattle.cca_laws.proofs.GoalsLemmas.{one_first_missing}
 use Rattle.reach_laws.proofs.Needed.{Landed, landed, landed_inner, picks_are_needed}
+use Rattle.cca_base.proofs.NextModes.{next_sound}
 
 -- ---- one command at most is found
 
@@ -190,7 +191,7 @@ pub on_way_base : (m : Automata) (base : List ℕ) (member : Test) → WellForme
 on_way_base m base member w c a x zero broken e = sym e
 on_way_base m base member w c a x (suc n) broken p =
     let rules = repair_rules m w in
-    let sound : is_broken m.moves c p.0 ≡ false = mended_sound m w c a p.0 (mended_by m member rules c a p.0 p.1 p.2) in
+    let sound : is_broken m.moves c p.0 ≡ false = next_sound m.moves w.repairs c a p.0 (mended_by m member rules c a p.0 p.1 p.2) in
     absurd (both_ways (is_broken m.moves c x) (later c p.0 x n sound p.3) broken)
   where
     later : (c a x n : ℕ) → is_broken m.moves c a ≡ false → OpenRepairs m member c a x n → is_broken m.moves c x ≡ false
@@ -205,7 +206,7 @@ module _ (b : CompiledParts) (base : List ℕ) (member : Test) (from s : List �
   back_inside : AreInside member goal
   back_inside = all_from (λ p. member p.item p.value ≡ true) goal (λ p among. elim ((back.each p).0 among) [
     | inl held ↦ (class_is_reach b.model b.order base member s g p.item p.value).1 (held.1, ([], s, refl, held.0))
-    | inr mended ↦ (class_is_reach b.model b.order base member s g p.item p.value).1 (mended_sound b.model g.well_formed p.item mended.0 p.value mended.2, mended.3)
+    | inr mended ↦ (class_is_reach b.model b.order base member s g p.item p.value).1 (mended.2.sound, mended.3)
   ])
 
   wanted_stands : (last : List ℕ) → Extends last goal → (p : Pair) → IsWanted b.model s p → slice_index last p.item ≡ p.value

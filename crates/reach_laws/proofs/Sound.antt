@@ -7,7 +7,7 @@ use Rattle.cca_base.specs.declared.cube.Pair.{Pair}
 use Rattle.cca_base.specs.declared.model.Move.{Move}
 use Rattle.cca_base.specs.Automata.{Automata}
 use Rattle.cca_base.specs.Cube.{IsRising}
-use Rattle.cca_base.specs.Model.{WellFormed, IsMended, HasMode, is_broken, mode_counts}
+use Rattle.cca_base.specs.Model.{WellFormed, IsNext, IsMended, RepairChain, HasMode, is_broken, mode_counts}
 use Rattle.cca_base.specs.Implicants.{Needs}
 use Rattle.cca_base.specs.State.{IsState}
 use Rattle.cca_base.specs.Repairs.{Mending}
@@ -15,14 +15,15 @@ use Rattle.cca_base.specs.Steps.{Step, Run, Allowed, AllowedPlan, Reach}
 use Rattle.cca_base.specs.Relations.{numbers_below}
 use Rattle.cca_base.proofs.Members.{all_from, some_inj, none_some, contains_cases, contains_here, contains_there, contains_none}
 use Rattle.cca_base.proofs.RelationLemmas.{below_contains}
-use Rattle.reach_laws.specs.Classes.{Test, IsOpen, OpenMove, OpenWalk, Joined, OpenRepairs, Repairs, IsHome, InClass, AreClasses, IsOnWay, Stands, Covers}
+use Rattle.reach_laws.specs.Classes.{Test, IsOpen, OpenMove, OpenWalk, Joined, OpenRepairs, IsHome, InClass, AreClasses, IsOnWay, Stands, Covers}
 use Rattle.reach_laws.specs.Laws.{Setting, Ready, ClassIsReach, OneClasses, Returns, ReturnsInside, RepairsLeadIn, StaysCovered}
 use Rattle.reach_laws.proofs.Facts.{RepairRules, at_get, held_at, run_one, step_within, step_source, step_target, step_other, step_state, join, go_one, repairs_join, repairs_walk}
 use Rattle.reach_laws.proofs.Support.{leans}
-use Rattle.reach_laws.proofs.Order.{repair_parts, mended_broken, repair_rules, Among, AreEffectsFirst, IsOrder, order_from}
+use Rattle.reach_laws.proofs.Order.{repair_rules, Among, AreEffectsFirst, IsOrder, order_from}
 use Rattle.cca_laws.proofs.Minimal.{one_pair, search_list}
 use Rattle.reach_laws.proofs.Ready.{steps_are_ready}
 use Rattle.reach_laws.proofs.Walk.{Mends, mended_by, repairs_from, way_on, one_home, home_member, near_member, member_sound, member_within, stands_sound, home_from, closed, mends_from}
+use Rattle.cca_base.proofs.NextModes.{mended_of_next, next_broken, next_sound}
 
 -- ---- what a cube wants
 
@@ -300,7 +301,7 @@ module _ (m : Automata) (base : List ℕ) (member : Test) (rules : RepairRules m
 
     -- after an inner step, a component that stays has a place along its chain
     step_repairs : (s t : List ℕ) (k : ℕ) → InnerStep m base member s k t → (c : ℕ) → is_broken m.moves c (slice_index s c) ≡ true
-        → (n : ℕ) × Repairs m c (slice_index s c) (slice_index t c) n
+        → (n : ℕ) × RepairChain m.moves c (slice_index s c) (slice_index t c) n
     step_repairs s t k inner c broken = elim (cases_eq c inner.step.move.component) [
       | inl e ↦
           let o : OpenMove m member c (slice_index s c) (slice_index t c) = record {
@@ -318,14 +319,14 @@ module _ (m : Automata) (base : List ℕ) (member : Test) (rules : RepairRules m
     wanted_back : (s t : List ℕ) (k : ℕ) → InnerStep m base member s k t → (a : Outcome m base member t (λ d. Among d order) (back_want s))
         → (c : ℕ) → c < length m.components → member c (slice_index s c) ≡ false → IsOnWay m base member c (slice_index s c)
         → (h : ((b : ℕ) × IsHome m base member c b) ⊎ HasNone member c) → back_want s c ≡ option_of c h
-        → (n : ℕ) × Repairs m c (slice_index s c) (slice_index a.t c) n
+        → (n : ℕ) × RepairChain m.moves c (slice_index s c) (slice_index a.t c) n
     wanted_back s t k inner a c within outside on (inl found) wants =
         let at_home : slice_index a.t c ≡ found.0 = a.stands c found.0 (ordered.all_there c within) wants in
         let rest = way_on m member rules c (slice_index base c) (slice_index s c) found.0 on.count found.1.count on.way found.1.way found.1.sound in
-        (rest.0, subst (λ y. Repairs m c (slice_index s c) y rest.0) (sym at_home) (repairs_from m member rules c (slice_index s c) found.0 rest.0 rest.1))
+        (rest.0, subst (λ y. RepairChain m.moves c (slice_index s c) y rest.0) (sym at_home) (repairs_from m member rules c (slice_index s c) found.0 rest.0 rest.1))
     wanted_back s t k inner a c within outside on (inr none) wants =
         let way = step_repairs s t k inner c on.broken in
-        (way.0, subst (λ y. Repairs m c (slice_index s c) y way.0) (sym (a.idle c none)) way.1)
+        (way.0, subst (λ y. RepairChain m.moves c (slice_index s c) y way.0) (sym (a.idle c none)) way.1)
 
     record WayBack (s t : List ℕ) : Type 0 where
       ks : List ℕ
@@ -444,18 +445,11 @@ module _ (m : Automata) (base : List ℕ) (member : Test) (rules : RepairRules m
 
 -- ---- mendings, where no repair leads to a broken mode
 
--- the mode to which a repair leads is sound
-pub mended_sound : (m : Automata) → WellFormed m → (c a b : ℕ) → IsMended m.moves c a b → is_broken m.moves c b ≡ false
-mended_sound m w c a b r =
-    let own : r.repair.component ≡ c = (repair_parts c a r.repair r.mends).1 in
-    subst (λ d. is_broken m.moves d b ≡ false) own (subst (λ x. is_broken m.moves r.repair.component x ≡ false) r.target
-    (All-contains (λ x. is_broken m.moves x.component x.target ≡ false) m.moves r.repair w.repairs.none_into r.of_model))
-
-pub mending_one : (m : Automata) → WellFormed m → (c a b n : ℕ) → Repairs m c a b n → (b ≡ a) ⊎ IsMended m.moves c a b
+pub mending_one : (m : Automata) → WellFormed m → (c a b n : ℕ) → RepairChain m.moves c a b n → (b ≡ a) ⊎ IsMended m.moves c a b
 mending_one m w c a b zero e = inl (sym e)
-mending_one m w c a b (suc zero) p = inr (subst (IsMended m.moves c a) p.2 p.1)
+mending_one m w c a b (suc zero) p = inr (mended_of_next m.moves w.repairs c a b (subst (IsNext m.moves c a) p.2 p.1))
 mending_one m w c a b (suc (suc n)) p =
-    absurd (both_ways (is_broken m.moves c p.0) (mended_sound m w c a p.0 p.1) (mended_broken m c p.0 p.2.0 p.2.1))
+    absurd (both_ways (is_broken m.moves c p.0) (next_sound m.moves w.repairs c a p.0 p.1) (next_broken m.moves c p.0 p.2.0 p.2.1))
 
 pub mending_from : (m : Automata) → WellFormed m → (s t : List ℕ) → Mends m s t → Mending m s t
 mending_from m w s t h = record {

@@ -3,29 +3,30 @@ use Rattle.std.proofs.Common.{◌≡◌, ◌<◌, ◌+◌, ℕ, true, false, zer
 use Rattle.std.proofs.lemmas.Bool.{cases_eq, cases_Bool, both_ways, false_from_ne_true}
 use Rattle.std.proofs.lemmas.List.Elements.{All-contains}
 use Rattle.cca_base.specs.Automata.{Automata}
-use Rattle.cca_base.specs.Model.{IsMended, is_broken}
+use Rattle.cca_base.specs.Model.{IsNext, RepairChain, is_broken}
 use Rattle.cca_base.specs.Implicants.{Needs}
 use Rattle.cca_base.specs.State.{IsState}
 use Rattle.cca_base.specs.Repairs.{Mending}
 use Rattle.cca_base.specs.Steps.{Step, Run}
 use Rattle.cca_base.proofs.Members.{all_from}
-use Rattle.reach_laws.specs.Classes.{Test, OpenMove, OpenWalk, Joined, OpenRepairs, Repairs, IsHome, InClass, AreClasses, IsOnWay, Stands, Covers}
+use Rattle.reach_laws.specs.Classes.{Test, OpenMove, OpenWalk, Joined, OpenRepairs, IsHome, InClass, AreClasses, IsOnWay, Stands, Covers}
 use Rattle.reach_laws.specs.Laws.{Ready, ClosedWalk}
 use Rattle.reach_laws.proofs.Facts.{RepairRules, at_get, run_join, run_one, step_source, step_target, step_other, run_state, join, stay, go_on, repairs_join}
-use Rattle.reach_laws.proofs.Order.{repair_of, mended_broken, repair_rules, Among, AreEffectsFirst, IsOrder, order_from}
+use Rattle.reach_laws.proofs.Order.{repair_rules, Among, AreEffectsFirst, IsOrder, order_from}
 use Rattle.reach_laws.proofs.Ready.{steps_are_ready}
+use Rattle.cca_base.proofs.NextModes.{next_broken, repair_of}
 
 -- each component stands in a mode to which repairs lead from where it stood
 pub record Mends (m : Automata) (s t : List ℕ) : Type 0 where
   pub full : length t ≡ length s
-  pub each : (c : ℕ) → c < length s → (n : ℕ) × Repairs m c (slice_index s c) (slice_index t c) n
+  pub each : (c : ℕ) → c < length s → (n : ℕ) × RepairChain m.moves c (slice_index s c) (slice_index t c) n
 
 pub mends_from : (m : Automata) (s t : List ℕ) → Mending m s t → Mends m s t
 mends_from m s t h = record {
   full = h.full;
   each = λ c lt. elim (h.each c lt) [
     | inl same ↦ (0, sym same)
-    | inr mended ↦ (1, (slice_index t c, mended, refl))
+    | inr mended ↦ (mended.count, mended.chain)
   ];
 }
 
@@ -33,7 +34,7 @@ mends_from m s t h = record {
 
 module _ (m : Automata) (member : Test) (rules : RepairRules m) where
   -- an open move that leaves a broken mode is its repair
-  pub mended_by : (c a b : ℕ) → is_broken m.moves c a ≡ true → OpenMove m member c a b → IsMended m.moves c a b
+  pub mended_by : (c a b : ℕ) → is_broken m.moves c a ≡ true → OpenMove m member c a b → IsNext m.moves c a b
   mended_by c a b broken o = record {
     repair = o.move;
     of_model = o.of_model;
@@ -44,7 +45,7 @@ module _ (m : Automata) (member : Test) (rules : RepairRules m) where
     target = o.target;
   }
 
-  pub repairs_from : (c a b n : ℕ) → OpenRepairs m member c a b n → Repairs m c a b n
+  pub repairs_from : (c a b n : ℕ) → OpenRepairs m member c a b n → RepairChain m.moves c a b n
   repairs_from c a b zero e = e
   repairs_from c a b (suc n) p = (p.0, mended_by c a p.0 p.1 p.2, repairs_from c p.0 b n p.3)
 
@@ -61,17 +62,17 @@ module _ (m : Automata) (member : Test) (rules : RepairRules m) where
   sound_walk c a b (suc n) p sound = sound_walk c p.0 b n p.2 (sound_move c a p.0 p.1 sound)
 
   -- repairs lead from a sound mode only to itself
-  pub sound_repairs : (c a b n : ℕ) → Repairs m c a b n → is_broken m.moves c a ≡ false → a ≡ b
+  pub sound_repairs : (c a b n : ℕ) → RepairChain m.moves c a b n → is_broken m.moves c a ≡ false → a ≡ b
   sound_repairs c a b zero e sound = e
-  sound_repairs c a b (suc n) p sound = absurd (both_ways (is_broken m.moves c a) sound (mended_broken m c a p.0 p.1))
+  sound_repairs c a b (suc n) p sound = absurd (both_ways (is_broken m.moves c a) sound (next_broken m.moves c a p.0 p.1))
 
   -- repairs lead from a mode to one sound mode at most
-  pub one_end : (c a b d n k : ℕ) → Repairs m c a b n → Repairs m c a d k → is_broken m.moves c b ≡ false → is_broken m.moves c d ≡ false → b ≡ d
+  pub one_end : (c a b d n k : ℕ) → RepairChain m.moves c a b n → RepairChain m.moves c a d k → is_broken m.moves c b ≡ false → is_broken m.moves c d ≡ false → b ≡ d
   one_end c a b d zero k e q sound_b sound_d = sym e ∙ sound_repairs c a d k q (subst (λ x. is_broken m.moves c x ≡ false) (sym e) sound_b)
   one_end c a b d (suc n) zero p e sound_b sound_d = sym (sound_repairs c a b (suc n) p (subst (λ x. is_broken m.moves c x ≡ false) (sym e) sound_d)) ∙ e
   one_end c a b d (suc n) (suc k) p q sound_b sound_d =
       let same : q.0 ≡ p.0 = rules.one_target c a q.0 p.0 q.1 p.1 in
-      one_end c p.0 b d n k p.2 (subst (λ x. Repairs m c x d k) same q.2) sound_b sound_d
+      one_end c p.0 b d n k p.2 (subst (λ x. RepairChain m.moves c x d k) same q.2) sound_b sound_d
 
   -- from a mode on the way along open repairs, the same way leads on to its sound end
   pub way_on : (c a x b n k : ℕ) → OpenRepairs m member c a x n → OpenRepairs m member c a b k → is_broken m.moves c b ≡ false

@@ -2,20 +2,20 @@
 use Rattle.std.proofs.Common.{◌≡◌, ◌<◌, ◌≤◌, ◌⊎◌, ℕ, true, false, zero, suc, List, length, slice_index, refl, sym, subst, inl, inr, arith}
 use Rattle.std.proofs.lemmas.Bool.{cases_lt, cases_Bool, both_ways}
 use Rattle.cca_base.specs.Automata.{Automata}
-use Rattle.cca_base.specs.Model.{WellFormed, HasMode, IsMended, is_broken, mode_counts}
+use Rattle.cca_base.specs.Model.{WellFormed, HasMode, IsNext, is_broken, mode_counts}
 use Rattle.cca_base.specs.Relations.{numbers_below}
 use Rattle.cca_base.proofs.RelationLemmas.{below_contains}
 use Rattle.reach_laws.specs.Classes.{Test, OpenMove, OpenWalk, Joined, OpenRepairs}
 use Rattle.reach_laws.specs.Cells.{IsShortest}
 use Rattle.reach_laws.proofs.Facts.{RepairRules}
-use Rattle.reach_laws.proofs.Order.{repair_rules, mended_broken}
+use Rattle.reach_laws.proofs.Order.{repair_rules}
 use Rattle.cca_laws.proofs.Decided.{dec_equal}
 use Rattle.cca_laws.proofs.Minimal.{search_list}
 use Rattle.reach_laws.proofs.Trails.{shortest_few}
 use Rattle.reach_laws.proofs.Walk.{mended_by}
-use Rattle.reach_laws.proofs.Sound.{mended_sound}
 use Rattle.reversibility.specs.Parts.{in_row}
 use Rattle.reversibility.specs.Levels.{AreEdges, EdgeWalk, IsNear, IsLevel, StayWithin, IsAround, IsHomeBy, IsHomeFrom, IsClassFrom}
+use Rattle.cca_base.proofs.NextModes.{next_broken, next_sound}
 
 -- ---- the least number
 
@@ -125,9 +125,9 @@ module _ (m : Automata) (w : WellFormed m) (member : Test) (c : ℕ) (edges : Li
   pub home_from : (mode a : ℕ) → IsHomeBy m.moves edges c mode a → IsHomeFrom m member c mode a
   home_from mode a (inl own) = record { sound = subst (λ x. is_broken m.moves c x ≡ false) (sym own.1) own.0; count = 0; way = sym own.1 }
   home_from mode a (inr mended) = record {
-    sound = mended_sound m w c mode a mended.0;
+    sound = next_sound m.moves w.repairs c mode a mended.0;
     count = 1;
-    way = (a, mended_broken m c mode a mended.0, (are.each mode a).0 mended.1, refl);
+    way = (a, next_broken m.moves c mode a mended.0, (are.each mode a).0 mended.1, refl);
   }
 
   pub home_by : (mode a : ℕ) → IsHomeFrom m member c mode a → IsHomeBy m.moves edges c mode a
@@ -136,9 +136,9 @@ module _ (m : Automata) (w : WellFormed m) (member : Test) (c : ℕ) (edges : Li
       by_count : (mode a n : ℕ) → is_broken m.moves c a ≡ false → OpenRepairs m member c mode a n → IsHomeBy m.moves edges c mode a
       by_count mode a zero sound e = inl (subst (λ x. is_broken m.moves c x ≡ false) (sym e) sound, sym e)
       by_count mode a (suc zero) sound p =
-          inr (subst (IsMended m.moves c mode) p.3 (mended_by m member rules c mode p.0 p.1 p.2), subst (λ x. in_row edges mode x ≡ true) p.3 ((are.each mode p.0).1 p.2))
+          inr (subst (IsNext m.moves c mode) p.3 (mended_by m member rules c mode p.0 p.1 p.2), subst (λ x. in_row edges mode x ≡ true) p.3 ((are.each mode p.0).1 p.2))
       by_count mode a (suc (suc n)) sound p =
-          absurd (both_ways (is_broken m.moves c p.0) (mended_sound m w c mode p.0 (mended_by m member rules c mode p.0 p.1 p.2)) p.3.1)
+          absurd (both_ways (is_broken m.moves c p.0) (next_sound m.moves w.repairs c mode p.0 (mended_by m member rules c mode p.0 p.1 p.2)) p.3.1)
 
   pub home_mode : (mode a : ℕ) → HasMode m c mode → IsHomeBy m.moves edges c mode a → HasMode m c a
   home_mode mode a has_mode (inl own) = subst (HasMode m c) (sym own.1) has_mode

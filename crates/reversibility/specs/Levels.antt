@@ -4,7 +4,7 @@ use Rattle.cca_base.specs.declared.cube.Pair.{Pair}
 use Rattle.cca_base.specs.declared.model.Move.{Move}
 use Rattle.cca_base.specs.Automata.{Automata}
 use Rattle.cca_base.specs.Flags.{is_set}
-use Rattle.cca_base.specs.Model.{mode_counts, is_broken, IsMended}
+use Rattle.cca_base.specs.Model.{mode_counts, is_broken, IsNext}
 use Rattle.cca_base.specs.Sets.{has}
 use Rattle.reach_laws.specs.Classes.{Test, AreInside, IsOpen, OpenMove, Joined, OpenRepairs, IsHome, InClass}
 use Rattle.reach_laws.proofs.Order.{Among}
@@ -87,7 +87,7 @@ pub record IsExpandedTo (edges level next : List ℕ) (n : ℕ) : Type 0 where
 
 -- by edges: the mode itself where it is not broken, and else its mended mode, where an edge leads there
 abbrev pub IsHomeBy : List Move → List ℕ → ℕ → ℕ → ℕ → Type 0
-IsHomeBy moves edges c mode a = ((is_broken moves c mode ≡ false) × (a ≡ mode)) ⊎ (IsMended moves c mode a × (in_row edges mode a ≡ true))
+IsHomeBy moves edges c mode a = ((is_broken moves c mode ≡ false) × (a ≡ mode)) ⊎ (IsNext moves c mode a × (in_row edges mode a ≡ true))
 
 -- the first mode that is not broken on the way from a mode along open repairs
 pub record IsHomeFrom (m : Automata) (member : Test) (c mode a : ℕ) : Type 0 where

@@ -1,4 +1,5 @@
 use Rattle.cca_laws.proofs.PlansLemmas.{runs_join, allowed_run, mends_itself, repair_allowed, implicant_gives_step}
+use Rattle.cca_base.proofs.NextModes.{next_of_mended, mended_of_next}
 use Rattle.cca_laws.proofs.laws.plans.Goals as goal
 
 pub returns-clause-join : goal.returns-clause-join
@@ -9,6 +10,10 @@ returns-clause-allowed c = allowed_run
 
 pub returns-clause-itself : goal.returns-clause-itself
 returns-clause-itself c = mends_itself
+
+pub returns-clause-mended : goal.returns-clause-mended
+returns-clause-mended c m w component mode mended =
+    (next_of_mended m.moves w.repairs component mode mended, mended_of_next m.moves w.repairs component mode mended)
 
 pub returns-clause-repairs : goal.returns-clause-repairs
 returns-clause-repairs c = repair_allowed

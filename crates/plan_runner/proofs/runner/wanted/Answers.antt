@@ -2,7 +2,6 @@ use Rattle.std.proofs.Common.{◌≡◌, ◌∙◌, true, false, sym, ap, subst}
 use Rattle.cca_base.specs.Automata.{Automata}
 use Rattle.cca_base.specs.Flags.{is_set}
 use Rattle.cca_base.specs.Model.{IsMended}
-use Rattle.reach_laws.proofs.Order.{mended_broken}
 use Rattle.policy_tables.specs.Tables.{TableParts}
 use Rattle.plan_runner.proofs.Backing.{only_mended, none_mended}
 use Rattle.plan_runner.proofs.runner.wanted.Goals as goal
@@ -15,7 +14,7 @@ returns-then-mendable c =
     subst (λ (m : Automata). IsMended m.moves c.args.c c.get-mode.result.now c.in-Some.mended) model_is c.in-Some.ensures.mended in
     let flag : is_set t.classes.mendable c.args.c ≡ true = sym (c.mendable.ensures.value ∙ ap (λ z. is_set z.mendable c.args.c) c.classes-classes.ensures.value) ∙ c.if-mendable.true in
     only_mended t c.classes-classes.ensures.tables c.args.to.now.modes c.requires.covers c.args.c c.requires.within c.get-mode.result.now c.get-mode.ensures.value
-    (mended_broken t.classes.compiled.model c.args.c c.get-mode.result.now c.in-Some.mended mended) c.in-Some.mended mended flag
+    mended.broken c.in-Some.mended mended flag
 
 pub returns-else-mendable : goal.returns-else-mendable
 returns-else-mendable c =
@@ -25,4 +24,4 @@ returns-else-mendable c =
     subst (λ (m : Automata). IsMended m.moves c.args.c c.get-mode.result.now c.in-Some.mended) model_is c.in-Some.ensures.mended in
     let flag : is_set t.classes.mendable c.args.c ≡ false = sym (c.mendable.ensures.value ∙ ap (λ z. is_set z.mendable c.args.c) c.classes-classes.ensures.value) ∙ c.if-mendable.false in
     none_mended t c.classes-classes.ensures.tables c.args.to.now.modes c.requires.covers c.args.c c.requires.within c.get-mode.result.now c.get-mode.ensures.value
-    (mended_broken t.classes.compiled.model c.args.c c.get-mode.result.now c.in-Some.mended mended) flag
+    mended.broken flag
