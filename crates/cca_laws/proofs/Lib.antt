@@ -22,3 +22,5 @@ pub mod RightExamples
 pub mod ServeExamples
 pub mod EventLaws
 pub mod MoreExamples
+pub mod MirrorExamples
+pub mod FirstExamples

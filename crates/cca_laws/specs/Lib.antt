@@ -11,4 +11,6 @@ pub mod RightExamples
 pub mod ServeExamples
 pub mod EventLaws
 pub mod MoreExamples
+pub mod MirrorExamples
+pub mod FirstExamples
 pub mod Conditions

@@ -8,6 +8,8 @@ ghost use Rattle.cca_laws.specs.ObservedExamples.{PendingRises, NothingMirrored,
 ghost use Rattle.cca_laws.specs.ServeExamples.{OneOfOne, TwoOfOne, TooLate, NoneAfter, NotLost, LampIsPromised, LostBeginsNone};
 ghost use Rattle.cca_laws.specs.EventLaws.{FaultsMovePlant, ClearEndsGoal, CommandsMovePlant, UnexplainedHolds, HoldingGoesOn, TenThousandAreShown, OneMoreIsLong, LongBothWays};
 ghost use Rattle.cca_laws.specs.MoreExamples.{WrongAfterRight, BrokenIsNoGoal, MirroredIsNotObserved, OnceBeforeTick};
+ghost use Rattle.cca_laws.specs.MirrorExamples.{MirrorsJoin, AgainAfterTick, MirrorsOutlastTicks, PlantIsMirrored};
+ghost use Rattle.cca_laws.specs.FirstExamples.{LesserWorldIsFirst, GreaterWorldIsNot, PipeIsBurst, PumpIsNotDead};
 ghost use Rattle.cca_laws.specs.RightExamples.{WrongIsNotRight, FaultsExcuse, ResetsEndExcuses, ResetKeepsTicks};
 
 /// The empty model.
@@ -110,4 +112,20 @@ pub fn more()
     ensures broken { BrokenIsNoGoal }
     ensures mirrored { MirroredIsNotObserved }
     ensures once { OnceBeforeTick }
+{}
+
+/// What is mirrored.
+pub fn mirrors()
+    ensures join { MirrorsJoin }
+    ensures again { AgainAfterTick }
+    ensures outlast { MirrorsOutlastTicks }
+    ensures plant { PlantIsMirrored }
+{}
+
+/// What comes first of two that are as good.
+pub fn firsts()
+    ensures world { LesserWorldIsFirst }
+    ensures greater { GreaterWorldIsNot }
+    ensures estimate { PipeIsBurst }
+    ensures later { PumpIsNotDead }
 {}
