@@ -24,3 +24,5 @@ pub mod EventLaws
 pub mod MoreExamples
 pub mod MirrorExamples
 pub mod FirstExamples
+pub mod ImplicantLemmas
+pub mod CauseExamples

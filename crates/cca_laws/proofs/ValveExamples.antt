@@ -50,7 +50,7 @@ rule_is s w =
     truth_iff s w (flow_in 2) (mode_in 1 2) (has 2 (slice_index w 0)) (has 2 (slice_index s 1)) (fold-roll-Formula Bool (truth_step s w) (Formula-F.Among (Variable 0) 2))
     (truth_mode s w 1 2)
 
-start_state : IsState valve_model (0 ∷ 0 ∷ [])
+pub start_state : IsState valve_model (0 ∷ 0 ∷ [])
 start_state = record { full = refl; modes = below_two (λ c. HasMode valve_model c (slice_index (0 ∷ 0 ∷ []) c)) (omega arith) (omega arith) }
 
 pub start_world : IsWorld valve_model (0 ∷ 0 ∷ []) (0 ∷ [])

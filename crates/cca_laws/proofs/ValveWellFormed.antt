@@ -18,10 +18,10 @@ use Rattle.cca_laws.proofs.FormulaExamples.{print, mode_printed}
 use Rattle.cca_laws.specs.FormulaExamples.{mode_in}
 use Rattle.cca_laws.specs.ValveExamples.{flow_in, flow_rule, driver_on, on_move, off_move, open_move, valve_model, ValveIsWellFormed}
 
-abbrev close_move : Move
+abbrev pub close_move : Move
 close_move = record { component = 1; source = 1; target = 0; command = 3; repair = false; guard = driver_on }
 
-abbrev reset_move : Move
+abbrev pub reset_move : Move
 reset_move = record { component = 1; source = 2; target = 0; command = 4; repair = true; guard = driver_on }
 
 abbrev Differ : List ℕ → List ℕ → Type 0

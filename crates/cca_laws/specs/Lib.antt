@@ -13,4 +13,5 @@ pub mod EventLaws
 pub mod MoreExamples
 pub mod MirrorExamples
 pub mod FirstExamples
+pub mod CauseExamples
 pub mod Conditions

@@ -10,6 +10,7 @@ ghost use Rattle.cca_laws.specs.EventLaws.{FaultsMovePlant, ClearEndsGoal, Comma
 ghost use Rattle.cca_laws.specs.MoreExamples.{WrongAfterRight, BrokenIsNoGoal, MirroredIsNotObserved, OnceBeforeTick};
 ghost use Rattle.cca_laws.specs.MirrorExamples.{MirrorsJoin, AgainAfterTick, MirrorsOutlastTicks, PlantIsMirrored};
 ghost use Rattle.cca_laws.specs.FirstExamples.{LesserWorldIsFirst, GreaterWorldIsNot, PipeIsBurst, PumpIsNotDead};
+ghost use Rattle.cca_laws.specs.CauseExamples.{DriverServesValve, ValveServesNoDriver};
 ghost use Rattle.cca_laws.specs.RightExamples.{WrongIsNotRight, FaultsExcuse, ResetsEndExcuses, ResetKeepsTicks};
 
 /// The empty model.
@@ -128,4 +129,10 @@ pub fn firsts()
     ensures greater { GreaterWorldIsNot }
     ensures estimate { PipeIsBurst }
     ensures later { PumpIsNotDead }
+{}
+
+/// Commands that serve a goal.
+pub fn causes()
+    ensures driver { DriverServesValve }
+    ensures valve { ValveServesNoDriver }
 {}
