@@ -11,6 +11,7 @@ pub mod Minimal
 pub mod EmptyLemmas
 pub mod LampLemmas
 pub mod Tiny
+pub mod SmallModels
 pub mod FormulaExamples
 pub mod ValveExamples
 pub mod ValveWellFormed
