@@ -34,6 +34,9 @@ module _ (m : Automata) (move : Move) where
   only_free e (p ∷ cube) prime =
       absurd (contains_none p (prime.minimal [] (none_at (Contains (p ∷ cube))) (free_prime e).suffices 0 p (omega arith)))
 
+  pub free_lacks : move.guard ≡ always_true → (cube : List Pair) → PrimeImplicant m move cube → (p : Pair) → Contains cube p → ⊥
+  free_lacks e cube prime p among = contains_none p (subst (λ l. Contains l p) (sym (only_free e cube prime)) among)
+
   pub free_ways : move.guard ≡ always_true → AreWays m move ([] ∷ [])
   free_ways e = record {
     in_order = λ i j d lt h. absurd (omega arith);
@@ -65,5 +68,4 @@ module _ (m : Automata) (move : Move) where
 pub free_needs_nothing : (m : Automata) (c : ℕ) → All (λ (move : Move). move.component ≡ c → move.guard ≡ always_true) m.moves → (u : ℕ) → Needs m c u → ⊥
 free_needs_nothing m c free u h =
     let e : h.move.guard ≡ always_true = All-contains (λ (move : Move). move.component ≡ c → move.guard ≡ always_true) m.moves h.move free h.of_model h.own in
-    let p : Pair = record { item = u; value = h.mode } in
-    contains_none p (subst (λ cube. Contains cube p) (sym (only_free m h.move e h.cube h.prime)) h.occurs)
+    free_lacks m h.move e h.cube h.prime (record { item = u; value = h.mode }) h.occurs

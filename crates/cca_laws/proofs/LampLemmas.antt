@@ -55,7 +55,7 @@ then_less Equal b e h = equal_greater e
 then_less Greater b e h = less_greater (sym h)
 
 -- nothing comes before the empty cube
-least_cube : (cube : List Pair) → IsBeforeCube cube [] → ⊥
+pub least_cube : (cube : List Pair) → IsBeforeCube cube [] → ⊥
 least_cube [] h = absurd cc
 least_cube (p ∷ cube) h =
     let more : ℕ = length (p ∷ cube) in

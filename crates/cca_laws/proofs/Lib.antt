@@ -27,3 +27,7 @@ pub mod MirrorExamples
 pub mod FirstExamples
 pub mod ImplicantLemmas
 pub mod CauseExamples
+pub mod MendModel
+pub mod MendSteps
+pub mod ChoiceLemmas
+pub mod MendRoute

@@ -14,4 +14,5 @@ pub mod MoreExamples
 pub mod MirrorExamples
 pub mod FirstExamples
 pub mod CauseExamples
+pub mod MendExamples
 pub mod Conditions

@@ -11,6 +11,7 @@ ghost use Rattle.cca_laws.specs.MoreExamples.{WrongAfterRight, BrokenIsNoGoal, M
 ghost use Rattle.cca_laws.specs.MirrorExamples.{MirrorsJoin, AgainAfterTick, MirrorsOutlastTicks, PlantIsMirrored};
 ghost use Rattle.cca_laws.specs.FirstExamples.{LesserWorldIsFirst, GreaterWorldIsNot, PipeIsBurst, PumpIsNotDead};
 ghost use Rattle.cca_laws.specs.CauseExamples.{DriverServesValve, ValveServesNoDriver};
+ghost use Rattle.cca_laws.specs.MendExamples.{MendingIsCompiled, GoingIsAllowed, BackGoalIsMended, RouteComesBack};
 ghost use Rattle.cca_laws.specs.RightExamples.{WrongIsNotRight, FaultsExcuse, ResetsEndExcuses, ResetKeepsTicks};
 
 /// The empty model.
@@ -135,4 +136,12 @@ pub fn firsts()
 pub fn causes()
     ensures driver { DriverServesValve }
     ensures valve { ValveServesNoDriver }
+{}
+
+/// A way back that mends.
+pub fn mends()
+    ensures compiled { MendingIsCompiled }
+    ensures going { GoingIsAllowed }
+    ensures goal { BackGoalIsMended }
+    ensures route { RouteComesBack }
 {}
