@@ -1,5 +1,5 @@
--- Open moves, and how far they lead.
-use Rattle.std.proofs.Common.{◌≡◌, ◌≢◌, ◌≤◌, ℕ, zero, suc, List, [], Contains, refl, arith}
+-- Open moves and how far they lead, and the first of all cubes.
+use Rattle.std.proofs.Common.{sym, ◌<◌, ◌∷◌, length, ◌≡◌, ◌≢◌, ◌≤◌, ℕ, zero, suc, List, [], Contains, refl, arith}
 use Rattle.cca_base.specs.declared.cube.Pair.{Pair}
 use Rattle.cca_base.specs.declared.model.Move.{Move}
 use Rattle.cca_base.specs.Automata.{Automata}
@@ -7,9 +7,36 @@ use Rattle.cca_base.specs.Choice.{IsOpenAt, IsDistance, Walk}
 use Rattle.cca_base.specs.Model.{is_broken}
 use Rattle.cca_base.specs.Steps.{Reach}
 use Rattle.std.specs.Prelude.{false}
+use Rattle.std.specs.Ordering.{nat_cmp, ordering_then}
+use Rattle.std.specs.Cmp.Lexicographic.{slice_cmp}
+use Rattle.std.specs.declared.cmp.Ordering.{Ordering}
+use Rattle.std.specs.declared.cmp.Ordering.TheVariants.{Less, Equal, Greater}
+use Rattle.std.proofs.lemmas.Cmp.{ranked, by_ranked}
+use Rattle.cca_base.specs.Cube.{IsBeforeCube, pair_cmp}
 use Rattle.cca_laws.proofs.Tiny.{none_at}
 use Rattle.cca_laws.proofs.ImplicantLemmas.{free_prime}
 use Rattle.cca_laws.specs.Examples.{always_true}
+
+less_greater : ◌≡◌ {A = Ordering} Less Greater → ⊥
+less_greater h = cc
+
+equal_greater : ◌≡◌ {A = Ordering} Equal Greater → ⊥
+equal_greater h = cc
+
+then_less : (a b : Ordering) → a ≡ Greater → ordering_then a b ≡ Less → ⊥
+then_less Less b e h = less_greater e
+then_less Equal b e h = equal_greater e
+then_less Greater b e h = less_greater (sym h)
+
+-- nothing comes before the empty cube
+pub least_cube : (cube : List Pair) → IsBeforeCube cube [] → ⊥
+least_cube [] h = absurd cc
+least_cube (p ∷ cube) h =
+    let more : ℕ = length (p ∷ cube) in
+    by_ranked (more < 0) (more ≡ 0) (0 < more) (nat_cmp more 0) (ranked more 0 (nat_cmp more 0) refl)
+    (λ e lt. absurd (omega arith))
+    (λ e same. absurd (omega arith))
+    (λ e above. then_less (nat_cmp more 0) (slice_cmp pair_cmp (p ∷ cube) []) e h)
 
 module _ (m : Automata) (s : List ℕ) where
   -- a move whose guard is always true is open

@@ -1,18 +1,23 @@
 -- The prime implicants of moves that are free, and of moves that need one pair.
-use Rattle.std.proofs.Common.{◌≡◌, ◌≢◌, ℕ, List, [], ◌∷◌, All, Contains, inl, inr, refl, sym, subst, arith}
+use Rattle.std.proofs.Common.{Bool, true, ◌≡◌, ◌≢◌, ℕ, List, [], ◌∷◌, All, Contains, inl, inr, refl, sym, subst, arith}
 use Rattle.std.proofs.lemmas.List.Elements.{All-contains}
 use Rattle.cca_base.specs.declared.cube.Pair.{Pair}
+use Rattle.cca_base.specs.declared.formula.Formula.TheOpen.{Formula-F}
+use Rattle.cca_base.specs.declared.formula.Formula.TheFolds.{fold-roll-Formula}
 use Rattle.cca_base.specs.declared.model.Move.{Move}
 use Rattle.cca_base.specs.Automata.{Automata}
 use Rattle.cca_base.specs.Accepted.{AreWays}
 use Rattle.cca_base.specs.Cube.{IsPart}
+use Rattle.cca_base.specs.Formula.{truth, truth_step}
 use Rattle.cca_base.specs.Implicants.{PrimeImplicant, Suffices, Needs, source_pair}
 use Rattle.cca_base.specs.Model.{HasMode}
 use Rattle.cca_base.specs.State.{Follows}
 use Rattle.cca_base.proofs.Members.{contains_cases, contains_here, contains_none}
-use Rattle.cca_laws.proofs.LampLemmas.{always}
 use Rattle.cca_laws.proofs.Tiny.{none_at, one_at}
 use Rattle.cca_laws.specs.Examples.{always_true}
+
+pub always : (s w : List ℕ) → truth s w always_true ≡ true
+always s w = fold-roll-Formula Bool (truth_step s w) Formula-F.True
 
 pub always_follows : (m : Automata) (pairs : List Pair) → Follows m pairs always_true
 always_follows m pairs s state extends w world = always s w

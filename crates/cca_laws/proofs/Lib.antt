@@ -28,6 +28,10 @@ pub mod FirstExamples
 pub mod ImplicantLemmas
 pub mod CauseExamples
 pub mod MendModel
+pub mod MendImplicants
+pub mod MendCompiled
 pub mod MendSteps
 pub mod ChoiceLemmas
+pub mod MendGoal
+pub mod MendPicks
 pub mod MendRoute

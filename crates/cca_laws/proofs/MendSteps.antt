@@ -13,7 +13,7 @@ use Rattle.cca_base.proofs.Members.{some_inj}
 use Rattle.cca_laws.proofs.Tiny.{two_at, below_two}
 use Rattle.cca_laws.proofs.FormulaExamples.{truth_mode}
 use Rattle.cca_laws.proofs.ImplicantLemmas.{always_follows}
-use Rattle.cca_laws.proofs.MendModel.{only_world, state_of}
+use Rattle.cca_laws.proofs.MendImplicants.{only_world, state_of}
 use Rattle.cca_laws.proofs.PlansLemmas.{mends_itself}
 use Rattle.cca_laws.proofs.ValveExamples.{index_of}
 use Rattle.cca_laws.specs.MendExamples.{reset_move, z_move, ok_move, go_move, back_move, mending, c_is_z, GoingIsAllowed}

@@ -15,7 +15,7 @@ use Rattle.cca_base.specs.Steps.{Step, Run, Allowed, support}
 use Rattle.cca_base.specs.Repairs.{Mending}
 use Rattle.cca_laws.proofs.Tiny.{one_at, three_at, below_one, below_two, below_three}
 use Rattle.cca_laws.proofs.FormulaExamples.{truth_mode, truth_iff}
-use Rattle.cca_laws.proofs.LampLemmas.{always}
+use Rattle.cca_laws.proofs.ImplicantLemmas.{always}
 use Rattle.cca_laws.proofs.PlansLemmas.{mends_itself}
 use Rattle.cca_laws.specs.Examples.{always_true}
 use Rattle.cca_laws.specs.FormulaExamples.{mode_in}

@@ -1,6 +1,7 @@
-use Rattle.cca_laws.proofs.MendModel.{mending_is_compiled}
+use Rattle.cca_laws.proofs.MendCompiled.{mending_is_compiled}
 use Rattle.cca_laws.proofs.MendSteps.{going_is_allowed}
-use Rattle.cca_laws.proofs.MendRoute.{back_goal_is_mended, route_comes_back}
+use Rattle.cca_laws.proofs.MendGoal.{back_goal_is_mended}
+use Rattle.cca_laws.proofs.MendRoute.{route_comes_back}
 use Rattle.cca_laws.proofs.examples.mends.Goals as goal
 
 pub returns-clause-compiled : goal.returns-clause-compiled
