@@ -1,3 +1,5 @@
+//! Examples: small models, and what is true and false of them.
+
 ghost use Rattle.cca_laws.specs.Examples.{EmptyTicks, LampIsLit};
 ghost use Rattle.cca_laws.specs.FormulaExamples.{DepthIsSeven, ChoicesOfTwo, OnePartDoesNotFit, NoneAmongDoesNotFit};
 ghost use Rattle.cca_laws.specs.ValveExamples.{ValveIsWellFormed, DriverComesOn, StuckMends, OpeningNeedsDriver, StuckIsNotLeanedOn, ClosedIsLeanedOn, OpeningForGood, OpeningIsAllowed};
