@@ -7,11 +7,11 @@ use Rattle.cca_base.specs.declared.model.Move.{Move}
 use Rattle.cca_base.specs.Sets.{has}
 use Rattle.cca_base.specs.Goals.{IsNeeded}
 use Rattle.cca_base.specs.Implicants.{Suffices, Needs, Ancestor, source_pair}
-use Rattle.cca_base.specs.Steps.{Step, Allowed, support}
+use Rattle.cca_base.specs.Steps.{Step, Allowed}
 use Rattle.cca_base.proofs.Members.{contains_cases, contains_none, some_inj}
 use Rattle.cca_laws.proofs.Tiny.{one_at, five_at}
 use Rattle.cca_laws.proofs.FormulaExamples.{truth_mode}
-use Rattle.cca_laws.proofs.ImplicantLemmas.{always_follows, single_prime, free_needs_nothing}
+use Rattle.cca_laws.proofs.ImplicantLemmas.{free_step, single_prime, free_needs_nothing}
 use Rattle.cca_laws.proofs.PlansLemmas.{mends_itself}
 use Rattle.cca_laws.proofs.ValveExamples.{opening_is_allowed, open_is_the_one, start_state, start_world, index_of}
 use Rattle.cca_laws.proofs.ValveWellFormed.{close_move, reset_move}
@@ -45,24 +45,10 @@ valve_needs_driver = record {
 }
 
 switching_off : (mode : ℕ) → Step valve_model (1 ∷ mode ∷ []) 1 (0 ∷ mode ∷ [])
-switching_off mode = record {
-  move = off_move;
-  of_model = (1, omega arith, refl);
-  command = refl;
-  source = refl;
-  guard = always_follows valve_model (support valve_model (1 ∷ mode ∷ []) off_move);
-  gives = refl;
-}
+switching_off mode = free_step valve_model off_move (1, omega arith, refl) refl (1 ∷ mode ∷ []) refl
 
 abbrev switching_on : (mode : ℕ) → Step valve_model (0 ∷ mode ∷ []) 0 (1 ∷ mode ∷ [])
-switching_on mode = record {
-  move = on_move;
-  of_model = (0, omega arith, refl);
-  command = refl;
-  source = refl;
-  guard = always_follows valve_model (support valve_model (0 ∷ mode ∷ []) on_move);
-  gives = refl;
-}
+switching_on mode = free_step valve_model on_move (0, omega arith, refl) refl (0 ∷ mode ∷ []) refl
 
 on_is_allowed : Allowed valve_model (0 ∷ 0 ∷ []) 0 (1 ∷ 0 ∷ [])
 on_is_allowed = record { step = switching_on 0; back = inr (1 ∷ [], 0 ∷ 0 ∷ [], (0 ∷ 0 ∷ [], switching_off 0, refl), mends_itself valve_model (0 ∷ 0 ∷ [])) }

@@ -1,24 +1,22 @@
 -- Open moves and how far they lead, and the first of all cubes.
-use Rattle.std.proofs.Common.{sym, ◌<◌, ◌∷◌, length, ◌≡◌, ◌≢◌, ◌≤◌, ℕ, zero, suc, List, [], Contains, refl, arith}
-use Rattle.cca_base.specs.declared.cube.Pair.{Pair}
-use Rattle.cca_base.specs.declared.model.Move.{Move}
-use Rattle.cca_base.specs.Automata.{Automata}
-use Rattle.cca_base.specs.Choice.{IsOpenAt, IsDistance, Walk}
-use Rattle.cca_base.specs.Model.{is_broken}
-use Rattle.cca_base.specs.Steps.{Reach}
+use Rattle.std.proofs.Common.{◌≡◌, ◌≢◌, ◌<◌, ◌≤◌, ℕ, zero, suc, List, [], ◌∷◌, length, Contains, refl, sym, arith}
 use Rattle.std.specs.Prelude.{false}
 use Rattle.std.specs.Ordering.{nat_cmp, ordering_then}
 use Rattle.std.specs.Cmp.Lexicographic.{slice_cmp}
 use Rattle.std.specs.declared.cmp.Ordering.{Ordering}
 use Rattle.std.specs.declared.cmp.Ordering.TheVariants.{Less, Equal, Greater}
 use Rattle.std.proofs.lemmas.Cmp.{ranked, by_ranked}
+use Rattle.cca_base.specs.declared.cube.Pair.{Pair}
+use Rattle.cca_base.specs.declared.model.Move.{Move}
+use Rattle.cca_base.specs.Automata.{Automata}
+use Rattle.cca_base.specs.Choice.{IsOpenAt, IsDistance, Walk}
+use Rattle.cca_base.specs.Model.{is_broken}
+use Rattle.cca_base.specs.Steps.{Reach}
 use Rattle.cca_base.specs.Cube.{IsBeforeCube, pair_cmp}
+use Rattle.cca_laws.proofs.OrderLemmas.{less_greater}
 use Rattle.cca_laws.proofs.Tiny.{none_at}
 use Rattle.cca_laws.proofs.ImplicantLemmas.{free_prime}
 use Rattle.cca_laws.specs.Examples.{always_true}
-
-less_greater : ◌≡◌ {A = Ordering} Less Greater → ⊥
-less_greater h = cc
 
 equal_greater : ◌≡◌ {A = Ordering} Equal Greater → ⊥
 equal_greater h = cc

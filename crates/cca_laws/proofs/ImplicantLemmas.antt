@@ -1,5 +1,5 @@
--- The prime implicants of moves that are free, and of moves that need one pair.
-use Rattle.std.proofs.Common.{Bool, true, ◌≡◌, ◌≢◌, ℕ, List, [], ◌∷◌, All, Contains, inl, inr, refl, sym, subst, arith}
+-- The prime implicants and steps of moves that are free, and the prime implicants of moves that need one pair.
+use Rattle.std.proofs.Common.{◌≡◌, ◌≢◌, ℕ, Bool, true, inl, inr, List, [], ◌∷◌, All, Contains, slice_get, slice_set, Some, refl, sym, subst, arith}
 use Rattle.std.proofs.lemmas.List.Elements.{All-contains}
 use Rattle.cca_base.specs.declared.cube.Pair.{Pair}
 use Rattle.cca_base.specs.declared.formula.Formula.TheOpen.{Formula-F}
@@ -12,6 +12,7 @@ use Rattle.cca_base.specs.Formula.{truth, truth_step}
 use Rattle.cca_base.specs.Implicants.{PrimeImplicant, Suffices, Needs, source_pair}
 use Rattle.cca_base.specs.Model.{HasMode}
 use Rattle.cca_base.specs.State.{Follows}
+use Rattle.cca_base.specs.Steps.{Step, support}
 use Rattle.cca_base.proofs.Members.{contains_cases, contains_here, contains_none}
 use Rattle.cca_laws.proofs.Tiny.{none_at, one_at}
 use Rattle.cca_laws.specs.Examples.{always_true}
@@ -49,6 +50,18 @@ module _ (m : Automata) (move : Move) where
       λ among. elim (contains_cases [] cube [] among) [ inl same ↦ subst (PrimeImplicant m move) same (free_prime e) | inr none ↦ absurd (contains_none cube none) ],
       λ prime. contains_here [] cube [] (only_free e cube prime),
     );
+  }
+
+  -- it is a step wherever its component stands in its source
+  abbrev pub free_step : Contains m.moves move → move.guard ≡ always_true → (s : List ℕ) → slice_get s move.component ≡ Some move.source
+      → Step m s move.command (slice_set s move.component move.target)
+  free_step own e s from = record {
+    move = move;
+    of_model = own;
+    command = refl;
+    source = from;
+    guard = subst (Follows m (support m s move)) (sym e) (always_follows m (support m s move));
+    gives = refl;
   }
 
   -- ---- a move that needs one pair

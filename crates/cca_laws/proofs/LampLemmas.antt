@@ -2,19 +2,19 @@
 use Rattle.std.proofs.Common.{◌≡◌, ◌≢◌, ℕ, inl, inr, [], ◌∷◌, All, slice_get, Some, refl, subst, arith}
 use Rattle.cca_base.specs.declared.cube.Pair.{Pair}
 use Rattle.cca_base.specs.declared.events.Reply.TheVariants.{Send, Achieved}
-use Rattle.cca_base.specs.Steps.{support, Step, Allowed}
+use Rattle.cca_base.specs.Steps.{Step, Allowed}
 use Rattle.cca_base.specs.Choice.{IsChosen, Now, PicksForGoal}
 use Rattle.cca_laws.specs.Examples.{on_move, off_move, lamp, lamp_compiled, lit, LampIsLit}
 use Rattle.cca_laws.proofs.Tiny.{none_at, one_at}
-use Rattle.cca_laws.proofs.ImplicantLemmas.{always_follows, free_prime}
+use Rattle.cca_laws.proofs.ImplicantLemmas.{free_prime, free_step}
 use Rattle.cca_laws.proofs.ChoiceLemmas.{open_free, none_away, one_away, least_cube}
 use Rattle.cca_laws.proofs.PlansLemmas.{mends_itself}
 
 abbrev step_on : Step lamp (0 ∷ []) 0 (1 ∷ [])
-step_on = record { move = on_move; of_model = (0, omega arith, refl); command = refl; source = refl; guard = always_follows lamp (support lamp (0 ∷ []) on_move); gives = refl }
+step_on = free_step lamp on_move (0, omega arith, refl) refl (0 ∷ []) refl
 
 step_off : Step lamp (1 ∷ []) 1 (0 ∷ [])
-step_off = record { move = off_move; of_model = (1, omega arith, refl); command = refl; source = refl; guard = always_follows lamp (support lamp (1 ∷ []) off_move); gives = refl }
+step_off = free_step lamp off_move (1, omega arith, refl) refl (1 ∷ []) refl
 
 allowed_on : Allowed lamp (0 ∷ []) 0 (1 ∷ [])
 allowed_on = record { step = step_on; back = inr (1 ∷ [], 0 ∷ [], (0 ∷ [], step_off, refl), mends_itself lamp (0 ∷ [])) }

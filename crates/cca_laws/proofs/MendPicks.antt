@@ -1,5 +1,5 @@
 -- Which commands are picked in the model with a reset.
-use Rattle.std.proofs.Common.{◌≡◌, ◌<◌, ◌≤◌, ◌+◌, ◌*◌, ℕ, zero, suc, false, inl, inr, List, [], ◌∷◌, Some, Contains, refl, sym, ap, subst, ◌∙◌, arith}
+use Rattle.std.proofs.Common.{◌≡◌, ◌≢◌, ◌<◌, ◌≤◌, ◌+◌, ◌*◌, ℕ, zero, suc, false, inl, inr, List, [], ◌∷◌, Some, Contains, refl, sym, ap, subst, ◌∙◌, arith}
 use Rattle.std.specs.Prelude.{slice_get}
 use Rattle.std.proofs.lemmas.List.Sorted.{IsPermutation-refl}
 use Rattle.std.proofs.lemmas.Option.{slice_get-get_or}
@@ -70,19 +70,29 @@ two_away s = (
     no_shorter (suc zero) (move, of_model, own, from, is_open, e) = absurd (omega (arith, e, from_m move of_model own from))
     no_shorter (suc (suc fewer)) h = omega arith
 
-go_chosen : IsChosen mending (0 ∷ 0 ∷ []) 1 1 go_move []
-go_chosen =
-    let s : List ℕ = 0 ∷ 0 ∷ [] in
-    free_chosen s 1 3 go_move refl
+-- a free move to the mode itself
+near_chosen : (s : List ℕ) (at : ℕ) (move : Move) → slice_get mending.moves at ≡ Some move → Contains mending.moves move → move.guard ≡ always_true
+    → slice_get s move.component ≡ Some move.source → move.source ≢ move.target → IsChosen mending s move.component move.target move []
+near_chosen s at move here own e from other =
+    free_chosen s move.target at move here
     (record {
       own = refl;
-      source = refl;
-      open_move = open_free mending s go_move refl;
+      source = from;
+      open_move = open_free mending s move e;
       rest = 0;
-      before = one_away mending s go_move (3, omega arith, refl) (open_free mending s go_move refl) (λ e. absurd (omega (arith, e)));
-      after = none_away mending s 1 1;
+      before = one_away mending s move own (open_free mending s move e) other;
+      after = none_away mending s move.component move.target;
     })
-    refl
+    e
+
+go_chosen : IsChosen mending (0 ∷ 0 ∷ []) 1 1 go_move []
+go_chosen = near_chosen (0 ∷ 0 ∷ []) 3 go_move refl (3, omega arith, refl) refl refl (λ e. absurd (omega (arith, e)))
+
+z_chosen : IsChosen mending (1 ∷ 1 ∷ []) 0 2 z_move []
+z_chosen = near_chosen (1 ∷ 1 ∷ []) 1 z_move refl (1, omega arith, refl) refl refl (λ e. absurd (omega (arith, e)))
+
+ok_chosen : IsChosen mending (2 ∷ 0 ∷ []) 0 1 ok_move []
+ok_chosen = near_chosen (2 ∷ 0 ∷ []) 2 ok_move refl (2, omega arith, refl) refl refl (λ e. absurd (omega (arith, e)))
 
 reset_chosen : IsChosen mending (0 ∷ 1 ∷ []) 0 2 reset_move []
 reset_chosen =
@@ -95,34 +105,6 @@ reset_chosen =
       rest = 1;
       before = two_away s;
       after = one_away mending s z_move (1, omega arith, refl) (open_free mending s z_move refl) (λ e. absurd (omega (arith, e)));
-    })
-    refl
-
-z_chosen : IsChosen mending (1 ∷ 1 ∷ []) 0 2 z_move []
-z_chosen =
-    let s : List ℕ = 1 ∷ 1 ∷ [] in
-    free_chosen s 2 1 z_move refl
-    (record {
-      own = refl;
-      source = refl;
-      open_move = open_free mending s z_move refl;
-      rest = 0;
-      before = one_away mending s z_move (1, omega arith, refl) (open_free mending s z_move refl) (λ e. absurd (omega (arith, e)));
-      after = none_away mending s 0 2;
-    })
-    refl
-
-ok_chosen : IsChosen mending (2 ∷ 0 ∷ []) 0 1 ok_move []
-ok_chosen =
-    let s : List ℕ = 2 ∷ 0 ∷ [] in
-    free_chosen s 1 2 ok_move refl
-    (record {
-      own = refl;
-      source = refl;
-      open_move = open_free mending s ok_move refl;
-      rest = 0;
-      before = one_away mending s ok_move (2, omega arith, refl) (open_free mending s ok_move refl) (λ e. absurd (omega (arith, e)));
-      after = none_away mending s 0 1;
     })
     refl
 

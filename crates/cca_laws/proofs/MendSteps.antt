@@ -12,7 +12,7 @@ use Rattle.cca_base.specs.Steps.{Step, Run, Allowed, support}
 use Rattle.cca_base.proofs.Members.{some_inj}
 use Rattle.cca_laws.proofs.Tiny.{two_at, below_two}
 use Rattle.cca_laws.proofs.FormulaExamples.{truth_mode}
-use Rattle.cca_laws.proofs.ImplicantLemmas.{always_follows}
+use Rattle.cca_laws.proofs.ImplicantLemmas.{free_step}
 use Rattle.cca_laws.proofs.MendImplicants.{only_world, state_of}
 use Rattle.cca_laws.proofs.PlansLemmas.{mends_itself}
 use Rattle.cca_laws.proofs.ValveExamples.{index_of}
@@ -20,34 +20,13 @@ use Rattle.cca_laws.specs.MendExamples.{reset_move, z_move, ok_move, go_move, ba
 
 module _ (b : ℕ) where
   abbrev pub reset_step : Step mending (0 ∷ b ∷ []) 0 (1 ∷ b ∷ [])
-  reset_step = record {
-    move = reset_move;
-    of_model = (0, omega arith, refl);
-    command = refl;
-    source = refl;
-    guard = always_follows mending (support mending (0 ∷ b ∷ []) reset_move);
-    gives = refl;
-  }
+  reset_step = free_step mending reset_move (0, omega arith, refl) refl (0 ∷ b ∷ []) refl
 
   pub z_step : Step mending (1 ∷ b ∷ []) 1 (2 ∷ b ∷ [])
-  z_step = record {
-    move = z_move;
-    of_model = (1, omega arith, refl);
-    command = refl;
-    source = refl;
-    guard = always_follows mending (support mending (1 ∷ b ∷ []) z_move);
-    gives = refl;
-  }
+  z_step = free_step mending z_move (1, omega arith, refl) refl (1 ∷ b ∷ []) refl
 
   pub ok_step : Step mending (2 ∷ b ∷ []) 2 (1 ∷ b ∷ [])
-  ok_step = record {
-    move = ok_move;
-    of_model = (2, omega arith, refl);
-    command = refl;
-    source = refl;
-    guard = always_follows mending (support mending (2 ∷ b ∷ []) ok_move);
-    gives = refl;
-  }
+  ok_step = free_step mending ok_move (2, omega arith, refl) refl (2 ∷ b ∷ []) refl
 
   pub reset_allowed : Allowed mending (0 ∷ b ∷ []) 0 (1 ∷ b ∷ [])
   reset_allowed = record { step = reset_step; back = inl refl }
@@ -56,14 +35,7 @@ module _ (b : ℕ) where
   z_allowed = record { step = z_step; back = inr (2 ∷ [], 1 ∷ b ∷ [], (1 ∷ b ∷ [], ok_step, refl), mends_itself mending (1 ∷ b ∷ [])) }
 
 pub go_step : (c : ℕ) → Step mending (c ∷ 0 ∷ []) 3 (c ∷ 1 ∷ [])
-go_step c = record {
-  move = go_move;
-  of_model = (3, omega arith, refl);
-  command = refl;
-  source = refl;
-  guard = always_follows mending (support mending (c ∷ 0 ∷ []) go_move);
-  gives = refl;
-}
+go_step c = free_step mending go_move (3, omega arith, refl) refl (c ∷ 0 ∷ []) refl
 
 pub back_step : Step mending (2 ∷ 1 ∷ []) 4 (2 ∷ 0 ∷ [])
 back_step = record {

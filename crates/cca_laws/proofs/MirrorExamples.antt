@@ -1,7 +1,7 @@
 -- What is mirrored.
-use Rattle.std.proofs.Common.{◌≡◌, ◌≢◌, ◌<◌, ℕ, zero, suc, true, ◌||◌, ◌⊎◌, inl, inr, List, [], ◌∷◌, length, Some, Contains, refl, sym, ap, subst, ◌∙◌, arith, not}
-use Rattle.std.specs.Prelude.{slice_get, slice_index, IsTrue, ◌↔◌, if◌then◌else◌}
-use Rattle.std.proofs.lemmas.Bool.{false≢true, cases_eq, both_ways, eq-eqb, ne_eqb}
+use Rattle.std.proofs.Common.{◌≡◌, ◌≢◌, ℕ, zero, suc, ◌||◌, ◌⊎◌, inl, inr, List, [], ◌∷◌, length, Some, Contains, refl, sym, ap, subst, ◌∙◌, arith}
+use Rattle.std.specs.Prelude.{slice_get, slice_index, IsTrue, ◌↔◌}
+use Rattle.std.proofs.lemmas.Bool.{cases_eq, both_ways, eq-eqb, ne_eqb}
 use Rattle.cca_base.specs.declared.cube.Pair.{Pair}
 use Rattle.cca_base.specs.Cube.{IsUnion}
 use Rattle.cca_base.specs.Sets.{has, with_number}
@@ -10,7 +10,7 @@ use Rattle.cca_base.specs.Trace.{Situation, start, MayBeSeen, MayBeObserved, Has
 use Rattle.cca_base.proofs.Members.{contains_cases, contains_none, contains_here, none_some, some_inj}
 use Rattle.cca_base.proofs.SetLemmas.{has-with_number}
 use Rattle.cca_laws.proofs.Tiny.{none_at, one_at}
-use Rattle.cca_laws.proofs.ValveExamples.{rule_is, start_world}
+use Rattle.cca_laws.proofs.ValveExamples.{rule_is, start_world, nothing_flows}
 use Rattle.cca_laws.specs.ValveExamples.{valve_model, flow_rule}
 use Rattle.cca_laws.specs.ObservedExamples.{loose, x_low}
 use Rattle.cca_laws.specs.RightExamples.{no_flow}
@@ -54,19 +54,13 @@ pub mirrors_outlast_ticks : MirrorsOutlastTicks
 mirrors_outlast_ticks (may, y, change, rest) =
     both_ways (has y.mirrored 0) (rest.0.seen 0 x_low (omega arith)).unmirrored (((mirrors_join loose [] (start loose 0) y 0 change).0 0).1 (inl refl))
 
--- nothing flows while the valve is closed
-no_flow_at : (v : ℕ) → v < 2 → (if has 2 v then has 2 0 else not (has 2 0)) ≡ true → v ≡ 0
-no_flow_at zero h e = refl
-no_flow_at (suc zero) h e = absurd (false≢true e)
-no_flow_at (suc (suc v)) h e = absurd (omega arith)
-
 one_of : (w : List ℕ) → length w ≡ 1 → slice_get w 0 ≡ Some (slice_index w 0)
 one_of [] e = absurd (omega arith)
 one_of (v ∷ w) e = refl
 
 none_flows : HasOneValue valve_model (0 ∷ 0 ∷ []) (record { item = 0; value = 0 })
 none_flows w world =
-    one_of w world.full ∙ ap Some (no_flow_at (slice_index w 0) (world.values 0 (omega arith)) (sym (rule_is (0 ∷ 0 ∷ []) w) ∙ world.rules 0 flow_rule (omega arith)))
+    one_of w world.full ∙ ap Some (nothing_flows (slice_index w 0) 0 (world.values 0 (omega arith)) refl (sym (rule_is (0 ∷ 0 ∷ []) w) ∙ world.rules 0 flow_rule (omega arith)))
 
 -- what the plant's world has
 in_plant : (i v : ℕ) → slice_get (0 ∷ []) i ≡ Some v → Contains no_flow (record { item = i; value = v })
