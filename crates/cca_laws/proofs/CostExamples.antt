@@ -21,7 +21,7 @@ use Rattle.cca_laws.specs.FormulaExamples.{mode_in, both, either}
 use Rattle.cca_laws.specs.ValveExamples.{flow_in, valve_model, open_move}
 use Rattle.cca_laws.specs.CostExamples.{falling_open, staying_shut, poor_rule, three, OpeningIsFree, StayingShutCosts, StandingIsFree, TwoForOne}
 
-sum_two : (parts : List ℕ) → length parts ≡ 2 → sum parts ≡ slice_index parts 0 + slice_index parts 1
+pub sum_two : (parts : List ℕ) → length parts ≡ 2 → sum parts ≡ slice_index parts 0 + slice_index parts 1
 sum_two [] e = absurd (omega arith)
 sum_two (x ∷ []) e = absurd (omega arith)
 sum_two (x ∷ y ∷ []) e = omega arith
@@ -55,7 +55,7 @@ module _ (failure : Failure) where
   ]
 
 -- without a command nothing moves
-unmoved : (m : Automata) (s nominal : List ℕ) → Nominal m s None nominal → nominal ≡ s
+pub unmoved : (m : Automata) (s nominal : List ℕ) → Nominal m s None nominal → nominal ≡ s
 unmoved m s nominal h = elim h [ inl x ↦ absurd (none_some x.0.command x.1.command) | inr x ↦ x.1 ]
 
 opening_costs : Costs falling_open (1 ∷ 0 ∷ []) (Some 2) (1 ∷ 1 ∷ []) 0
@@ -170,10 +170,10 @@ weigh a b zero more h k l e (inr x) = absurd (omega arith)
 weigh a b (suc c) more h k l e x = inr (omega arith)
 
 -- each change from ok costs its failure
-change : (c to cost n : ℕ) → to < 2 → ((k : ℕ) → HasFailure three c 0 1 k → k ≡ n) → ChangeCosts three c 0 0 to cost → cost ≡ n * to
-change c zero cost n h only x = elim x [ inl y ↦ omega (arith, y.1) | inr y ↦ absurd (y.0 refl) ]
-change c (suc zero) cost n h only x = elim x [ inl y ↦ absurd (omega (arith, y.0)) | inr y ↦ only cost y.1 ∙ omega arith ]
-change c (suc (suc to)) cost n h only x = absurd (omega arith)
+pub change : (m : Automata) (c to cost n : ℕ) → to < 2 → ((k : ℕ) → HasFailure m c 0 1 k → k ≡ n) → ChangeCosts m c 0 0 to cost → cost ≡ n * to
+change m c zero cost n h only x = elim x [ inl y ↦ omega (arith, y.1) | inr y ↦ absurd (y.0 refl) ]
+change m c (suc zero) cost n h only x = elim x [ inl y ↦ absurd (omega (arith, y.0)) | inr y ↦ only cost y.1 ∙ omega arith ]
+change m c (suc (suc to)) cost n h only x = absurd (omega arith)
 
 p_cost : (k : ℕ) → HasFailure three 0 0 1 k → k ≡ 4
 p_cost k (zero, h, e) = sym (ap (λ (f : Failure). f.cost) e)
@@ -214,11 +214,11 @@ guessed other more h =
     let ly : y < 2 = h.costs.state.modes 1 (omega arith) in
     let lz : z < 2 = h.costs.state.modes 2 (omega arith) in
     let px : slice_index h.costs.parts 0 ≡ 4 * x =
-    change 0 x (slice_index h.costs.parts 0) 4 lx p_cost (subst (λ (n : List ℕ). ChangeCosts three 0 0 (slice_index n 0) x (slice_index h.costs.parts 0)) stays (h.costs.each 0 (omega arith))) in
+    change three 0 x (slice_index h.costs.parts 0) 4 lx p_cost (subst (λ (n : List ℕ). ChangeCosts three 0 0 (slice_index n 0) x (slice_index h.costs.parts 0)) stays (h.costs.each 0 (omega arith))) in
     let py : slice_index h.costs.parts 1 ≡ 6 * y =
-    change 1 y (slice_index h.costs.parts 1) 6 ly q_cost (subst (λ (n : List ℕ). ChangeCosts three 1 0 (slice_index n 1) y (slice_index h.costs.parts 1)) stays (h.costs.each 1 (omega arith))) in
+    change three 1 y (slice_index h.costs.parts 1) 6 ly q_cost (subst (λ (n : List ℕ). ChangeCosts three 1 0 (slice_index n 1) y (slice_index h.costs.parts 1)) stays (h.costs.each 1 (omega arith))) in
     let pz : slice_index h.costs.parts 2 ≡ 11 * z =
-    change 2 z (slice_index h.costs.parts 2) 11 lz r_cost (subst (λ (n : List ℕ). ChangeCosts three 2 0 (slice_index n 2) z (slice_index h.costs.parts 2)) stays (h.costs.each 2 (omega arith))) in
+    change three 2 z (slice_index h.costs.parts 2) 11 lz r_cost (subst (λ (n : List ℕ). ChangeCosts three 2 0 (slice_index n 2) z (slice_index h.costs.parts 2)) stays (h.costs.each 2 (omega arith))) in
     let total : more ≡ 4 * x + 6 * y + 11 * z =
     h.costs.total ∙ sum_three h.costs.parts (h.costs.full ∙ full) ∙ omega arith in
     let seen : slice_index h.world 0 ≡ 1 = index_of h.world 0 1 (h.agrees 0 (record { item = 0; value = 0 }) (omega arith)) in

@@ -11,6 +11,7 @@ pub mod Minimal
 pub mod EmptyLemmas
 pub mod LampLemmas
 pub mod Tiny
+pub mod SmallModels
 pub mod FormulaExamples
 pub mod ValveExamples
 pub mod ValveWellFormed
@@ -22,3 +23,15 @@ pub mod RightExamples
 pub mod ServeExamples
 pub mod EventLaws
 pub mod MoreExamples
+pub mod MirrorExamples
+pub mod FirstExamples
+pub mod ImplicantLemmas
+pub mod CauseExamples
+pub mod MendModel
+pub mod MendImplicants
+pub mod MendCompiled
+pub mod MendSteps
+pub mod ChoiceLemmas
+pub mod MendGoal
+pub mod MendPicks
+pub mod MendRoute

@@ -34,7 +34,7 @@ pending_rises = (
   refl,
 )
 
-world : (a b : ℕ) → a < 2 → b < 2 → IsWorld loose [] (a ∷ b ∷ [])
+pub world : (a b : ℕ) → a < 2 → b < 2 → IsWorld loose [] (a ∷ b ∷ [])
 world a b h k = record { full = refl; values = below_two (λ v. HasValue loose v (slice_index (a ∷ b ∷ []) v)) h k; rules = λ i d lt. absurd (omega arith) }
 
 either_value : (i v : ℕ) → slice_get (0 ∷ 0 ∷ []) i ≡ Some v → slice_get (1 ∷ 1 ∷ []) i ≡ Some v → ⊥

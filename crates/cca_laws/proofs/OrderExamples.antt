@@ -12,8 +12,9 @@ use Rattle.cca_base.specs.Model.{HasMode}
 use Rattle.cca_base.specs.State.{IsState, IsWorld, Extends}
 use Rattle.cca_base.specs.Implicants.{PrimeImplicant, Suffices, Needs, source_pair}
 use Rattle.cca_base.specs.Orders.{IsFree}
-use Rattle.cca_base.proofs.Members.{contains_cases, contains_none, contains_here}
+use Rattle.cca_base.proofs.Members.{contains_cases, contains_none}
 use Rattle.cca_laws.proofs.Tiny.{none_at, one_at, two_at, three_at, below_two, below_three}
+use Rattle.cca_laws.proofs.ImplicantLemmas.{single_prime}
 use Rattle.cca_laws.proofs.FormulaExamples.{truth_mode, truth_both, truth_either}
 use Rattle.cca_laws.proofs.ValveExamples.{index_of}
 use Rattle.cca_laws.specs.FormulaExamples.{mode_in, both}
@@ -48,22 +49,8 @@ b_suffices s state extends w world =
 nothing_is_too_little : Suffices wordy wordy_move [] → ⊥
 nothing_is_too_little = too_little 0 (omega arith) [] (one_at (λ (p : Pair). slice_get (0 ∷ 0 ∷ 0 ∷ []) p.item ≡ Some p.value) (source_pair wordy_move) refl)
 
-minimal : (part : List Pair) → IsPart part (b_is_q ∷ []) → Suffices wordy wordy_move part → IsPart (b_is_q ∷ []) part
-minimal [] within h = absurd (nothing_is_too_little h)
-minimal (p ∷ part) within h =
-    one_at (Contains (p ∷ part)) b_is_q (elim (contains_cases b_is_q p [] (within 0 p (omega arith))) [
-      | inl e ↦ contains_here p b_is_q part (sym e)
-      | inr none ↦ absurd (contains_none p none)
-    ])
-
 b_is_prime : PrimeImplicant wordy wordy_move (b_is_q ∷ [])
-b_is_prime = record {
-  rising = λ i j d lt h. absurd (omega arith);
-  modes = one_at (λ (p : Pair). HasMode wordy p.item p.value) b_is_q (omega arith);
-  others = one_at (λ (p : Pair). p.item ≢ 2) b_is_q (λ e. absurd (omega (arith, e)));
-  suffices = b_suffices;
-  minimal = minimal;
-}
+b_is_prime = single_prime wordy wordy_move b_is_q (omega arith) (λ e. absurd (omega (arith, e))) b_suffices nothing_is_too_little
 
 -- a pair of a cube is of a or of b
 limits : (i v : ℕ) → v < slice_index (2 ∷ 2 ∷ 2 ∷ []) i → i ≢ 2 → (i < 2) × (v < 2)

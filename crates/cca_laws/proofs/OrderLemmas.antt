@@ -204,7 +204,7 @@ cube_same a b h = slice_cmp-IsAntisymmetric pair_same a b (then_equal _ _ h).1
 pub cube_total : IsTotalOrder cube_cmp
 cube_total = then_total (on_total (λ (a : List Pair). length a) nat_cmp_total) (lists_total (then_total (on_total (λ (p : Pair). p.item) nat_cmp_total) (on_total (λ (p : Pair). p.value) nat_cmp_total)))
 
-less_greater : ◌≡◌ {A = Ordering} Less Greater → ⊥
+pub less_greater : ◌≡◌ {A = Ordering} Less Greater → ⊥
 less_greater h = cc
 
 -- of two cubes of which neither comes first there is one

@@ -15,7 +15,7 @@ use Rattle.cca_base.specs.Steps.{Step, Run, Allowed, support}
 use Rattle.cca_base.specs.Repairs.{Mending}
 use Rattle.cca_laws.proofs.Tiny.{one_at, three_at, below_one, below_two, below_three}
 use Rattle.cca_laws.proofs.FormulaExamples.{truth_mode, truth_iff}
-use Rattle.cca_laws.proofs.LampLemmas.{always}
+use Rattle.cca_laws.proofs.ImplicantLemmas.{always}
 use Rattle.cca_laws.proofs.PlansLemmas.{mends_itself}
 use Rattle.cca_laws.specs.Examples.{always_true}
 use Rattle.cca_laws.specs.FormulaExamples.{mode_in}
@@ -59,7 +59,7 @@ rule_is s w =
     truth_iff s w (flow_in 2) (mode_in 1 2) (has 2 (slice_index w 0)) (has 2 (slice_index s 1)) (fold-roll-Formula Bool (truth_step s w) (Formula-F.Among (Variable 0) 2))
     (truth_mode s w 1 2)
 
-start_state : IsState valve_model (0 ∷ 0 ∷ [])
+pub start_state : IsState valve_model (0 ∷ 0 ∷ [])
 start_state = record { full = refl; modes = below_two (λ c. HasMode valve_model c (slice_index (0 ∷ 0 ∷ []) c)) (omega arith) (omega arith) }
 
 pub start_world : IsWorld valve_model (0 ∷ 0 ∷ []) (0 ∷ [])
@@ -101,14 +101,15 @@ pub truth_flow : (s w : List ℕ) (set : ℕ) → truth s w (flow_in set) ≡ ha
 truth_flow s w set = fold-roll-Formula Bool (truth_step s w) (Formula-F.Among (Variable 0) set)
 
 -- where the valve is not open, nothing flows
-no_flow : (v mode : ℕ) → v < 2 → has 2 mode ≡ false → (if has 2 v then has 2 mode else not (has 2 mode)) ≡ true → has 1 v ≡ true
-no_flow zero mode h shut e = refl
-no_flow (suc zero) mode h shut e = absurd (false≢true (sym shut ∙ e))
-no_flow (suc (suc v)) mode h shut e = absurd (omega arith)
+pub nothing_flows : (v mode : ℕ) → v < 2 → has 2 mode ≡ false → (if has 2 v then has 2 mode else not (has 2 mode)) ≡ true → v ≡ 0
+nothing_flows zero mode h shut e = refl
+nothing_flows (suc zero) mode h shut e = absurd (false≢true (sym shut ∙ e))
+nothing_flows (suc (suc v)) mode h shut e = absurd (omega arith)
 
 shut_off : (s w : List ℕ) → IsWorld engine_model s w → has 2 (slice_index s 1) ≡ false → truth s w (flow_in 1) ≡ true
 shut_off s w world shut =
-    truth_flow s w 1 ∙ no_flow (slice_index w 0) (slice_index s 1) (world.values 0 (omega arith)) shut (sym (rule_is s w) ∙ world.rules 0 always_true (omega arith))
+    truth_flow s w 1
+    ∙ ap (has 1) (nothing_flows (slice_index w 0) (slice_index s 1) (world.values 0 (omega arith)) shut (sym (rule_is s w) ∙ world.rules 0 always_true (omega arith)))
 
 stuck_holds : Holds engine_model (1 ∷ 2 ∷ 0 ∷ []) (flow_in 1)
 stuck_holds w world = shut_off (1 ∷ 2 ∷ 0 ∷ []) w world refl

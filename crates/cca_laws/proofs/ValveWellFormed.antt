@@ -1,63 +1,27 @@
 -- The valve is well formed.
-use Rattle.std.proofs.Common.{◌≡◌, ◌≢◌, ◌<◌, ℕ, zero, suc, Bool, true, false, List, [], ◌∷◌, get_or, Some, AllPairs, Contains, refl, sym, ap, ◌∙◌, arith}
-use Rattle.std.specs.Prelude.{slice_get, slice_index, IsTrue, codes}
+use Rattle.std.proofs.Common.{◌≡◌, ℕ, zero, suc, Bool, true, false, [], ◌∷◌, Some, Contains, refl, sym, ap, ◌∙◌, arith}
+use Rattle.std.specs.Prelude.{slice_get, IsTrue, codes}
 use Rattle.std.proofs.lemmas.Bool.{false≢true}
-use Rattle.std.proofs.lemmas.List.Kept.{AllPairs-cons}
 use Rattle.cca_base.specs.declared.formula.Formula.TheOpen.{Formula-F}
 use Rattle.cca_base.specs.declared.formula.Formula.TheFolds.{fold-roll-Formula}
 use Rattle.cca_base.specs.declared.formula.Subject.TheVariants.{Component, Variable}
 use Rattle.cca_base.specs.declared.model.Variable as variable
 use Rattle.cca_base.specs.declared.model.Move.{Move}
-use Rattle.cca_base.specs.Names.{is_name}
 use Rattle.cca_base.specs.Formula.{Printed, printed_step, fits_step, depth}
-use Rattle.cca_base.specs.Model.{WellFormed, AreChoices, IsComponent, IsFormula, IsMove, IsFailure, IsNext, is_repair_of, is_broken, IsComplete, CommandsFit}
+use Rattle.cca_base.specs.Model.{WellFormed, AreChoices, IsComponent, IsFormula, IsMove, IsFailure, IsNext, is_repair_of, is_broken, IsComplete, names_of}
 use Rattle.cca_base.proofs.Members.{some_inj, none_some}
-use Rattle.cca_laws.proofs.Tiny.{one_at, two_at, three_at, four_at, five_at}
-use Rattle.cca_laws.proofs.EdgeExamples.{always_fits, one_name}
+use Rattle.cca_laws.proofs.Tiny.{one_at, two_at, five_at}
+use Rattle.cca_laws.proofs.SmallModels.{are_names, are_choices, own_fit, own_first_use}
+use Rattle.cca_laws.proofs.EdgeExamples.{always_fits}
 use Rattle.cca_laws.proofs.FormulaExamples.{print, mode_printed}
 use Rattle.cca_laws.specs.FormulaExamples.{mode_in}
 use Rattle.cca_laws.specs.ValveExamples.{flow_in, flow_rule, driver_on, on_move, off_move, open_move, valve_model, ValveIsWellFormed}
 
-abbrev close_move : Move
+abbrev pub close_move : Move
 close_move = record { component = 1; source = 1; target = 0; command = 3; repair = false; guard = driver_on }
 
-abbrev reset_move : Move
+abbrev pub reset_move : Move
 reset_move = record { component = 1; source = 2; target = 0; command = 4; repair = true; guard = driver_on }
-
-abbrev Differ : List ℕ → List ℕ → Type 0
-Differ x y = x ≢ y
-
-abbrev Named : List ℕ → Type 0
-Named name = IsTrue (is_name name)
-
--- lists of two and more different texts
-two_differ : (x y : List ℕ) → x ≢ y → AllPairs Differ (x ∷ y ∷ [])
-two_differ x y h = AllPairs-cons Differ x (y ∷ []) (one_at (Differ x) y h) (one_name y)
-
-three_differ : (x y z : List ℕ) → x ≢ y → x ≢ z → y ≢ z → AllPairs Differ (x ∷ y ∷ z ∷ [])
-three_differ x y z h k l = AllPairs-cons Differ x (y ∷ z ∷ []) (two_at (Differ x) y z h k) (two_differ y z l)
-
--- texts with different bytes at a place
-apart : (k : ℕ) (x y : List ℕ) → slice_index x k ≢ slice_index y k → x ≢ y
-apart k x y h e = h (ap (λ (z : List ℕ). slice_index z k) e)
-
-names_differ : AllPairs Differ (codes "drv" ∷ codes "valve" ∷ codes "flow" ∷ [])
-names_differ = three_differ (codes "drv") (codes "valve") (codes "flow") (apart 0 (codes "drv") (codes "valve") (λ e. absurd (omega (arith, e))))
-    (apart 0 (codes "drv") (codes "flow") (λ e. absurd (omega (arith, e)))) (apart 0 (codes "valve") (codes "flow") (λ e. absurd (omega (arith, e))))
-
-commands_differ : AllPairs Differ valve_model.commands
-commands_differ =
-    AllPairs-cons Differ (codes "drv_on") (codes "drv_off" ∷ codes "v_open" ∷ codes "v_close" ∷ codes "v_reset" ∷ [])
-    (four_at (Differ (codes "drv_on")) (codes "drv_off") (codes "v_open") (codes "v_close") (codes "v_reset")
-    (apart 5 (codes "drv_on") (codes "drv_off") (λ e. absurd (omega (arith, e)))) (apart 0 (codes "drv_on") (codes "v_open") (λ e. absurd (omega (arith, e))))
-    (apart 0 (codes "drv_on") (codes "v_close") (λ e. absurd (omega (arith, e)))) (apart 0 (codes "drv_on") (codes "v_reset") (λ e. absurd (omega (arith, e)))))
-    (AllPairs-cons Differ (codes "drv_off") (codes "v_open" ∷ codes "v_close" ∷ codes "v_reset" ∷ [])
-    (three_at (Differ (codes "drv_off")) (codes "v_open") (codes "v_close") (codes "v_reset")
-    (apart 0 (codes "drv_off") (codes "v_open") (λ e. absurd (omega (arith, e)))) (apart 0 (codes "drv_off") (codes "v_close") (λ e. absurd (omega (arith, e))))
-    (apart 0 (codes "drv_off") (codes "v_reset") (λ e. absurd (omega (arith, e)))))
-    (three_differ (codes "v_open") (codes "v_close") (codes "v_reset")
-    (apart 2 (codes "v_open") (codes "v_close") (λ e. absurd (omega (arith, e)))) (apart 2 (codes "v_open") (codes "v_reset") (λ e. absurd (omega (arith, e))))
-    (apart 2 (codes "v_close") (codes "v_reset") (λ e. absurd (omega (arith, e))))))
 
 -- the formulas
 flow_printed : (set : ℕ) → print (flow_in set) ≡ record { loose = 0; depth = 1 }
@@ -97,76 +61,17 @@ own_command (suc (suc (suc zero))) move e = ap (λ (y : Move). y.command) (some_
 own_command (suc (suc (suc (suc zero)))) move e = ap (λ (y : Move). y.command) (some_inj reset_move move e)
 own_command (suc (suc (suc (suc (suc i))))) move e = absurd (none_some move e)
 
-move_at : (j : ℕ) → j < 5 → (move : Move) × (slice_get valve_model.moves j ≡ Some move) × (move.command ≡ j)
-move_at zero h = (on_move, refl, refl)
-move_at (suc zero) h = (off_move, refl, refl)
-move_at (suc (suc zero)) h = (open_move, refl, refl)
-move_at (suc (suc (suc zero))) h = (close_move, refl, refl)
-move_at (suc (suc (suc (suc zero)))) h = (reset_move, refl, refl)
-move_at (suc (suc (suc (suc (suc j))))) h = absurd (omega arith)
-
-few_moves : (i : ℕ) (move : Move) → slice_get valve_model.moves i ≡ Some move → i < 5
-few_moves zero move e = omega arith
-few_moves (suc zero) move e = omega arith
-few_moves (suc (suc zero)) move e = omega arith
-few_moves (suc (suc (suc zero))) move e = omega arith
-few_moves (suc (suc (suc (suc zero)))) move e = omega arith
-few_moves (suc (suc (suc (suc (suc i))))) move e = absurd (none_some move e)
-
-first_use : (i command : ℕ) (move : Move) → slice_get valve_model.moves i ≡ Some move → command < move.command
-    → (j : ℕ) × (earlier : Move) × (j < i) × (slice_get valve_model.moves j ≡ Some earlier) × (earlier.command ≡ command)
-first_use i command move e h =
-    let own : i ≡ move.command = own_command i move e in
-    let few : i < 5 = few_moves i move e in
-    let found = move_at command (omega arith) in
-    (command, found.0, omega arith, found.1, found.2)
-
-command_at : (i : ℕ) (d : Move) → i < 5 → (get_or valve_model.moves i d).command ≡ i
-command_at zero d h = refl
-command_at (suc zero) d h = refl
-command_at (suc (suc zero)) d h = refl
-command_at (suc (suc (suc zero))) d h = refl
-command_at (suc (suc (suc (suc zero)))) d h = refl
-command_at (suc (suc (suc (suc (suc i))))) d h = absurd (omega arith)
-
-commands_fit : CommandsFit valve_model.moves
-commands_fit i j d h k e = absurd (omega (arith, sym (command_at i d (omega arith)) ∙ e ∙ command_at j d k))
-
 well_formed : WellFormed valve_model
 well_formed = record {
   limits = record { components = omega arith; variables = omega arith; rules = omega arith; moves = omega arith; failures = omega arith };
-  names = record { each = three_at Named (codes "drv") (codes "valve") (codes "flow") refl refl refl; different = names_differ };
-  command_names = record {
-    each = five_at Named (codes "drv_on") (codes "drv_off") (codes "v_open") (codes "v_close") (codes "v_reset") refl refl refl refl refl;
-    different = commands_differ;
-  };
+  names = are_names (names_of valve_model) refl refl;
+  command_names = are_names valve_model.commands refl refl;
   components = two_at IsComponent (record { name = codes "drv"; modes = codes "off" ∷ codes "on" ∷ []; start = 0 })
       (record { name = codes "valve"; modes = codes "closed" ∷ codes "open" ∷ codes "stuck" ∷ []; start = 0 })
-      (record {
-        modes = record {
-          names = record { each = two_at Named (codes "off") (codes "on") refl refl; different = two_differ (codes "off") (codes "on") (apart 1 (codes "off") (codes "on") (λ e. absurd (omega (arith, e)))) };
-          some = omega arith;
-          few = omega arith;
-        };
-        start = omega arith;
-      })
-      (record {
-        modes = record {
-          names = record {
-            each = three_at Named (codes "closed") (codes "open") (codes "stuck") refl refl refl;
-            different = three_differ (codes "closed") (codes "open") (codes "stuck") (apart 0 (codes "closed") (codes "open") (λ e. absurd (omega (arith, e))))
-                (apart 0 (codes "closed") (codes "stuck") (λ e. absurd (omega (arith, e)))) (apart 0 (codes "open") (codes "stuck") (λ e. absurd (omega (arith, e))));
-          };
-          some = omega arith;
-          few = omega arith;
-        };
-        start = omega arith;
-      });
-  variables = one_at (λ (v : variable.Variable). AreChoices v.values) (record { name = codes "flow"; values = codes "none" ∷ codes "some" ∷ []; sensed = true }) (record {
-    names = record { each = two_at Named (codes "none") (codes "some") refl refl; different = two_differ (codes "none") (codes "some") (apart 0 (codes "none") (codes "some") (λ e. absurd (omega (arith, e)))) };
-    some = omega arith;
-    few = omega arith;
-  });
+      (record { modes = are_choices (codes "off" ∷ codes "on" ∷ []) refl refl (omega arith) (omega arith); start = omega arith })
+      (record { modes = are_choices (codes "closed" ∷ codes "open" ∷ codes "stuck" ∷ []) refl refl (omega arith) (omega arith); start = omega arith });
+  variables = one_at (λ (v : variable.Variable). AreChoices v.values) (record { name = codes "flow"; values = codes "none" ∷ codes "some" ∷ []; sensed = true })
+      (are_choices (codes "none" ∷ codes "some" ∷ []) refl refl (omega arith) (omega arith));
   rules = one_at (IsFormula valve_model) flow_rule rule_fits;
   moves = five_at (IsMove valve_model) on_move off_move open_move close_move reset_move
       (record { source = omega arith; target = omega arith; command = omega arith; guard = always_fits valve_model })
@@ -183,8 +88,8 @@ well_formed = record {
     only_repairs_leave = five_at (λ (move : Move). IsTrue (is_broken valve_model.moves move.component move.source) → IsTrue move.repair)
         on_move off_move open_move close_move reset_move (λ e. e) (λ e. e) (λ e. e) (λ e. e) (λ e. e);
   };
-  commands = commands_fit;
-  first_use = first_use;
+  commands = own_fit valve_model.moves own_command;
+  first_use = own_first_use valve_model.moves own_command;
 }
 
 used : IsComplete valve_model

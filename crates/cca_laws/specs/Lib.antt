@@ -11,4 +11,8 @@ pub mod RightExamples
 pub mod ServeExamples
 pub mod EventLaws
 pub mod MoreExamples
+pub mod MirrorExamples
+pub mod FirstExamples
+pub mod CauseExamples
+pub mod MendExamples
 pub mod Conditions

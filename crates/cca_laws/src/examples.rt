@@ -1,3 +1,5 @@
+//! Examples: small models, and what is true and false of them.
+
 ghost use Rattle.cca_laws.specs.Examples.{EmptyTicks, LampIsLit};
 ghost use Rattle.cca_laws.specs.FormulaExamples.{DepthIsSeven, ChoicesOfTwo, OnePartDoesNotFit, NoneAmongDoesNotFit};
 ghost use Rattle.cca_laws.specs.ValveExamples.{ValveIsWellFormed, DriverComesOn, StuckMends, OpeningNeedsDriver, StuckIsNotLeanedOn, ClosedIsLeanedOn, OpeningForGood, OpeningIsAllowed};
@@ -8,6 +10,10 @@ ghost use Rattle.cca_laws.specs.ObservedExamples.{PendingRises, NothingMirrored,
 ghost use Rattle.cca_laws.specs.ServeExamples.{OneOfOne, TwoOfOne, TooLate, NoneAfter, NotLost, LampIsPromised, LostBeginsNone};
 ghost use Rattle.cca_laws.specs.EventLaws.{FaultsMovePlant, ClearEndsGoal, CommandsMovePlant, UnexplainedHolds, HoldingGoesOn, TenThousandAreShown, OneMoreIsLong, LongBothWays};
 ghost use Rattle.cca_laws.specs.MoreExamples.{WrongAfterRight, BrokenIsNoGoal, MirroredIsNotObserved, OnceBeforeTick};
+ghost use Rattle.cca_laws.specs.MirrorExamples.{MirrorsJoin, AgainAfterTick, MirrorsOutlastTicks, PlantIsMirrored};
+ghost use Rattle.cca_laws.specs.FirstExamples.{LesserWorldIsFirst, GreaterWorldIsNot, PipeIsBurst, PumpIsNotDead};
+ghost use Rattle.cca_laws.specs.CauseExamples.{DriverServesValve, ValveServesNoDriver};
+ghost use Rattle.cca_laws.specs.MendExamples.{MendingIsCompiled, GoingIsAllowed, BackGoalIsMended, RouteComesBack};
 ghost use Rattle.cca_laws.specs.RightExamples.{WrongIsNotRight, FaultsExcuse, ResetsEndExcuses, ResetKeepsTicks};
 
 /// The empty model.
@@ -110,4 +116,34 @@ pub fn more()
     ensures broken { BrokenIsNoGoal }
     ensures mirrored { MirroredIsNotObserved }
     ensures once { OnceBeforeTick }
+{}
+
+/// What is mirrored.
+pub fn mirrors()
+    ensures join { MirrorsJoin }
+    ensures again { AgainAfterTick }
+    ensures outlast { MirrorsOutlastTicks }
+    ensures plant { PlantIsMirrored }
+{}
+
+/// What comes first of two that are as good.
+pub fn firsts()
+    ensures world { LesserWorldIsFirst }
+    ensures greater { GreaterWorldIsNot }
+    ensures estimate { PipeIsBurst }
+    ensures later { PumpIsNotDead }
+{}
+
+/// Commands that serve a goal.
+pub fn causes()
+    ensures driver { DriverServesValve }
+    ensures valve { ValveServesNoDriver }
+{}
+
+/// A way back that mends.
+pub fn mends()
+    ensures compiled { MendingIsCompiled }
+    ensures going { GoingIsAllowed }
+    ensures goal { BackGoalIsMended }
+    ensures route { RouteComesBack }
 {}

@@ -1,3 +1,5 @@
+//! Laws: what holds of every model.
+
 ghost use Rattle.cca_laws.specs.Conditions.{FollowsIsDecided, SufficientCubesHavePrimes};
 ghost use Rattle.cca_laws.specs.Laws.{RunsJoin, AllowedPlansRun, MendsItself, MendedIsNext, RepairsAreAllowed, ImplicantsGiveSteps, OneEstimate, NeverBoth, OneObserved, OneFixedTrace, OneFirstMissing, NoneUnderNoOrder, SendsServe, StandingIsReached, StandingGivesNoCommands, FreeIsNominal, FirstIsRight, OneCompiled, InOrderIsPairwise, OrdersHaveNoneTwice, NominalIsFree, OneCost, CommandsAreUsed, NeverIdle, AsManyAsTicks};
 

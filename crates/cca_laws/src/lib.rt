@@ -7,8 +7,8 @@ mod examples;
 mod laws;
 
 pub use examples::{
-    changes, edges, empty, formulas, implicants, lamp, more, observed, right, serves, successors,
-    valve,
+    causes, changes, edges, empty, firsts, formulas, implicants, lamp, mends, mirrors, more,
+    observed, right, serves, successors, valve,
 };
 pub use laws::{compiled, conditions, costs, estimates, goals, orders, plans, traces};
 
