@@ -1,5 +1,6 @@
-ghost use Rattle.std.specs.Prelude.{◌≡◌, [], ◌∷◌, ◌++◌, ◌<◌, length, slice_get, Some, IfOk, OnOk, OnErr};
+ghost use Rattle.std.specs.Prelude.{◌≡◌, [], ◌∷◌, ◌++◌, ◌<◌, ◌↔◌, IsTrue, length, slice_get, Some, IfOk, OnOk, OnErr};
 ghost use Rattle.cca_base.specs.Cube.{IsCube, Lacks};
+ghost use Rattle.cca_base.specs.State.{Extends};
 
 use smallvec::SmallVec;
 use std::alloc::{AllocError, Global};
@@ -74,6 +75,19 @@ impl Cube {
     {
         self.pairs.push(pair)?;
         Ok(())
+    }
+
+    /// Whether each pair's mode is the one that stands at its component's place.
+    pub fn stands_in(&self, modes: &[u8]) -> bool
+        ensures { IsTrue result ↔ Extends modes.now self.now }
+    {
+        for pair in self.as_slice() {
+            let item = pair.item as usize;
+            if item >= modes.len() || modes[item] != pair.value {
+                return false;
+            }
+        }
+        true
     }
 
     /// A cube of the same pairs. The error is want of memory.

@@ -41,7 +41,7 @@ free_is_nominal m s t k cost good state h e =
     subst (Nominal m s k) (sym same) h.is_nominal
 
 -- a state in which a component goes to a mode of its own is a state
-moved : (m : Automata) (s : List ℕ) (d mode : ℕ) → IsState m s → HasMode m d mode → IsState m (slice_set s d mode)
+pub moved : (m : Automata) (s : List ℕ) (d mode : ℕ) → IsState m s → HasMode m d mode → IsState m (slice_set s d mode)
 moved m s d mode state has = record {
   full = length-set s d mode ∙ state.full;
   modes = λ c within. elim (cases_eq c d) [

@@ -1,0 +1,40 @@
+//! The first state by cost that explains what is seen. Each state that doesn't is cut with all others that share its
+//! conflict: conflict-directed best-first search, as in Williams and Ragno's conflict-directed A*.
+
+ghost use Rattle.std.specs.Prelude.{◌≡◌, [], None, IfOk, All, ℕ, List};
+ghost use Rattle.cca_base.specs.State.{HasValue, IsState};
+ghost use Rattle.cost_search.specs.Search.{IsChosen};
+ghost use Rattle.mode_estimator.specs.First.{IsFirstShown};
+
+use crate::answer::Estimate;
+use cca_base::{Model, Seen};
+use consistency::conflict;
+use cost_search::Search;
+use std::alloc::{AllocError, Global};
+
+/// The first state that the search gives and that has a world agreeing with what is seen. The error is out of memory.
+pub fn first_shown(
+    alloc: Global,
+    model: &Model,
+    mut states: Search,
+    seen: &Seen,
+) -> Result<Estimate, AllocError>
+    requires seen { All (λ p. HasValue model.now p.item p.value) seen.now.pairs }
+    requires chosen { (s : List ℕ) (cost : ℕ) → IsChosen states.rows s cost → IsState model.now s }
+    requires last { states.last ≡ None }
+    requires cuts { states.cuts ≡ [] }
+    ensures { IfOk result (IsFirstShown model.now states.rows seen.now.pairs) }
+{
+    while let Some(costed) = states.next()? {
+        match conflict(alloc, model, &costed.state, seen)? {
+            None => {
+                return Ok(Estimate::Found {
+                    state: costed.state,
+                    cost: costed.cost,
+                });
+            }
+            Some(cube) => states.cut(cube)?,
+        }
+    }
+    Ok(Estimate::Unexplained)
+}

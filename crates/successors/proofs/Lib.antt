@@ -1,0 +1,5 @@
+pub mod Standing
+pub mod Sending
+pub mod Changes
+pub mod Rows
+pub mod Starts

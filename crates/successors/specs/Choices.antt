@@ -1,0 +1,71 @@
+-- Rows of choices, and what each component may become.
+use Rattle.std.specs.Prelude.{◌≡◌, ◌↔◌, ℕ, ◌<◌, ◌≤◌, List, [], ◌∷◌, ◌++◌, length, All, Contains, Option, Some, None, Bool, ◌==◌, min, if◌then◌else◌, slice_set, slice_index, slice_index_or}
+use Rattle.cca_base.specs.declared.cube.Pair.{Pair}
+use Rattle.cca_base.specs.declared.model.Failure.{Failure}
+use Rattle.cca_base.specs.Automata.{Automata}
+use Rattle.cca_base.specs.Model.{HasMode, mode_counts}
+use Rattle.cca_base.specs.Successors.{Nominal, ChangeCosts}
+use Rattle.cca_base.specs.declared.choice.Choice.{Choice}
+use Rattle.cca_base.specs.Choices.{IsRow, AreRows}
+
+-- a failure of the component between these modes, at this cost
+abbrev pub failing : ℕ → ℕ → ℕ → ℕ → Failure
+failing c from to cost = record { component = c; source = from; target = to; cost = cost }
+
+-- the least cost of such failures among these, if there is one
+abbrev pub IsLeast : List Failure → ℕ → ℕ → ℕ → Option ℕ → Type 0
+IsLeast failures c from to None = (cost : ℕ) → Contains failures (failing c from to cost) → ⊥
+IsLeast failures c from to (Some k) = Contains failures (failing c from to k) × ((cost : ℕ) → Contains failures (failing c from to cost) → k ≤ cost)
+
+-- the least costs of the component's failures from a mode, mode by mode
+abbrev pub AreLeast : List Failure → ℕ → ℕ → List (Option ℕ) → Type 0
+AreLeast fs c from costs = (mode : ℕ) → mode < length costs → IsLeast fs c from mode (slice_index_or costs mode None)
+
+-- the lesser of a cost and one that may be known
+abbrev pub lesser_of : Option ℕ → ℕ → ℕ
+lesser_of None cost = cost
+lesser_of (Some k) cost = min k cost
+
+-- what the component's change to the mode costs, if it can change to it
+abbrev pub IsChange : Automata → ℕ → ℕ → ℕ → ℕ → Option ℕ → Type 0
+IsChange m c from nominal to None = (cost : ℕ) → ChangeCosts m c from nominal to cost → ⊥
+IsChange m c from nominal to (Some k) = ChangeCosts m c from nominal to k
+
+-- exactly the changes to modes below this one
+abbrev pub AreChanges : Automata → ℕ → ℕ → ℕ → ℕ → List Choice → Type 0
+AreChanges m c from nominal bound row = (x : Choice) → Contains row x ↔ ((x.mode < bound) × ChangeCosts m c from nominal x.mode x.cost)
+
+-- the row with the mode, where the change to it has a cost
+abbrev pub IsAdded : List Choice → ℕ → Option ℕ → List Choice → Type 0
+IsAdded old mode None new = new ≡ old
+IsAdded old mode (Some cost) new = new ≡ old ++ record { mode = mode; cost = cost } ∷ []
+
+-- choices of one mode
+abbrev pub same_mode : Choice → Choice → Bool
+same_mode x y = x.mode == y.mode
+
+-- the component's mode after the one that moves has moved
+abbrev pub mode_after : Option Pair → ℕ → ℕ → ℕ
+mode_after None c mode = mode
+mode_after (Some p) c mode = (if p.item == c then p.value else mode)
+
+-- the state after the component that moves has moved
+abbrev pub state_after : Option Pair → List ℕ → List ℕ
+state_after None s = s
+state_after (Some p) s = slice_set s p.item p.value
+
+-- rows of the components below this one
+pub record AreRowsTo (m : Automata) (s : List ℕ) (moved : Option Pair) (bound : ℕ) (rows : List (List Choice)) : Type 0 where
+  pub full : length rows ≡ bound
+  pub rows_fit : All IsRow rows
+  pub each : (c : ℕ) → c < bound
+      → AreChanges m c (slice_index s c) (mode_after moved c (slice_index s c)) (slice_index (mode_counts m) c) (slice_index_or rows c [])
+
+-- per component exactly the modes to which it can change, each with what that costs
+pub record AreChoices (m : Automata) (s : List ℕ) (k : Option ℕ) (rows : List (List Choice)) : Type 0 where
+  pub rows_fit : AreRows rows
+  pub full : length rows ≡ length m.components
+  pub nominal : List ℕ
+  pub is_nominal : Nominal m s k nominal
+  pub each : (c : ℕ) (x : Choice) → c < length rows
+      → Contains (slice_index_or rows c []) x ↔ (HasMode m c x.mode × ChangeCosts m c (slice_index s c) (slice_index nominal c) x.mode x.cost)

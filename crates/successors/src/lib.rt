@@ -1,0 +1,12 @@
+//! What a state may become at a tick, and what each change costs: the nominal successor, the choices of each component,
+//! and the plant that follows the commands and faults.
+#![tactic(auto)]
+
+mod options;
+mod plant;
+mod row;
+mod sent;
+
+pub use options::choices;
+pub use plant::Plant;
+pub use sent::nominal;
