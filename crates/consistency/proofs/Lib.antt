@@ -10,3 +10,5 @@ pub mod StatePairs
 pub mod Trying
 pub mod Fitting
 pub mod ConflictLemmas
+pub mod Answered
+pub mod DeniedClauses

@@ -4,3 +4,4 @@ pub mod Problem
 pub mod Found
 pub mod Base
 pub mod Conflict
+pub mod Worlds

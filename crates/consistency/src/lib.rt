@@ -3,7 +3,9 @@
 #![tactic(auto)]
 
 mod base;
+mod calls;
 mod conflicts;
+mod denied;
 mod domain;
 mod found;
 mod laws;
@@ -11,10 +13,11 @@ mod problem;
 mod propagate;
 mod search;
 mod solution;
-mod split;
 mod subjects;
 mod visit;
+mod worlds;
 
-pub use conflicts::conflict;
-pub use found::{Found, find_counter, find_world};
+pub use calls::{conflict, find_counter, find_world};
+pub use found::Found;
 pub use laws::conflicts_are_minimal;
+pub use worlds::Worlds;

@@ -21,19 +21,19 @@ begin clauses base got made domains xs b m full same h =
 
 pub settle_all-requires : goal.settle_all-requires
 settle_all-requires c =
-    let full : length c.deref_mut.result.now ≡ length c.args.problem.now.base.items = ap length c.deref_mut.ensures.value ∙ (c.in_ok-domains.ensures.full ∙ ap length c.as_slice.ensures.value) in
+    let full : length c.deref_mut.result.now ≡ length c.args.base.now = ap length c.deref_mut.ensures.value ∙ c.in_ok-domains.ensures.full in
     subst (λ n. AllBelow n c.args.problem.now.clauses) (sym full) c.requires.within
 
 pub returns-in-Some-clause-none : goal.returns-in-Some-clause-none
 returns-in-Some-clause-none c e xs h =
     let clash = subst (IsClashOfAll c.args.problem.now.clauses c.deref_mut.result.now) c.in-Some.is c.in_ok-settle_all.ensures.clash in
-    clash [] xs h.met (begin c.args.problem.now.clauses c.args.problem.now.base.items _ _ _ xs c.as_slice.ensures.value c.deref_mut.ensures.value c.in_ok-domains.ensures.full c.in_ok-domains.ensures.values h)
+    clash [] xs h.met (begin c.args.problem.now.clauses c.args.base.now _ _ _ xs (λ i. c.args.base.now) c.deref_mut.ensures.value c.in_ok-domains.ensures.full c.in_ok-domains.ensures.values h)
     (λ d m n. absurd (omega arith))
 
 pub seek-requires-clause-full : goal.seek-requires-clause-full
 seek-requires-clause-full c =
     let after : c.deref.result.now ≡ c.settle_all.new.domains = written _ _ _ _ c.deref.ensures.value (omega (arith, c.deref_mut.ensures.len)) in
-    let full : length c.deref_mut.result.now ≡ length c.args.problem.now.base.items = ap length c.deref_mut.ensures.value ∙ (c.in_ok-domains.ensures.full ∙ ap length c.as_slice.ensures.value) in
+    let full : length c.deref_mut.result.now ≡ length c.args.base.now = ap length c.deref_mut.ensures.value ∙ c.in_ok-domains.ensures.full in
     omega (arith, ap (λ (ds : List Domain). length ds) after, full)
 
 pub seek-requires-clause-known : goal.seek-requires-clause-known
@@ -42,4 +42,4 @@ seek-requires-clause-known c xs h =
     subst (λ (p : List ℕ). Knows p c.deref.result.now xs) (sym c.new-prefix.ensures)
     (subst (λ (ds : List Domain). Knows [] ds xs) (sym after)
     (c.in_ok-settle_all.ensures.keeps [] xs h.met
-    (begin c.args.problem.now.clauses c.args.problem.now.base.items _ _ _ xs c.as_slice.ensures.value c.deref_mut.ensures.value c.in_ok-domains.ensures.full c.in_ok-domains.ensures.values h)))
+    (begin c.args.problem.now.clauses c.args.base.now _ _ _ xs (λ i. c.args.base.now) c.deref_mut.ensures.value c.in_ok-domains.ensures.full c.in_ok-domains.ensures.values h)))

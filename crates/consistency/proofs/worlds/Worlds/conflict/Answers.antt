@@ -2,7 +2,7 @@ use Rattle.std.proofs.Common.{true, refl, sym, ◌∙◌}
 use Rattle.std.proofs.lemmas.Bool.{both_ways}
 use Rattle.consistency.proofs.StatePairs.{pairs_have_modes}
 use Rattle.consistency.proofs.Fitting.{own_world, none_shows}
-use Rattle.consistency.proofs.conflicts.conflict.Goals as goal
+use Rattle.consistency.proofs.worlds.Worlds.conflict.Goals as goal
 
 pub find_world-requires-clause-modes : goal.find_world-requires-clause-modes
 find_world-requires-clause-modes c = rw c.in_ok-pairs.ensures (pairs_have_modes c.args.model.now c.args.state.now.modes c.requires.state)
