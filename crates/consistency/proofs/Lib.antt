@@ -9,6 +9,9 @@ pub mod Firsts
 pub mod StatePairs
 pub mod Trying
 pub mod Fitting
+pub mod ForcedLemmas
 pub mod ConflictLemmas
+pub mod BackboneLemmas
+pub mod Excluded
 pub mod Answered
 pub mod DeniedClauses

@@ -5,3 +5,4 @@ pub mod Found
 pub mod Base
 pub mod Conflict
 pub mod Worlds
+pub mod Forced

@@ -1,5 +1,7 @@
 -- Solutions of clauses, and what a search for the first one knows.
-use Rattle.std.specs.Prelude.{◌≡◌, ◌⊎◌, ℕ, ◌<◌, ◌≢◌, true, false, List, ◌∷◌, [], ◌++◌, length, slice_index, slice_index_or, All, Option, Some, None}
+use Rattle.std.specs.Prelude.{◌≡◌, ◌⊎◌, ◌↔◌, ℕ, ◌+◌, ◌<◌, IsTrue, Contains, ◌≢◌, true, false, List, ◌∷◌, [], ◌++◌, length, slice_index, slice_index_or, All, Option, Some, None}
+use Rattle.cca_base.specs.declared.cube.Pair.{Pair}
+use Rattle.cca_base.specs.Cube.{IsRising}
 use Rattle.cca_base.specs.Sets.{has}
 use Rattle.clause_form.specs.declared.clause.Literal.{Literal}
 use Rattle.clause_form.specs.declared.clause.Clause.{Clause}
@@ -132,3 +134,14 @@ IsClashOfAll clauses domains (Some reasons) = RefutesAll clauses domains reasons
 abbrev pub IsClashOfMore : List Clause → List Domain → ℕ → ℕ → Option SubjectSet → Type 0
 IsClashOfMore clauses domains subject value None = Unit {0}
 IsClashOfMore clauses domains subject value (Some reasons) = RefutesMore clauses domains subject value reasons
+
+-- ---- values that all solutions have
+
+-- every solution has the pair's value at the pair's subject, counted from the first one's number
+abbrev pub AllHave : List Clause → List ℕ → ℕ → Pair → Type 0
+AllHave clauses base first p = (xs : List ℕ) → IsSolution clauses base xs → slice_index xs (first + p.item) ≡ p.value
+
+-- exactly the pairs of these subjects that all solutions have, rising
+pub record IsBackbone (clauses : List Clause) (base : List ℕ) (first vars : ℕ) (pairs : List Pair) : Type 0 where
+  pub rising : IsRising pairs
+  pub each : (p : Pair) → Contains pairs p ↔ (IsTrue (has vars p.item) × (first + p.item < length base) × AllHave clauses base first p)

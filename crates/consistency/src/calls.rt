@@ -4,12 +4,13 @@ ghost use Rattle.std.specs.Prelude.{◌↔◌, length, All, IfOk, IfSome, IsNone
 ghost use Rattle.cca_base.specs.Formula.{is_within};
 ghost use Rattle.cca_base.specs.Model.{HasMode};
 ghost use Rattle.cca_base.specs.Shown.{CanShow, IsConflict};
-ghost use Rattle.cca_base.specs.State.{HasValue, Follows, IsState};
+ghost use Rattle.cca_base.specs.State.{HasValue, HasWorld, Follows, IsState};
+ghost use Rattle.consistency.specs.Forced.{AreForced};
 ghost use Rattle.consistency.specs.Found.{Fits, Counters, NoneFits, IsFirstOf};
 
 use crate::found::Found;
 use crate::worlds::Worlds;
-use cca_base::{Cube, Formula, Model, Seen, State};
+use cca_base::{Cube, Formula, Model, Seen, State, VarSet};
 use std::alloc::{AllocError, Global};
 
 /// The first state in mode order that extends the modes and has a world that agrees with what is seen, with its first
@@ -62,4 +63,16 @@ pub fn conflict(
 {
     let worlds = Worlds::of(alloc, model)?;
     worlds.conflict(alloc, model, state, seen)
+}
+
+/// The variables of the set that have one value in all worlds of the state, each with that value, rising. The error is out
+/// of memory.
+pub fn forced(alloc: Global, model: &Model, state: &State, vars: VarSet) -> Result<Seen, AllocError>
+    requires state { IsState model.now state.now.modes }
+    requires world { HasWorld model.now state.now.modes }
+    ensures forced { IfOk result (λ r. AreForced model.now state.now.modes vars r.pairs) }
+    ensures values { IfOk result (λ r. All (λ p. HasValue model.now p.item p.value) r.pairs) }
+{
+    let worlds = Worlds::of(alloc, model)?;
+    worlds.forced(alloc, model, state, vars)
 }

@@ -1,41 +1,15 @@
 //! The pairs of a state that are to blame that no world of it agrees with what is seen: each is tried once.
 
-ghost use Rattle.std.specs.Prelude.{◌≡◌, [], ◌++◌, ◌↔◌, All, IfOk, IfSome, IsNone};
-ghost use Rattle.cca_base.specs.Cube.{IsCube};
+ghost use Rattle.std.specs.Prelude.{[], ◌↔◌, All, IfOk, IfSome, IsNone};
 ghost use Rattle.cca_base.specs.Model.{HasMode};
-ghost use Rattle.cca_base.specs.Repairs.{pairs_of};
 ghost use Rattle.cca_base.specs.Shown.{CanShow, IsConflict, KeepsOfClash};
 ghost use Rattle.cca_base.specs.State.{HasValue, IsState};
 ghost use Rattle.consistency.specs.Worlds.{AreWorldsOf};
 
+use crate::pairs::{all_pairs, joined};
 use crate::worlds::Worlds;
-use cca_base::{Cube, Model, Pair, Seen, State};
+use cca_base::{Cube, Model, Seen, State};
 use std::alloc::{AllocError, Global};
-
-/// Each component with its mode in the state.
-fn all_pairs(alloc: Global, model: &Model, state: &State) -> Result<Cube, AllocError>
-    requires { IsState model.now state.now.modes }
-    ensures { IfOk result (λ c. c ≡ pairs_of state.now.modes) }
-{
-    let mut pairs = Cube::new(alloc);
-    for item in 0..model.components().len() as u16 {
-        let value = *state.modes.get(item as usize);
-        pairs.push(Pair { item, value })?;
-    }
-    Ok(pairs)
-}
-
-/// The cube with these pairs behind its own.
-fn joined(alloc: Global, front: &Cube, behind: &[Pair]) -> Result<Cube, AllocError>
-    requires { IsCube (front.now ++ behind.now) }
-    ensures { IfOk result (λ c. c ≡ front.now ++ behind.now) }
-{
-    let mut both = front.copy(alloc)?;
-    for pair in behind {
-        both.push(*pair)?;
-    }
-    Ok(both)
-}
 
 /// What is kept of the pairs, each of which is tried once.
 fn kept_of(

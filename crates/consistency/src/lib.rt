@@ -2,6 +2,7 @@
 //! that no world fits it. A caller gets None exactly where there is none.
 #![tactic(auto)]
 
+mod backbone;
 mod base;
 mod calls;
 mod conflicts;
@@ -9,6 +10,8 @@ mod denied;
 mod domain;
 mod found;
 mod laws;
+mod other;
+mod pairs;
 mod problem;
 mod propagate;
 mod search;
@@ -17,7 +20,7 @@ mod subjects;
 mod visit;
 mod worlds;
 
-pub use calls::{conflict, find_counter, find_world};
+pub use calls::{conflict, find_counter, find_world, forced};
 pub use found::Found;
 pub use laws::conflicts_are_minimal;
 pub use worlds::Worlds;

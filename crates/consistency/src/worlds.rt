@@ -10,7 +10,7 @@ ghost use Rattle.clause_form.specs.Formulas.{AreClausesOf};
 ghost use Rattle.consistency.specs.Problem.{clauses_in};
 ghost use Rattle.consistency.specs.Found.{Fits, Counters, NoneFits, FitsAndDenies, IsFirstOf};
 
-use crate::base::base_of;
+use crate::base::model_base;
 use crate::denied::denied_problem;
 use crate::found::{Found, split};
 use crate::problem::{Problem, problem_of};
@@ -22,7 +22,7 @@ use std::alloc::{AllocError, Global};
 /// The clauses of a model's rules, for all questions of its worlds.
 #[derive(Debug, Drop)]
 pub struct Worlds {
-    rules: Problem,
+    pub(crate) rules: Problem,
 }
 
 /// The first state and world that fit and have the denied formula false, if there is one.
@@ -41,7 +41,7 @@ fn first_found(
     ensures none { (denied : Option Formula) → AreClausesOf model.now None denied (clauses_in problem.now) → IfOk result (λ o. IsNone o → (s w : List ℕ) → FitsAndDenies model.now modes.now seen.now denied s w → ⊥) }
 {
     let components = model.components().len();
-    let base = base_of(alloc, problem.sizes.as_slice(), components, modes, seen)?;
+    let base = model_base(alloc, model, problem, modes, seen)?;
     match first_solution(alloc, problem, base.as_slice())? {
         Some(values) => Ok(Some(split(alloc, components, values.as_slice())?)),
         None => Ok(None),

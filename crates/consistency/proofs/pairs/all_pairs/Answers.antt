@@ -5,7 +5,7 @@ use Rattle.cca_base.specs.declared.cube.Pair.{Pair}
 use Rattle.cca_base.specs.Cube.{Lacks}
 use Rattle.cca_base.specs.Repairs.{pairs_of}
 use Rattle.consistency.proofs.StatePairs.{lacks_next, pairs_grow}
-use Rattle.consistency.proofs.conflicts.all_pairs.Goals as goal
+use Rattle.consistency.proofs.pairs.all_pairs.Goals as goal
 
 pub push-requires : goal.push-requires
 push-requires c =
