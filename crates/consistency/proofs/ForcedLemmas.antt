@@ -1,7 +1,7 @@
 -- What all solutions of a state's clauses have is what all worlds of the state have.
 use Rattle.std.proofs.Common.{◌≡◌, ◌+◌, ◌<◌, ◌++◌, ℕ, List, [], length, slice_index, take, drop, All, Contains, Some, None, refl, sym, ap, subst, ◌∙◌, arith}
 use Rattle.std.specs.List.{slice_get}
-use Rattle.std.proofs.lemmas.List.{length-take-le, take-append-drop}
+use Rattle.std.proofs.lemmas.List.{take-append-drop}
 use Rattle.std.proofs.lemmas.List.Elements.{All-nil}
 use Rattle.std.proofs.lemmas.Option.{slice_get_within}
 use Rattle.cca_base.specs.declared.cube.Pair.{Pair}
@@ -15,7 +15,7 @@ use Rattle.clause_form.specs.Formulas.{AreClausesOf}
 use Rattle.consistency.specs.Base.{IsBase}
 use Rattle.consistency.specs.Forced.{AreForced}
 use Rattle.consistency.specs.Search.{IsSolution, AllHave, IsBackbone}
-use Rattle.consistency.proofs.Bridge.{subjects_counted, solution_fits, fits_solution, at_value}
+use Rattle.consistency.proofs.Bridge.{subjects_counted, parts_fit, fits_solution, at_value}
 use Rattle.consistency.proofs.Lists.{value_at, get_at}
 use Rattle.consistency.proofs.StatePairs.{extends_own, pairs_have_modes, same_state}
 
@@ -36,12 +36,9 @@ module _ (m : Automata) (s : List ℕ) (c : Clauses) (base : List ℕ) (of : Are
 
   solution_world : (xs : List ℕ) → IsSolution c.clauses base xs → IsWorld m s (drop n xs) × (xs ≡ s ++ drop n xs)
   solution_world xs h =
-      let full = h.full in
-      let e : length (take n xs) ≡ n = length-take-le n xs (omega (arith, counted)) in
-      let whole : take n xs ++ drop n xs ≡ xs = take-append-drop n xs in
-      let fits = (solution_fits m (pairs_of s) [] None c base of b (pairs_have_modes m s state) no_values (take n xs) (drop n xs) e (subst (IsSolution c.clauses base) (sym whole) h)).fits in
-      let same : take n xs ≡ s = same_state s (take n xs) (e ∙ sym state.full) fits.extends in
-      (subst (λ t. IsWorld m t (drop n xs)) same fits.world, sym whole ∙ ap (λ (t : List ℕ). t ++ drop n xs) same)
+      let fits = parts_fit m (pairs_of s) [] c base of b (pairs_have_modes m s state) no_values xs h in
+      let same : take n xs ≡ s = same_state s (take n xs) (fits.state.full ∙ sym state.full) fits.extends in
+      (subst (λ t. IsWorld m t (drop n xs)) same fits.world, sym (take-append-drop n xs) ∙ ap (λ (t : List ℕ). t ++ drop n xs) same)
 
   one_value : (p : Pair) → p.item < length m.variables → AllHave c.clauses base n p → HasOneValue m s p
   one_value p inside all w world =

@@ -11,6 +11,8 @@ pub mod Trying
 pub mod Fitting
 pub mod ForcedLemmas
 pub mod ConflictLemmas
+pub mod CoreLemmas
+pub mod CoreTrying
 pub mod BackboneLemmas
 pub mod Excluded
 pub mod Answered

@@ -6,3 +6,4 @@ pub mod Base
 pub mod Conflict
 pub mod Worlds
 pub mod Forced
+pub mod Cores

@@ -1,16 +1,18 @@
 //! Search for the first solution by conflict-directed backjumping: unit propagation after each choice, and each clash names
 //! the chosen subjects that are to blame, so that choices which have nothing to do with it are passed by.
 
-ghost use Rattle.std.specs.Prelude.{◌≡◌, ◌++◌, ◌∷◌, [], ◌<◌, ◌≤◌, length, ℕ, List, IfOk, IfSome, IsNone, slice_index};
+ghost use Rattle.std.specs.Prelude.{◌≡◌, ◌++◌, ◌∷◌, [], ◌<◌, ◌≤◌, true, length, ℕ, List, IfOk, IfSome, IsNone, slice_index};
 ghost use Rattle.cca_base.specs.declared.limits.TheConstants.{MAX_CHOICES};
-ghost use Rattle.consistency.specs.Search.{IsSolution, IsFirst, KnowsAll, IsOutcome, values_at};
+ghost use Rattle.consistency.specs.Search.{IsSolution, IsFirst, KnowsAll, IsOutcome, values_at, why_at};
+ghost use Rattle.consistency.specs.Subjects.{is_in};
+ghost use Rattle.consistency.specs.declared.subjects.TheConstants.{MAX_SUBJECTS};
 ghost use Rattle.consistency.specs.Problem.{IsProblem};
 
 use crate::domain::Domain;
 use crate::problem::Problem;
 use crate::propagate::{extend, settle_all};
 use crate::solution::is_solution;
-use crate::subjects::{SubjectSet, all_subjects, has_subject, no_subject, union};
+use crate::subjects::{SubjectSet, all_subjects, has_subject, no_subject, union, with_subject};
 use cca_base::{List, MAX_CHOICES, ValueSet};
 use std::alloc::{AllocError, Global};
 
@@ -92,19 +94,35 @@ fn attempt(
     }
 }
 
-/// What each subject may be before anything is chosen.
+/// What each subject may be before anything is chosen, for the reason that it is assumed of the subject itself.
 fn whole_domains(alloc: Global, base: &[ValueSet]) -> Result<Vec<Domain>, AllocError>
+    requires { length base.now ≤ MAX_SUBJECTS }
     ensures full { IfOk result (λ r. length r.items ≡ length base.now) }
     ensures values { IfOk result (λ r. (d : ℕ) → d < length base.now → values_at r.items d ≡ slice_index base.now d) }
+    ensures why { IfOk result (λ r. (d : ℕ) → d < length base.now → is_in (why_at r.items d) d ≡ true) }
 {
     let mut domains = Vec::new(alloc);
-    for values in base {
+    for (at, values) in base.iter().enumerate() {
         domains.push(Domain {
             values: *values,
-            why: no_subject(),
+            why: with_subject(&no_subject(), at as u16),
         })?;
     }
     Ok(domains)
+}
+
+/// The first solution, or the subjects that are to blame that there is none: where these have values of their sets,
+/// whatever the other subjects have, some clause is false.
+pub fn solve(alloc: Global, problem: &Problem, base: &[ValueSet]) -> Result<Outcome, AllocError>
+    requires { IsProblem problem.now.clauses base.now }
+    ensures { IfOk result (IsOutcome problem.now.clauses base.now []) }
+{
+    let mut domains = whole_domains(alloc, base)?;
+    if let Some(because) = settle_all(alloc, problem, &mut domains)? {
+        return Ok(Outcome::Clash(because));
+    }
+    let prefix = List::new(alloc);
+    seek(alloc, problem, base, &domains, &prefix)
 }
 
 /// The first solution.
@@ -117,12 +135,7 @@ pub fn first_solution(
     ensures some { IfOk result (λ o. IfSome o (IsFirst problem.now.clauses base.now)) }
     ensures none { IfOk result (λ o. IsNone o → (xs : List ℕ) → IsSolution problem.now.clauses base.now xs → ⊥) }
 {
-    let mut domains = whole_domains(alloc, base)?;
-    if let Some(_) = settle_all(alloc, problem, &mut domains)? {
-        return Ok(None);
-    }
-    let prefix = List::new(alloc);
-    match seek(alloc, problem, base, &domains, &prefix)? {
+    match solve(alloc, problem, base)? {
         Outcome::Found(values) => Ok(Some(values)),
         Outcome::Clash(_) => Ok(None),
     }

@@ -24,7 +24,7 @@ seek-returns-in-Found t c =
     let clauses = c.args.problem.now.clauses in
     let base = c.args.base.now in
     let room : length p < length c.args.domains.now = omega arith in
-    found clauses base p c.args.domains.now c.loop-value.blame c.loop-value.value c.requires.known room c.loop-value.invariant.blamed c.loop-value.invariant.tried _ c.requires.full
+    found clauses base c.requires.proper.few p c.args.domains.now c.loop-value.blame c.loop-value.value c.requires.known room c.loop-value.invariant.blamed c.loop-value.invariant.tried _ c.requires.full
     (subst (IsOutcome clauses base (p ++ c.loop-value.value ∷ [])) c.in-Found.is c.in_ok-found.ensures)
 
 pub seek-returns-then-not-has_subject : goal.seek-returns-then-not-has_subject
@@ -44,13 +44,13 @@ seek-loop-value-preserved t c =
     elim c.if-has.branch [
       | seek-then-has+in_ok-found+in-Clash+else-not-has_subject w ↦ record {
         blamed = λ d m. rw w.blame-is (or_l _ _ _ (w.union-blame.ensures d) (c.loop-value.invariant.blamed d m));
-        tried = rw w.blame-is (tried_clash clauses base p c.args.domains.now c.loop-value.blame c.loop-value.value c.requires.known room c.loop-value.invariant.blamed c.loop-value.invariant.tried
+        tried = rw w.blame-is (tried_clash clauses base c.requires.proper.few p c.args.domains.now c.loop-value.blame c.loop-value.value c.requires.known room c.loop-value.invariant.blamed c.loop-value.invariant.tried
             w.in-Clash.subjects _ w.union-blame.ensures
             (subst (IsOutcome clauses base (p ++ c.loop-value.value ∷ [])) w.in-Clash.is w.in_ok-found.ensures));
       }
       | seek-else-has w ↦ record {
         blamed = rw w.blame-is c.loop-value.invariant.blamed;
-        tried = rw w.blame-is (tried_absent clauses base p c.args.domains.now c.loop-value.blame c.loop-value.value c.requires.known room c.loop-value.invariant.blamed c.loop-value.invariant.tried
+        tried = rw w.blame-is (tried_absent clauses base c.requires.proper.few p c.args.domains.now c.loop-value.blame c.loop-value.value c.requires.known room c.loop-value.invariant.blamed c.loop-value.invariant.tried
             (subst (λ (x : Domain). has x.values c.loop-value.value ≡ false) (read c.args.domains.now p _ c.index-domains-subject.result room c.len-subject.ensures c.index-domains-subject.is) (ap (λ (x : Domain). has x.values c.loop-value.value) c.index-domains-subject.is ∙ (sym c.has.ensures ∙ w.if-has.false))));
       }
     ]
@@ -67,7 +67,7 @@ attempt-seek-requires t c =
           c.requires.full,
           (
             omega arith,
-            λ xs h. subst (λ (q : List ℕ). Knows q c.args.domains.now xs) (sym longer) (knows_longer p c.args.value c.args.domains.now xs (c.requires.known xs h)),
+            λ xs h. subst (λ (q : List ℕ). Knows (record { base = c.args.base.now; chosen = q }) c.args.domains.now xs) (sym longer) (knows_longer (record { base = c.args.base.now; chosen = p }) c.args.value c.args.domains.now xs (c.requires.known xs h)),
           ),
         ),
       ),
@@ -77,7 +77,7 @@ pub attempt-returns-in-Some : goal.attempt-returns-in-Some
 attempt-returns-in-Some t c xs h agrees =
     let same : c.deref_mut.result.now ≡ c.args.domains.now = cc (c.in_ok-narrower.ensures.items) in
     let clash = subst (IsClashOfMore c.args.problem.now.clauses c.deref_mut.result.now c.len-subject.result c.args.value) c.in-Some.is c.in_ok-because.ensures.clash in
-    clash c.args.prefix.now xs (sym c.len-subject.ensures) h.met (subst (λ (ds : List Domain). Knows c.args.prefix.now ds xs) (sym same) (c.requires.known xs h)) agrees
+    clash (record { base = c.args.base.now; chosen = c.args.prefix.now }) xs (sym c.len-subject.ensures) h.met (subst (λ (ds : List Domain). Knows (record { base = c.args.base.now; chosen = c.args.prefix.now }) ds xs) (sym same) (c.requires.known xs h)) agrees
 
 pub attempt-seek-requires-in-None : goal.attempt-seek-requires-in-None
 attempt-seek-requires-in-None t c =
@@ -94,8 +94,8 @@ attempt-seek-requires-in-None t c =
           full,
           (
             omega arith,
-            λ xs h. subst (λ (q : List ℕ). Knows q c.deref.result.now xs) (sym longer) (subst (λ (ds : List Domain). Knows (p ++ c.args.value ∷ []) ds xs) (sym after)
-                (c.in_ok-because.ensures.keeps p xs (sym c.len-subject.ensures) h.met (subst (λ (ds : List Domain). Knows p ds xs) (sym same) (c.requires.known xs h)))),
+            λ xs h. subst (λ (q : List ℕ). Knows (record { base = c.args.base.now; chosen = q }) c.deref.result.now xs) (sym longer) (subst (λ (ds : List Domain). Knows (record { base = c.args.base.now; chosen = p ++ c.args.value ∷ [] }) ds xs) (sym after)
+                (c.in_ok-because.ensures.keeps (record { base = c.args.base.now; chosen = p }) xs (sym c.len-subject.ensures) h.met (subst (λ (ds : List Domain). Knows (record { base = c.args.base.now; chosen = p }) ds xs) (sym same) (c.requires.known xs h)))),
           ),
         ),
       ),
