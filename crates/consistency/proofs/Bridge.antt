@@ -1,32 +1,46 @@
 -- Solutions of a model's clauses are states with worlds that fit.
-use Rattle.std.proofs.Common.{◌≡◌, ◌==◌, ℕ, ◌+◌, ◌<◌, ◌≤◌, ◌&&◌, ◌||◌, ◌++◌, Bool, true, false, not, List, Option, None, Some, length, slice_index, slice_index_or, All, refl, sym, ap, subst, ◌∙◌, inl, inr, arith}
+use Rattle.std.proofs.Common.{◌≡◌, ◌==◌, ℕ, ◌+◌, ◌<◌, ◌≤◌, ◌&&◌, ◌||◌, ◌++◌, Bool, true, false, not, List, Option, None, Some, length, slice_index, slice_index_or, take, drop, All, refl, sym, ap, subst, ◌∙◌, inl, inr, arith}
 use Rattle.std.specs.Prelude.{nat_lt}
 use Rattle.std.specs.List.{list_all, slice_get}
 use Rattle.std.proofs.lemmas.Bool.{and_parts, and_from, or_left, or_right, ltb-true, lt-ltb, eqb-true, eq-eqb, cases_eq, ne_eqb, not_from_false}
-use Rattle.std.proofs.lemmas.List.{length-map, length-append, get_or_append_left, get_or-append-add}
+use Rattle.std.proofs.lemmas.List.{length-map, length-append, length-take-le, take-append-drop, get_or_append_left, get_or-append-add}
 use Rattle.std.proofs.lemmas.List.Elements.{All-weaker}
 use Rattle.std.proofs.lemmas.Option.{slice_get_within}
 use Rattle.cca_base.specs.declared.limits.TheConstants.{MAX_CHOICES}
 use Rattle.cca_base.specs.declared.cube.Pair.{Pair}
 use Rattle.cca_base.specs.declared.formula.Formula.{Formula}
 use Rattle.cca_base.specs.Automata.{Automata}
+use Rattle.cca_base.specs.Sets.{has}
 use Rattle.cca_base.specs.Formula.{truth}
 use Rattle.cca_base.specs.Model.{HasMode, mode_counts, value_counts}
 use Rattle.cca_base.specs.State.{IsState, IsWorld, Extends, HasValue}
 use Rattle.cca_base.proofs.Within.{mode_within, value_within}
-use Rattle.clause_form.specs.declared.clause.Clause.{Clause}
 use Rattle.clause_form.specs.declared.clause.Clauses.{Clauses}
 use Rattle.clause_form.specs.Clauses.{AreValues, meets, all_met}
 use Rattle.clause_form.specs.Formulas.{AreClausesOf, is_denied}
 use Rattle.clause_form.proofs.ModelLemmas.{both_values}
 use Rattle.consistency.specs.Base.{allows, ArePairs, IsBase}
-use Rattle.consistency.specs.Search.{IsSolution}
-use Rattle.consistency.specs.Found.{FitsAndDenies}
+use Rattle.consistency.specs.Search.{IsSolution, AreMet}
+use Rattle.consistency.specs.Found.{Fits, FitsAndDenies}
 use Rattle.consistency.proofs.Lists.{All-from_list_all, list_all-from_All, value_at, get_at}
 
 -- the number of subjects
 pub subjects_counted : (m : Automata) → length (mode_counts m ++ value_counts m) ≡ length m.components + length m.variables
 subjects_counted m = omega (arith, length-append (mode_counts m) (value_counts m), length-map m.components (λ c. length c.modes), length-map m.variables (λ v. length v.values))
+
+-- modes are of the first subjects
+pub mode_pairs : (m : Automata) (sizes : List ℕ) (modes : List Pair) → sizes ≡ mode_counts m ++ value_counts m → All (λ n. n ≤ MAX_CHOICES) sizes
+    → All (λ p. HasMode m p.item p.value) modes → ArePairs (length sizes) 0 modes
+mode_pairs m sizes modes s few h =
+    All-weaker (λ p. HasMode m p.item p.value) (λ p. (0 + p.item < length sizes) × (p.value < MAX_CHOICES))
+    (λ p k.
+    let inside : p.item < length m.components = mode_within m p.item p.value k in
+    let here : 0 + p.item < length sizes = omega (arith, subjects_counted m, ap length s) in
+    let full : p.item < length (mode_counts m) = omega (arith, length-map m.components (λ c. length c.modes)) in
+    let count : slice_index sizes p.item ≡ slice_index (mode_counts m) p.item = ap (λ (xs : List ℕ). slice_index xs p.item) s ∙ get_or_append_left (mode_counts m) (value_counts m) 0 p.item full in
+    let most : slice_index sizes p.item ≤ MAX_CHOICES = few p.item 0 (omega (arith, here)) in
+    (here, omega (arith, k, most, count)))
+    modes h
 
 -- what is seen is of subjects behind the components
 pub seen_pairs : (m : Automata) (sizes : List ℕ) (components : ℕ) (seen : List Pair) → sizes ≡ mode_counts m ++ value_counts m → All (λ n. n ≤ MAX_CHOICES) sizes → components ≡ length m.components
@@ -113,14 +127,14 @@ module _ (m : Automata) where
         omega (arith, less, at_value s w v e, count)),
   )
 
-module _ (m : Automata) (modes seen : List Pair) (denied : Option Formula) (c : Clauses) (clauses : List Clause) (base : List ℕ)
-    (of : AreClausesOf m None denied c) (same : clauses ≡ c.clauses) (b : IsBase c.sizes (length m.components) modes seen base)
+module _ (m : Automata) (modes seen : List Pair) (denied : Option Formula) (c : Clauses) (base : List ℕ)
+    (of : AreClausesOf m None denied c) (b : IsBase c.sizes (length m.components) modes seen base)
     (modes_in : All (λ p. HasMode m p.item p.value) modes) (seen_in : All (λ p. HasValue m p.item p.value) seen)
     (s w : List ℕ) (full : length s ≡ length m.components) where
   abbrev xs : List ℕ
   xs = s ++ w
 
-  parts : IsSolution clauses base xs → (d : ℕ) → d < length c.sizes
+  parts : IsSolution c.clauses base xs → (d : ℕ) → d < length c.sizes
       → (nat_lt (slice_index xs d) (slice_index c.sizes d) ≡ true) × (allows 0 modes d (slice_index xs d) ≡ true) × (allows (length m.components) seen d (slice_index xs d) ≡ true)
   parts h d k =
       let k' : d < length base = subst (λ j. d < j) (sym b.full) k in
@@ -128,14 +142,14 @@ module _ (m : Automata) (modes seen : List Pair) (denied : Option Formula) (c : 
       let inner = and_parts (nat_lt (slice_index xs d) (slice_index c.sizes d)) _ outer.0 in
       (inner.0, inner.1, outer.1)
 
-  values_of : IsSolution clauses base xs → AreValues (mode_counts m ++ value_counts m) xs
+  values_of : IsSolution c.clauses base xs → AreValues (mode_counts m ++ value_counts m) xs
   values_of h = subst (λ sizes. AreValues sizes xs) of.sizes (record {
     full = h.full ∙ b.full;
     values = λ d k. ltb-true (slice_index xs d) (slice_index c.sizes d) (parts h d k).0;
   })
 
-  met_of : IsSolution clauses base xs → all_met xs c.clauses ≡ true
-  met_of h = list_all-from_All (meets xs) c.clauses (subst (λ (cs : List Clause). All (λ clause. meets xs clause ≡ true) cs) same h.met)
+  met_of : IsSolution c.clauses base xs → all_met xs c.clauses ≡ true
+  met_of h = list_all-from_All (meets xs) c.clauses h.met
 
   -- the meaning of the clauses, by its parts
   asked : AreValues (mode_counts m) s → AreValues (value_counts m) w → all_met xs c.clauses ≡ (list_all (truth s w) m.rules && is_denied s w denied)
@@ -144,7 +158,7 @@ module _ (m : Automata) (modes seen : List Pair) (denied : Option Formula) (c : 
   sizes_length : length c.sizes ≡ length m.components + length m.variables
   sizes_length = ap length of.sizes ∙ subjects_counted m
 
-  found_modes : IsSolution clauses base xs → Extends s modes
+  found_modes : IsSolution c.clauses base xs → Extends s modes
   found_modes h k d i =
       let p = slice_index_or modes k d in
       let item : p.item < length m.components = mode_within m p.item p.value (modes_in k d i) in
@@ -154,7 +168,7 @@ module _ (m : Automata) (modes seen : List Pair) (denied : Option Formula) (c : 
       let value = allowed_pairs xs 0 modes p.item (parts h p.item inside).1 k d i at in
       get_at s p.item p.value here (sym (at_mode m s w p.item here) ∙ value)
 
-  found_seen : IsSolution clauses base xs → length w ≡ length m.variables → Extends w seen
+  found_seen : IsSolution c.clauses base xs → length w ≡ length m.variables → Extends w seen
   found_seen h e k d i =
       let p = slice_index_or seen k d in
       let item : p.item < length m.variables = value_within m p.item p.value (seen_in k d i) in
@@ -163,7 +177,7 @@ module _ (m : Automata) (modes seen : List Pair) (denied : Option Formula) (c : 
       let value = allowed_pairs xs (length m.components) seen (length m.components + p.item) (parts h (length m.components + p.item) inside).2 k d i refl in
       get_at w p.item p.value here (sym (at_value m s w p.item full) ∙ value)
 
-  pub solution_fits : IsSolution clauses base xs → FitsAndDenies m modes seen denied s w
+  pub solution_fits : IsSolution c.clauses base xs → FitsAndDenies m modes seen denied s w
   solution_fits h =
       let values = values_of h in
       let state = values_state m s w full values in
@@ -198,20 +212,49 @@ module _ (m : Automata) (modes seen : List Pair) (denied : Option Formula) (c : 
   world_values : IsWorld m s w → AreValues (value_counts m) w
   world_values h = record { full = h.full ∙ sym (counted_values m); values = λ v k. h.values v (subst (λ j. v < j) (counted_values m) k) }
 
-  pub fits_solution : FitsAndDenies m modes seen denied s w → IsSolution clauses base xs
-  fits_solution h =
-      let state = state_values m s h.fits.state in
-      let world = world_values h.fits.world in
-      let values : AreValues c.sizes xs = subst (λ sizes. AreValues sizes xs) (sym of.sizes) (both_values (mode_counts m) (value_counts m) s w state world) in
+  all_values : IsState m s → IsWorld m s w → AreValues c.sizes xs
+  all_values state world = subst (λ sizes. AreValues sizes xs) (sym of.sizes) (both_values (mode_counts m) (value_counts m) s w (state_values m s state) (world_values world))
+
+  -- values with which the rules are true meet the clauses
+  pub world_met : IsState m s → IsWorld m s w → is_denied s w denied ≡ true → AreMet c.clauses (length base) xs
+  world_met state world denies =
+      let values = all_values state world in
       record {
         full = values.full ∙ sym b.full;
-        within = λ d k.
+        small = λ d k.
             (let k' : d < length c.sizes = subst (λ j. d < j) b.full k in
-            b.values d (slice_index xs d) k'
-            ∙ and_from _ _
-            (and_from _ _ (lt-ltb (slice_index xs d) (slice_index c.sizes d) (values.values d k')) (pairs_allowed xs 0 modes d (kept_modes h.fits.extends d)))
-            (pairs_allowed xs (length m.components) seen d (kept_seen h.fits.agrees d)));
-        met = subst (λ (cs : List Clause). All (λ clause. meets xs clause ≡ true) cs) (sym same)
-            (All-from_list_all (meets xs) c.clauses
-            (asked state world ∙ and_from _ _ (list_all-from_All (truth s w) m.rules h.fits.world.rules) h.denies));
+            let most = of.proper.few d 0 k' in
+            let less = values.values d k' in
+            omega (arith, most, less));
+        met = All-from_list_all (meets xs) c.clauses
+            (asked (state_values m s state) (world_values world) ∙ and_from _ _ (list_all-from_All (truth s w) m.rules world.rules) denies);
       }
+
+  -- a value that all pairs allow is in the set
+  pub allowed_in : IsState m s → IsWorld m s w → (d : ℕ) → d < length base → allows 0 modes d (slice_index xs d) ≡ true → allows (length m.components) seen d (slice_index xs d) ≡ true → has (slice_index base d) (slice_index xs d) ≡ true
+  allowed_in state world d k by_modes by_seen =
+      let k' : d < length c.sizes = subst (λ j. d < j) b.full k in
+      b.values d (slice_index xs d) k' ∙ and_from _ _ (and_from _ _ (lt-ltb (slice_index xs d) (slice_index c.sizes d) ((all_values state world).values d k')) by_modes) by_seen
+
+  pub seen_allowed : Extends w seen → (d : ℕ) → allows (length m.components) seen d (slice_index xs d) ≡ true
+  seen_allowed h d = pairs_allowed xs (length m.components) seen d (kept_seen h d)
+
+  pub fits_solution : FitsAndDenies m modes seen denied s w → IsSolution c.clauses base xs
+  fits_solution h =
+      let met = world_met h.fits.state h.fits.world h.denies in
+      record {
+        full = met.full;
+        within = λ d k. allowed_in h.fits.state h.fits.world d k (pairs_allowed xs 0 modes d (kept_modes h.fits.extends d)) (seen_allowed h.fits.agrees d);
+        met = met.met;
+      }
+
+-- a solution's parts are a state and a world that fit
+pub parts_fit : (m : Automata) (modes seen : List Pair) (c : Clauses) (base : List ℕ) → AreClausesOf m None None c → IsBase c.sizes (length m.components) modes seen base
+    → All (λ p. HasMode m p.item p.value) modes → All (λ p. HasValue m p.item p.value) seen
+    → (xs : List ℕ) → IsSolution c.clauses base xs → Fits m modes seen (take (length m.components) xs) (drop (length m.components) xs)
+parts_fit m modes seen c base of b modes_in seen_in xs h =
+    let n = length m.components in
+    let full = h.full in
+    let counted : length base ≡ n + length m.variables = b.full ∙ (ap length of.sizes ∙ subjects_counted m) in
+    let e : length (take n xs) ≡ n = length-take-le n xs (omega arith) in
+    (solution_fits m modes seen None c base of b modes_in seen_in (take n xs) (drop n xs) e (subst (IsSolution c.clauses base) (sym (take-append-drop n xs)) h)).fits

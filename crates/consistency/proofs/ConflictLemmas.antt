@@ -13,7 +13,7 @@ use Rattle.consistency.proofs.StatePairs.{same_state}
 
 module _ (m : Automata) (seen : List Pair) where
   -- more pairs clash as well
-  more_clash : (less more : List Pair) → ((q : Pair) → Contains less q → Contains more q) → Clash m seen less → Clash m seen more
+  pub more_clash : (less more : List Pair) → ((q : Pair) → Contains less q → Contains more q) → Clash m seen less → Clash m seen more
   more_clash less more within clash t state extends =
       clash t state (all_from (λ q. slice_get t q.item ≡ Some q.value) less (λ q among. All-contains (λ r. slice_get t r.item ≡ Some r.value) more q extends (within q among)))
 

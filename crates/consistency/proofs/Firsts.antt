@@ -8,29 +8,28 @@ use Rattle.cca_base.specs.Model.{HasMode}
 use Rattle.cca_base.specs.State.{HasValue}
 use Rattle.clause_form.specs.declared.clause.Clauses.{Clauses}
 use Rattle.clause_form.specs.Formulas.{AreClausesOf}
-use Rattle.consistency.specs.declared.problem.Problem.{Problem}
-use Rattle.consistency.specs.Base.{IsProblemOf}
+use Rattle.consistency.specs.Base.{IsBase}
 use Rattle.consistency.specs.Search.{IsSolution, IsFirst}
 use Rattle.consistency.specs.Found.{FitsAndDenies, IsFirstOf}
 use Rattle.consistency.proofs.Bridge.{subjects_counted, solution_fits, fits_solution}
 use Rattle.consistency.proofs.Orders.{earlier_front, earlier_behind, first_not_after}
 
-module _ (m : Automata) (modes seen : List Pair) (denied : Option Formula) (c : Clauses) (components : ℕ) (p : Problem)
-    (of : AreClausesOf m None denied c) (n : components ≡ length m.components) (q : IsProblemOf c components modes seen p)
+module _ (m : Automata) (modes seen : List Pair) (denied : Option Formula) (c : Clauses) (components : ℕ) (base : List ℕ)
+    (of : AreClausesOf m None denied c) (n : components ≡ length m.components) (b : IsBase c.sizes components modes seen base)
     (modes_in : All (λ p. HasMode m p.item p.value) modes) (seen_in : All (λ p. HasValue m p.item p.value) seen) where
-  q' : IsProblemOf c (length m.components) modes seen p
-  q' = subst (λ k. IsProblemOf c k modes seen p) n q
+  b' : IsBase c.sizes (length m.components) modes seen base
+  b' = subst (λ k. IsBase c.sizes k modes seen base) n b
 
-  to_fit : (s w : List ℕ) → length s ≡ length m.components → IsSolution p.clauses p.base.items (s ++ w) → FitsAndDenies m modes seen denied s w
-  to_fit s w e h = solution_fits m modes seen denied c p.clauses p.base.items of q'.clauses q'.base modes_in seen_in s w e h
+  to_fit : (s w : List ℕ) → length s ≡ length m.components → IsSolution c.clauses base (s ++ w) → FitsAndDenies m modes seen denied s w
+  to_fit s w e h = solution_fits m modes seen denied c base of b' modes_in seen_in s w e h
 
-  to_solution : (s w : List ℕ) → FitsAndDenies m modes seen denied s w → IsSolution p.clauses p.base.items (s ++ w)
-  to_solution s w h = fits_solution m modes seen denied c p.clauses p.base.items of q'.clauses q'.base modes_in seen_in s w h.fits.state.full h
+  to_solution : (s w : List ℕ) → FitsAndDenies m modes seen denied s w → IsSolution c.clauses base (s ++ w)
+  to_solution s w h = fits_solution m modes seen denied c base of b' modes_in seen_in s w h.fits.state.full h
 
-  pub none_fits : ((xs : List ℕ) → IsSolution p.clauses p.base.items xs → ⊥) → (s w : List ℕ) → FitsAndDenies m modes seen denied s w → ⊥
+  pub none_fits : ((xs : List ℕ) → IsSolution c.clauses base xs → ⊥) → (s w : List ℕ) → FitsAndDenies m modes seen denied s w → ⊥
   none_fits none s w h = none (s ++ w) (to_solution s w h)
 
-  first_at : (s w : List ℕ) → length s ≡ length m.components → IsFirst p.clauses p.base.items (s ++ w) → IsFirstOf (FitsAndDenies m modes seen denied) s w
+  first_at : (s w : List ℕ) → length s ≡ length m.components → IsFirst c.clauses base (s ++ w) → IsFirstOf (FitsAndDenies m modes seen denied) s w
   first_at s w e h = record {
     is_one = to_fit s w e h.solution;
     states = λ s2 w2 fit earlier. first_not_after (s ++ w) (s2 ++ w2) (h.first (s2 ++ w2) (to_solution s2 w2 fit)) (earlier_front s2 w2 s w (fit.fits.state.full ∙ sym e) earlier);
@@ -38,17 +37,17 @@ module _ (m : Automata) (modes seen : List Pair) (denied : Option Formula) (c : 
   }
 
   -- there are enough values for the components
-  pub enough : (xs : List ℕ) → IsSolution p.clauses p.base.items xs → components ≤ length xs
+  pub enough : (xs : List ℕ) → IsSolution c.clauses base xs → components ≤ length xs
   enough xs h =
       let full = h.full in
-      let base = q.base.full in
-      omega (arith, full, base, ap (λ (s : List ℕ). length s) of.sizes, subjects_counted m, n)
+      let b_full = b.full in
+      omega (arith, full, b_full, ap (λ (s : List ℕ). length s) of.sizes, subjects_counted m, n)
 
-  pub first_split : (xs values s w : List ℕ) → values ≡ xs → s ≡ take components values → w ≡ drop components values → IsFirst p.clauses p.base.items xs → IsFirstOf (FitsAndDenies m modes seen denied) s w
+  pub first_split : (xs values s w : List ℕ) → values ≡ xs → s ≡ take components values → w ≡ drop components values → IsFirst c.clauses base xs → IsFirstOf (FitsAndDenies m modes seen denied) s w
   first_split xs values s w v front rest h =
       let much = enough xs h.solution in
       let e : length (take components values) ≡ length m.components = length-take-le components values (subst (λ (l : List ℕ). components ≤ length l) (sym v) much) ∙ n in
       let whole : take components values ++ drop components values ≡ xs = take-append-drop components values ∙ v in
       subst (λ (s : List ℕ). IsFirstOf (FitsAndDenies m modes seen denied) s w) (sym front)
       (subst (λ (w : List ℕ). IsFirstOf (FitsAndDenies m modes seen denied) (take components values) w) (sym rest)
-      (first_at (take components values) (drop components values) e (subst (IsFirst p.clauses p.base.items) (sym whole) h)))
+      (first_at (take components values) (drop components values) e (subst (IsFirst c.clauses base) (sym whole) h)))

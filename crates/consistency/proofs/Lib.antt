@@ -9,4 +9,11 @@ pub mod Firsts
 pub mod StatePairs
 pub mod Trying
 pub mod Fitting
+pub mod ForcedLemmas
 pub mod ConflictLemmas
+pub mod CoreLemmas
+pub mod CoreTrying
+pub mod BackboneLemmas
+pub mod Excluded
+pub mod Answered
+pub mod DeniedClauses

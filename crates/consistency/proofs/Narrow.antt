@@ -11,23 +11,23 @@ use Rattle.clause_form.specs.Clauses.{is_true, is_met, AreBelow}
 use Rattle.consistency.specs.declared.domain.Domain.{Domain}
 use Rattle.consistency.specs.declared.subjects.SubjectSet.{SubjectSet}
 use Rattle.consistency.specs.Subjects.{is_in}
-use Rattle.consistency.specs.Search.{AllMet, OthersFalse, HasReasons, Agrees, Knows, nothing, values_at}
+use Rattle.consistency.specs.Search.{AllMet, OthersFalse, HasReasons, Assumed, Agrees, Knows, nothing, values_at}
 
 -- a true literal of a clause that is met
 pub met_at : (xs : List ℕ) (ls : List Literal) → is_met xs ls ≡ true → (i : ℕ) × (i < length ls) × ((l : Literal) → is_true xs (slice_index_or ls i l) ≡ true)
 met_at xs ls h = let any = Any-from_list_any (is_true xs) ls h in (any.0, any.2, at_read ls (λ l. is_true xs l ≡ true) any.0 any.1 any.2 (sym any.3) any.4)
 
 -- where the others are false it is the one
-pub only_one : (ls : List Literal) (domains : List Domain) (k : ℕ) (reasons : SubjectSet) (prefix xs : List ℕ) → AreBelow (length domains) ls → OthersFalse ls domains k → HasReasons ls domains k reasons
-    → is_met xs ls ≡ true → Knows prefix domains xs → Agrees prefix reasons xs → (k < length ls) × ((l : Literal) → is_true xs (slice_index_or ls k l) ≡ true)
-only_one ls domains k reasons prefix xs below others given met knows agrees =
+pub only_one : (ls : List Literal) (domains : List Domain) (k : ℕ) (reasons : SubjectSet) (held : Assumed) (xs : List ℕ) → AreBelow (length domains) ls → OthersFalse ls domains k → HasReasons ls domains k reasons
+    → is_met xs ls ≡ true → Knows held domains xs → Agrees held reasons xs → (k < length ls) × ((l : Literal) → is_true xs (slice_index_or ls k l) ≡ true)
+only_one ls domains k reasons held xs below others given met knows agrees =
     let m = met_at xs ls met in
     elim (cases_eq m.0 k) [
       | inl e ↦ subst (λ j. (j < length ls) × ((l : Literal) → is_true xs (slice_index_or ls j l) ≡ true)) e (m.1, m.2)
       | inr ne ↦ (
           let l : Literal = record { subject = 0; values = 0 } in
           let s = (slice_index_or ls m.0 l).subject in
-          let in' : has (values_at domains s) (slice_index xs s) ≡ true = knows s (below m.0 l m.1) (λ d h k. agrees d (given m.0 l m.1 ne d h) k) in
+          let in' : has (values_at domains s) (slice_index xs s) ≡ true = knows s (below m.0 l m.1) (λ d h. agrees d (given m.0 l m.1 ne d h)) in
           absurd (true≢false (sym (m.2 l) ∙ others m.0 l m.1 ne (slice_index xs s) in')))
     ]
 
@@ -40,29 +40,29 @@ or_r true b c e h = e
 or_r false b c e h = e ∙ h
 
 -- one domain narrowed, with more reasons
-pub narrowed : (domains : List Domain) (prefix xs : List ℕ) (s : ℕ) (before : Domain) (values common : ℕ) (because why : SubjectSet) → s < length domains → before ≡ slice_index_or domains s before → Knows prefix domains xs
+pub narrowed : (domains : List Domain) (held : Assumed) (xs : List ℕ) (s : ℕ) (before : Domain) (values common : ℕ) (because why : SubjectSet) → s < length domains → before ≡ slice_index_or domains s before → Knows held domains xs
     → ((v : ℕ) → has common v ≡ (has before.values v && has values v))
     → ((d : ℕ) → is_in why d ≡ (is_in before.why d || is_in because d))
-    → (Agrees prefix because xs → has values (slice_index xs s) ≡ true)
-    → Knows prefix (slice_set domains s (record { values = common; why = why })) xs
-narrowed domains prefix xs s before values common because why h is knows commons unions fits d k agrees =
+    → (Agrees held because xs → has values (slice_index xs s) ≡ true)
+    → Knows held (slice_set domains s (record { values = common; why = why })) xs
+narrowed domains held xs s before values common because why h is knows commons unions fits d k agrees =
     let dk : d < length domains = omega (arith, length-set domains s (record { values = common; why = why })) in
     let was : before ≡ slice_index_or domains s nothing = get_or_read domains s before h is nothing in
-    let known : Agrees prefix before.why xs → has before.values (slice_index xs s) ≡ true =
-    subst (λ (x : Domain). Agrees prefix x.why xs → has x.values (slice_index xs s) ≡ true) (sym was) (knows s h) in
+    let known : Agrees held before.why xs → has before.values (slice_index xs s) ≡ true =
+    subst (λ (x : Domain). Agrees held x.why xs → has x.values (slice_index xs s) ≡ true) (sym was) (knows s h) in
     elim (cases_eq d s) [
       | inl e ↦ (
           let new : slice_index_or (slice_set domains s (record { values = common; why = why })) d nothing ≡ record { values = common; why = why } =
           ap (λ (j : ℕ). slice_index_or (slice_set domains s (record { values = common; why = why })) j nothing) e ∙ get_or-set_same domains s (record { values = common; why = why }) nothing h in
-          let agrees' : Agrees prefix why xs = λ x m n. agrees x (ap (λ (y : Domain). is_in y.why x) new ∙ m) n in
+          let agrees' : Agrees held why xs = λ x m. agrees x (ap (λ (y : Domain). is_in y.why x) new ∙ m) in
           let mine : has common (slice_index xs s) ≡ true = commons (slice_index xs s) ∙ and_from _ _
-          (known (λ x m n. agrees' x (or_l _ _ _ (unions x) m) n))
-          (fits (λ x m n. agrees' x (or_r _ _ _ (unions x) m) n)) in
+          (known (λ x m. agrees' x (or_l _ _ _ (unions x) m)))
+          (fits (λ x m. agrees' x (or_r _ _ _ (unions x) m))) in
           ap (λ (y : Domain). has y.values (slice_index xs d)) new ∙ (ap (λ (j : ℕ). has common (slice_index xs j)) e ∙ mine))
       | inr ne ↦ (
           let same : slice_index_or (slice_set domains s (record { values = common; why = why })) d nothing ≡ slice_index_or domains d nothing =
           get_or-set_other domains s d (record { values = common; why = why }) nothing ne in
-          ap (λ (y : Domain). has y.values (slice_index xs d)) same ∙ knows d dk (λ x m n. agrees x (ap (λ (y : Domain). is_in y.why x) same ∙ m) n))
+          ap (λ (y : Domain). has y.values (slice_index xs d)) same ∙ knows d dk (λ x m. agrees x (ap (λ (y : Domain). is_in y.why x) same ∙ m)))
     ]
 
 pub met_item : (xs : List ℕ) (clauses : List Clause) (i : ℕ) (clause : Clause) (literals : List Literal) → AllMet xs clauses → i < length clauses → clause ≡ slice_index_or clauses i clause → literals ≡ clause.literals → is_met xs literals ≡ true

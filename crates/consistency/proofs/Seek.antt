@@ -8,111 +8,135 @@ use Rattle.clause_form.specs.declared.clause.Clause.{Clause}
 use Rattle.consistency.specs.declared.domain.Domain.{Domain}
 use Rattle.consistency.specs.declared.subjects.SubjectSet.{SubjectSet}
 use Rattle.consistency.specs.declared.subjects.TheConstants.{MAX_SUBJECTS}
+use Rattle.cca_base.specs.declared.limits.TheConstants.{MAX_CHOICES}
 use Rattle.consistency.specs.Subjects.{is_in}
-use Rattle.consistency.specs.Search.{IsSolution, IsFirstFrom, IsClash, Agrees, Extends, Knows, nothing, values_at, why_at}
+use Rattle.consistency.specs.Search.{IsSolution, AreMet, IsFirst, IsFirstFrom, IsClash, Assumed, choosing, Agrees, Extends, Knows, nothing, values_at, why_at}
 use Rattle.consistency.proofs.Narrow.{or_l, or_r}
 
 pub length-snoc : (p : List ℕ) (v : ℕ) → length (p ++ v ∷ []) ≡ length p + 1
 length-snoc p v = omega (arith, length-append p (v ∷ []))
 
 -- the longer prefix says more
-pub agrees_shorter : (p : List ℕ) (v : ℕ) (r : SubjectSet) (xs : List ℕ) → Agrees (p ++ v ∷ []) r xs → Agrees p r xs
-agrees_shorter p v r xs h d m n = let k : d < length (p ++ v ∷ []) = omega (arith, length-snoc p v) in h d m k ∙ get_or_append_left p (v ∷ []) 0 d n
+pub agrees_shorter : (a : Assumed) (v : ℕ) (r : SubjectSet) (xs : List ℕ) → Agrees (choosing a v) r xs → Agrees a r xs
+agrees_shorter a v r xs h d m =
+    let both = h d m in
+    (both.0, λ n. (let k : d < length (a.chosen ++ v ∷ []) = omega (arith, length-snoc a.chosen v) in both.1 k ∙ get_or_append_left a.chosen (v ∷ []) 0 d n))
 
-pub agrees_longer : (p : List ℕ) (v : ℕ) (r : SubjectSet) (xs : List ℕ) → (is_in r (length p) ≡ true → slice_index xs (length p) ≡ v) → Agrees p r xs → Agrees (p ++ v ∷ []) r xs
-agrees_longer p v r xs last h d m n =
-    elim (cases_eq d (length p)) [
-      | inl e ↦ subst (λ (k : ℕ). slice_index xs k ≡ slice_index (p ++ v ∷ []) k) (sym e) (last (subst (λ (k : ℕ). is_in r k ≡ true) e m) ∙ sym (get_or-append_seam p v [] 0))
-      | inr ne ↦ (let k : d < length p = omega (arith, length-snoc p v) in h d m k ∙ sym (get_or_append_left p (v ∷ []) 0 d k))
-    ]
+pub agrees_longer : (a : Assumed) (v : ℕ) (r : SubjectSet) (xs : List ℕ) → (is_in r (length a.chosen) ≡ true → slice_index xs (length a.chosen) ≡ v) → Agrees a r xs → Agrees (choosing a v) r xs
+agrees_longer a v r xs last h d m = (
+  (h d m).0,
+  λ n. elim (cases_eq d (length a.chosen)) [
+    | inl e ↦ subst (λ (k : ℕ). slice_index xs k ≡ slice_index (a.chosen ++ v ∷ []) k) (sym e) (last (subst (λ (k : ℕ). is_in r k ≡ true) e m) ∙ sym (get_or-append_seam a.chosen v [] 0))
+    | inr ne ↦ (let k : d < length a.chosen = omega (arith, length-snoc a.chosen v) in (h d m).1 k ∙ sym (get_or_append_left a.chosen (v ∷ []) 0 d k))
+  ],
+)
 
 -- what is known stays known of a longer prefix
-pub knows_longer : (p : List ℕ) (v : ℕ) (domains : List Domain) (xs : List ℕ) → Knows p domains xs → Knows (p ++ v ∷ []) domains xs
-knows_longer p v domains xs h d n agrees = h d n (agrees_shorter p v (why_at domains d) xs agrees)
+pub knows_longer : (a : Assumed) (v : ℕ) (domains : List Domain) (xs : List ℕ) → Knows a domains xs → Knows (choosing a v) domains xs
+knows_longer a v domains xs h d n agrees = h d n (agrees_shorter a v (why_at domains d) xs agrees)
 
 pub chosen : (domains : List Domain) (s v set : ℕ) (reason : SubjectSet) → s < length domains → ((m : ℕ) → has set m ≡ (m == v)) → ((m : ℕ) → is_in reason m ≡ (m == s))
-    → (p xs : List ℕ) → length p ≡ s → Knows p domains xs → Knows (p ++ v ∷ []) (slice_set domains s (record { values = set; why = reason })) xs
-chosen domains s v set reason h set_is why_is p xs at knows d k agrees =
+    → (a : Assumed) (xs : List ℕ) → length a.chosen ≡ s → Knows a domains xs → Knows (choosing a v) (slice_set domains s (record { values = set; why = reason })) xs
+chosen domains s v set reason h set_is why_is a xs at knows d k agrees =
     let one : Domain = record { values = set; why = reason } in
     let dk : d < length domains = omega (arith, length-set domains s one) in
     elim (cases_eq d s) [
       | inl e ↦ (
           let new : slice_index_or (slice_set domains s one) d nothing ≡ one = ap (λ (j : ℕ). slice_index_or (slice_set domains s one) j nothing) e ∙ get_or-set_same domains s one nothing h in
           let mine : is_in (why_at (slice_set domains s one) d) d ≡ true = ap (λ (y : Domain). is_in y.why d) new ∙ (why_is d ∙ eq-eqb d s e) in
-          let in' : d < length (p ++ v ∷ []) = omega (arith, length-snoc p v) in
-          let value : slice_index xs d ≡ v = agrees d mine in' ∙ (ap (slice_index (p ++ v ∷ [])) (e ∙ sym at) ∙ get_or-append_seam p v [] 0) in
+          let in' : d < length (a.chosen ++ v ∷ []) = omega (arith, length-snoc a.chosen v) in
+          let value : slice_index xs d ≡ v = (agrees d mine).1 in' ∙ (ap (slice_index (a.chosen ++ v ∷ [])) (e ∙ sym at) ∙ get_or-append_seam a.chosen v [] 0) in
           ap (λ (y : Domain). has y.values (slice_index xs d)) new ∙ (set_is (slice_index xs d) ∙ eq-eqb _ _ value))
       | inr ne ↦ (
           let same : slice_index_or (slice_set domains s one) d nothing ≡ slice_index_or domains d nothing = get_or-set_other domains s d one nothing ne in
           ap (λ (y : Domain). has y.values (slice_index xs d)) same
-          ∙ knows d dk (λ x m n. agrees_shorter p v (why_at (slice_set domains s one) d) xs agrees x (ap (λ (y : Domain). is_in y.why x) same ∙ m) n))
+          ∙ knows d dk (λ x m. agrees_shorter a v (why_at (slice_set domains s one) d) xs agrees x (ap (λ (y : Domain). is_in y.why x) same ∙ m)))
     ]
 
-module _ (clauses : List Clause) (base : List ℕ) (prefix : List ℕ) (domains : List Domain) (blame : SubjectSet) (value : ℕ)
-    (knows : (xs : List ℕ) → IsSolution clauses base xs → Knows prefix domains xs)
-    (room : length prefix < length domains)
-    (blamed : (d : ℕ) → is_in (why_at domains (length prefix)) d ≡ true → is_in blame d ≡ true)
-    (tried : (xs : List ℕ) → IsSolution clauses base xs → Agrees prefix blame xs → slice_index xs (length prefix) < value → ⊥) where
-  in_set : (xs : List ℕ) → IsSolution clauses base xs → Agrees prefix blame xs → has (values_at domains (length prefix)) (slice_index xs (length prefix)) ≡ true
-  in_set xs h agrees = knows xs h (length prefix) room (λ d m n. agrees d (blamed d m) n)
+module _ (clauses : List Clause) (base : List ℕ) (few : (d v : ℕ) → has (slice_index base d) v ≡ true → v < MAX_CHOICES) where
+  -- a solution's values are small and meet the clauses, and agree with what is assumed
+  pub solution_met : (xs : List ℕ) → IsSolution clauses base xs → AreMet clauses (length base) xs
+  solution_met xs h = record { full = h.full; small = λ d n. few d (slice_index xs d) (h.within d n); met = h.met }
 
-  -- a value that isn't in the set is tried
-  pub tried_absent : has (values_at domains (length prefix)) value ≡ false → (xs : List ℕ) → IsSolution clauses base xs → Agrees prefix blame xs → slice_index xs (length prefix) < value + 1 → ⊥
-  tried_absent gone xs h agrees k =
-      elim (cases_eq (slice_index xs (length prefix)) value) [
-        | inl e ↦ true≢false (sym (subst (λ (v : ℕ). has (values_at domains (length prefix)) v ≡ true) e (in_set xs h agrees)) ∙ gone)
-        | inr ne ↦ tried xs h agrees (omega arith)
-      ]
+  pub solution_agrees : (prefix xs : List ℕ) (r : SubjectSet) → IsSolution clauses base xs → Extends prefix xs → Agrees (record { base = base; chosen = prefix }) r xs
+  solution_agrees prefix xs r h extends d m = (h.within d, extends d)
 
-  -- so is one with which there's a clash
-  pub tried_clash : (subjects more : SubjectSet) → ((d : ℕ) → is_in more d ≡ (is_in blame d || is_in subjects d)) → IsClash clauses base (prefix ++ value ∷ []) subjects
-      → (xs : List ℕ) → IsSolution clauses base xs → Agrees prefix more xs → slice_index xs (length prefix) < value + 1 → ⊥
-  tried_clash subjects more unions clash xs h agrees k =
-      elim (cases_eq (slice_index xs (length prefix)) value) [
-        | inl e ↦ clash xs h (agrees_longer prefix value subjects xs (λ m. e) (λ d m n. agrees d (or_r _ _ _ (unions d) m) n))
-        | inr ne ↦ tried xs h (λ d m n. agrees d (or_l _ _ _ (unions d) m) n) (omega arith)
-      ]
+  module _ (prefix : List ℕ) (domains : List Domain) (blame : SubjectSet) (value : ℕ)
+      (knows : (xs : List ℕ) → AreMet clauses (length base) xs → Knows (record { base = base; chosen = prefix }) domains xs)
+      (room : length prefix < length domains)
+      (blamed : (d : ℕ) → is_in (why_at domains (length prefix)) d ≡ true → is_in blame d ≡ true)
+      (tried : (xs : List ℕ) → AreMet clauses (length base) xs → Agrees (record { base = base; chosen = prefix }) blame xs → slice_index xs (length prefix) < value → ⊥) where
+    abbrev held : Assumed
+    held = record { base = base; chosen = prefix }
 
-  -- all values have been tried
-  pub all_tried : ((xs : List ℕ) → IsSolution clauses base xs → slice_index xs (length prefix) < value) → IsClash clauses base prefix blame
-  all_tried small xs h agrees = tried xs h agrees (small xs h)
+    in_set : (xs : List ℕ) → AreMet clauses (length base) xs → Agrees held blame xs → has (values_at domains (length prefix)) (slice_index xs (length prefix)) ≡ true
+    in_set xs h agrees = knows xs h (length prefix) room (λ d m. agrees d (blamed d m))
 
-  -- what comes first with the first value that has a solution comes first
-  pub found : (xs : List ℕ) → length domains ≡ length base → IsFirstFrom clauses base (prefix ++ value ∷ []) xs → IsFirstFrom clauses base prefix xs
-  found xs same first = record {
-    solution = first.solution;
-    extends = λ d n. (let k : d < length (prefix ++ value ∷ []) = omega (arith, length-snoc prefix value) in first.extends d k ∙ get_or_append_left prefix (value ∷ []) 0 d n);
-    first = λ ys h extends.
-        (let s : length prefix < length (prefix ++ value ∷ []) = omega (arith, length-snoc prefix value) in
-        let mine : slice_index xs (length prefix) ≡ value = first.extends (length prefix) s ∙ get_or-append_seam prefix value [] 0 in
-        elim (cases_order (slice_index ys (length prefix)) value) [
-          | inl e ↦ first.first ys h (λ d n. elim (cases_eq d (length prefix)) [
-            | inl at ↦ subst (λ (k : ℕ). slice_index ys k ≡ slice_index (prefix ++ value ∷ []) k) (sym at) (e ∙ sym (get_or-append_seam prefix value [] 0))
-            | inr ne ↦ (let k : d < length prefix = omega (arith, length-snoc prefix value) in extends d k ∙ sym (get_or_append_left prefix (value ∷ []) 0 d k))
-          ])
-          | inr (inl l) ↦ absurd (tried ys h (λ d m n. extends d n) l)
-          | inr (inr g) ↦ inr (record {
-            place = length prefix;
-            inside = (let f = first.solution.full in omega arith);
-            same = λ d n. (let k : d < length (prefix ++ value ∷ []) = omega (arith, length-snoc prefix value) in first.extends d k ∙ (get_or_append_left prefix (value ∷ []) 0 d n ∙ sym (extends d n)));
-            less = omega arith;
-          })
-        ]);
-  }
+    -- a value that isn't in the set is tried
+    pub tried_absent : has (values_at domains (length prefix)) value ≡ false → (xs : List ℕ) → AreMet clauses (length base) xs → Agrees held blame xs → slice_index xs (length prefix) < value + 1 → ⊥
+    tried_absent gone xs h agrees k =
+        elim (cases_eq (slice_index xs (length prefix)) value) [
+          | inl e ↦ true≢false (sym (subst (λ (v : ℕ). has (values_at domains (length prefix)) v ≡ true) e (in_set xs h agrees)) ∙ gone)
+          | inr ne ↦ tried xs h agrees (omega arith)
+        ]
+
+    -- so is one with which there's a clash
+    pub tried_clash : (subjects more : SubjectSet) → ((d : ℕ) → is_in more d ≡ (is_in blame d || is_in subjects d)) → IsClash clauses base (prefix ++ value ∷ []) subjects
+        → (xs : List ℕ) → AreMet clauses (length base) xs → Agrees held more xs → slice_index xs (length prefix) < value + 1 → ⊥
+    tried_clash subjects more unions clash xs h agrees k =
+        elim (cases_eq (slice_index xs (length prefix)) value) [
+          | inl e ↦ clash xs h (agrees_longer held value subjects xs (λ m. e) (λ d m. agrees d (or_r _ _ _ (unions d) m)))
+          | inr ne ↦ tried xs h (λ d m. agrees d (or_l _ _ _ (unions d) m)) (omega arith)
+        ]
+
+    -- all values have been tried
+    pub all_tried : MAX_CHOICES ≤ value → length prefix < length base → IsClash clauses base prefix blame
+    all_tried all inside xs h agrees = let small = h.small (length prefix) inside in tried xs h agrees (omega arith)
+
+    -- what comes first with the first value that has a solution comes first
+    pub found : (xs : List ℕ) → length domains ≡ length base → IsFirstFrom clauses base (prefix ++ value ∷ []) xs → IsFirstFrom clauses base prefix xs
+    found xs same first = record {
+      solution = first.solution;
+      extends = λ d n. (let k : d < length (prefix ++ value ∷ []) = omega (arith, length-snoc prefix value) in first.extends d k ∙ get_or_append_left prefix (value ∷ []) 0 d n);
+      first = λ ys h extends.
+          (let s : length prefix < length (prefix ++ value ∷ []) = omega (arith, length-snoc prefix value) in
+          let mine : slice_index xs (length prefix) ≡ value = first.extends (length prefix) s ∙ get_or-append_seam prefix value [] 0 in
+          elim (cases_order (slice_index ys (length prefix)) value) [
+            | inl e ↦ first.first ys h (λ d n. elim (cases_eq d (length prefix)) [
+              | inl at ↦ subst (λ (k : ℕ). slice_index ys k ≡ slice_index (prefix ++ value ∷ []) k) (sym at) (e ∙ sym (get_or-append_seam prefix value [] 0))
+              | inr ne ↦ (let k : d < length prefix = omega (arith, length-snoc prefix value) in extends d k ∙ sym (get_or_append_left prefix (value ∷ []) 0 d k))
+            ])
+            | inr (inl l) ↦ absurd (tried ys (solution_met ys h) (solution_agrees prefix ys blame h extends) l)
+            | inr (inr g) ↦ inr (record {
+              place = length prefix;
+              inside = (let f = first.solution.full in omega arith);
+              same = λ d n. (let k : d < length (prefix ++ value ∷ []) = omega (arith, length-snoc prefix value) in first.extends d k ∙ (get_or_append_left prefix (value ∷ []) 0 d n ∙ sym (extends d n)));
+              less = omega arith;
+            })
+          ]);
+    }
+
+  -- a first solution past nothing is the first one, and a clash past nothing leaves none
+  pub first_of_all : (xs : List ℕ) → IsFirstFrom clauses base [] xs → IsFirst clauses base xs
+  first_of_all xs h = record { solution = h.solution; first = λ ys k. h.first ys k (λ d n. absurd (omega (arith, n))) }
+
+  pub none_of_all : (subjects : SubjectSet) → IsClash clauses base [] subjects → (xs : List ℕ) → IsSolution clauses base xs → ⊥
+  none_of_all subjects clash xs h = clash xs (solution_met xs h) (solution_agrees [] xs subjects h (λ d n. absurd (omega (arith, n))))
 
 -- a clash that doesn't speak of the subject stands without its value
 pub early : (clauses : List Clause) (base prefix : List ℕ) (value : ℕ) (subjects : SubjectSet) → is_in subjects (length prefix) ≡ false → IsClash clauses base (prefix ++ value ∷ []) subjects → IsClash clauses base prefix subjects
-early clauses base prefix value subjects gone clash xs h agrees = clash xs h (agrees_longer prefix value subjects xs (λ m. absurd (true≢false (sym m ∙ gone))) agrees)
+early clauses base prefix value subjects gone clash xs h agrees = clash xs h (agrees_longer (record { base = base; chosen = prefix }) value subjects xs (λ m. absurd (true≢false (sym m ∙ gone))) agrees)
 
-same_list : (clauses : List Clause) (base prefix xs : List ℕ) → length prefix ≡ length base → IsSolution clauses base xs → Extends prefix xs → prefix ≡ xs
-same_list clauses base prefix xs full h extends = let f = h.full in let e : length prefix ≡ length xs = omega arith in ext_get_or 0 prefix xs e (λ i n. sym (extends i n))
+same_list : (base prefix xs : List ℕ) → length prefix ≡ length base → length xs ≡ length base → Extends prefix xs → prefix ≡ xs
+same_list base prefix xs full f extends = let e : length prefix ≡ length xs = omega arith in ext_get_or 0 prefix xs e (λ i n. sym (extends i n))
 
 pub whole_found : (clauses : List Clause) (base prefix : List ℕ) → length prefix ≡ length base → IsSolution clauses base prefix → IsFirstFrom clauses base prefix prefix
-whole_found clauses base prefix full h = record { solution = h; extends = λ d n. refl; first = λ ys k extends. inl (same_list clauses base prefix ys full k extends) }
+whole_found clauses base prefix full h = record { solution = h; extends = λ d n. refl; first = λ ys k extends. inl (same_list base prefix ys full k.full extends) }
 
 pub whole_clash : (clauses : List Clause) (base prefix : List ℕ) (all : SubjectSet) → length prefix ≡ length base → length base ≤ MAX_SUBJECTS → ((m : ℕ) → m < MAX_SUBJECTS → is_in all m ≡ true) → (IsSolution clauses base prefix → ⊥) → IsClash clauses base prefix all
 whole_clash clauses base prefix all full small every wrong xs h agrees =
-    wrong (subst (IsSolution clauses base) (sym (same_list clauses base prefix xs full h (λ d n. agrees d (every d (omega arith)) n))) h)
+    let same : prefix ≡ xs = same_list base prefix xs full h.full (λ d n. (agrees d (every d (omega arith))).1 n) in
+    wrong (subst (IsSolution clauses base) (sym same) (record { full = h.full; within = λ d n. (agrees d (every d (omega arith))).0 n; met = h.met }))
 
 -- what a call wrote into a vector's slice
 pub written : {X : Type 0} (n : ℕ) (now fresh rest : List X) → now ≡ take n (fresh ++ rest) → n ≡ length fresh → now ≡ fresh

@@ -44,7 +44,7 @@ module _ (m : Automata) (seen pairs : List Pair) where
     abbrev rest : List Pair
     rest = drop (at + 1) pairs
 
-    next : drop at pairs ≡ p ∷ rest
+    pub next : drop at pairs ≡ p ∷ rest
     next = drop_more pairs at p within ∙ ap (λ (q : Pair). q ∷ rest) here
 
     cube_here : IsCube (kept ++ p ∷ rest)

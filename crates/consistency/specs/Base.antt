@@ -4,9 +4,6 @@ use Rattle.std.specs.List.{list_all}
 use Rattle.cca_base.specs.Sets.{has}
 use Rattle.cca_base.specs.declared.cube.Pair.{Pair}
 use Rattle.cca_base.specs.declared.limits.TheConstants.{MAX_CHOICES}
-use Rattle.clause_form.specs.declared.clause.Clauses.{Clauses}
-use Rattle.consistency.specs.declared.problem.Problem.{Problem}
-use Rattle.consistency.specs.Problem.{IsProblem}
 
 -- each pair that is of this subject, counted from the first one's number, has this value
 abbrev pub allows : ℕ → List Pair → ℕ → ℕ → Bool
@@ -20,9 +17,3 @@ ArePairs subjects first pairs = All (λ p. (first + p.item < subjects) × (p.val
 pub record IsBase (sizes : List ℕ) (components : ℕ) (modes seen : List Pair) (base : List ℕ) : Type 0 where
   pub full : length base ≡ length sizes
   pub values : (d v : ℕ) → d < length sizes → has (slice_index base d) v ≡ (nat_lt v (slice_index sizes d) && allows 0 modes d v && allows components seen d v)
-
--- the clauses, and the values that all pairs allow
-pub record IsProblemOf (c : Clauses) (components : ℕ) (modes seen : List Pair) (p : Problem) : Type 0 where
-  pub proper : IsProblem p
-  pub clauses : p.clauses ≡ c.clauses
-  pub base : IsBase c.sizes components modes seen p.base.items

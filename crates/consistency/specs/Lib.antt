@@ -4,3 +4,6 @@ pub mod Problem
 pub mod Found
 pub mod Base
 pub mod Conflict
+pub mod Worlds
+pub mod Forced
+pub mod Cores

@@ -1,6 +1,9 @@
 -- Solutions of clauses, and what a search for the first one knows.
-use Rattle.std.specs.Prelude.{◌≡◌, ◌⊎◌, ℕ, ◌<◌, ◌≢◌, true, false, List, ◌∷◌, [], ◌++◌, length, slice_index, slice_index_or, All, Option, Some, None}
+use Rattle.std.specs.Prelude.{◌≡◌, ◌⊎◌, ◌↔◌, ℕ, ◌+◌, ◌<◌, IsTrue, Contains, ◌≢◌, true, false, List, ◌∷◌, [], ◌++◌, length, slice_index, slice_index_or, All, Option, Some, None}
+use Rattle.cca_base.specs.declared.cube.Pair.{Pair}
+use Rattle.cca_base.specs.Cube.{IsRising}
 use Rattle.cca_base.specs.Sets.{has}
+use Rattle.cca_base.specs.declared.limits.TheConstants.{MAX_CHOICES}
 use Rattle.clause_form.specs.declared.clause.Literal.{Literal}
 use Rattle.clause_form.specs.declared.clause.Clause.{Clause}
 use Rattle.clause_form.specs.Clauses.{is_met, meets}
@@ -48,17 +51,27 @@ values_at domains d = (slice_index_or domains d nothing).values
 abbrev pub why_at : List Domain → ℕ → SubjectSet
 why_at domains d = (slice_index_or domains d nothing).why
 
--- the values of these subjects are those of the prefix
-abbrev pub Agrees : List ℕ → SubjectSet → List ℕ → Type 0
-Agrees prefix subjects xs = (d : ℕ) → is_in subjects d ≡ true → d < length prefix → slice_index xs d ≡ slice_index prefix d
+-- the values that each subject is assumed to have one of, and the values that are chosen for the first subjects
+pub record Assumed : Type 0 where
+  pub base : List ℕ
+  pub chosen : List ℕ
+
+-- what is assumed, with one more value chosen
+abbrev pub choosing : Assumed → ℕ → Assumed
+choosing a value = record { base = a.base; chosen = a.chosen ++ value ∷ [] }
+
+-- each of these subjects has a value that is assumed of it, and the chosen one if there is one
+abbrev pub Agrees : Assumed → SubjectSet → List ℕ → Type 0
+Agrees a subjects xs = (d : ℕ) → is_in subjects d ≡ true
+    → (d < length a.base → has (slice_index a.base d) (slice_index xs d) ≡ true) × (d < length a.chosen → slice_index xs d ≡ slice_index a.chosen d)
 
 -- the values begin with the prefix
 abbrev pub Extends : List ℕ → List ℕ → Type 0
 Extends prefix xs = (d : ℕ) → d < length prefix → slice_index xs d ≡ slice_index prefix d
 
--- each value is in its domain, if the values agree with the prefix on the subjects that are its reason
-abbrev pub Knows : List ℕ → List Domain → List ℕ → Type 0
-Knows prefix domains xs = (d : ℕ) → d < length domains → Agrees prefix (why_at domains d) xs → has (values_at domains d) (slice_index xs d) ≡ true
+-- each value is in its domain, if the values agree with what is assumed on the subjects that are its reason
+abbrev pub Knows : Assumed → List Domain → List ℕ → Type 0
+Knows a domains xs = (d : ℕ) → d < length domains → Agrees a (why_at domains d) xs → has (values_at domains d) (slice_index xs d) ≡ true
 
 -- no literal but the one at the place can be true
 abbrev pub OthersFalse : List Literal → List Domain → ℕ → Type 0
@@ -72,19 +85,19 @@ HasReasons literals domains k reasons = (i : ℕ) (l : Literal) → i < length l
 
 -- what is known of values that meet the clause stays known
 abbrev pub Keeps : List Literal → List Domain → List Domain → Type 0
-Keeps literals old new = (prefix xs : List ℕ) → is_met xs literals ≡ true → Knows prefix old xs → Knows prefix new xs
+Keeps literals old new = (a : Assumed) (xs : List ℕ) → is_met xs literals ≡ true → Knows a old xs → Knows a new xs
 
--- no values that meet the clause, and of which this is known, agree with the prefix on these subjects
+-- no values that meet the clause, and of which this is known, agree with what is assumed on these subjects
 abbrev pub Refutes : List Literal → List Domain → SubjectSet → Type 0
-Refutes literals domains reasons = (prefix xs : List ℕ) → is_met xs literals ≡ true → Knows prefix domains xs → Agrees prefix reasons xs → ⊥
+Refutes literals domains reasons = (a : Assumed) (xs : List ℕ) → is_met xs literals ≡ true → Knows a domains xs → Agrees a reasons xs → ⊥
 
 -- the same of all clauses
 abbrev pub KeepsAll : List Clause → List Domain → List Domain → Type 0
-KeepsAll clauses old new = (prefix xs : List ℕ) → AllMet xs clauses → Knows prefix old xs → Knows prefix new xs
+KeepsAll clauses old new = (a : Assumed) (xs : List ℕ) → AllMet xs clauses → Knows a old xs → Knows a new xs
 
 -- the same of all clauses
 abbrev pub RefutesAll : List Clause → List Domain → SubjectSet → Type 0
-RefutesAll clauses domains reasons = (prefix xs : List ℕ) → AllMet xs clauses → Knows prefix domains xs → Agrees prefix reasons xs → ⊥
+RefutesAll clauses domains reasons = (a : Assumed) (xs : List ℕ) → AllMet xs clauses → Knows a domains xs → Agrees a reasons xs → ⊥
 
 -- what a visit says of a clause
 abbrev pub IsVisit : List Literal → List Domain → Visit → Type 0
@@ -92,9 +105,15 @@ IsVisit literals domains Same = Unit {0}
 IsVisit literals domains (Narrowed subject) = Unit {0}
 IsVisit literals domains (Clash reasons) = Refutes literals domains reasons
 
--- what every solution's values are known to be
+-- a small value for each of so many subjects, with which every clause is true
+pub record AreMet (clauses : List Clause) (n : ℕ) (xs : List ℕ) : Type 0 where
+  pub full : length xs ≡ n
+  pub small : (d : ℕ) → d < n → slice_index xs d < MAX_CHOICES
+  pub met : AllMet xs clauses
+
+-- what is known of all values with which every clause is true
 abbrev pub KnowsAll : List Clause → List ℕ → List ℕ → List Domain → Type 0
-KnowsAll clauses base prefix domains = (xs : List ℕ) → IsSolution clauses base xs → Knows prefix domains xs
+KnowsAll clauses base prefix domains = (xs : List ℕ) → AreMet clauses (length base) xs → Knows (record { base = base; chosen = prefix }) domains xs
 
 -- the first solution that extends the prefix
 pub record IsFirstFrom (clauses : List Clause) (base prefix xs : List ℕ) : Type 0 where
@@ -102,9 +121,9 @@ pub record IsFirstFrom (clauses : List Clause) (base prefix xs : List ℕ) : Typ
   pub extends : Extends prefix xs
   pub first : (ys : List ℕ) → IsSolution clauses base ys → Extends prefix ys → (xs ≡ ys) ⊎ IsLess xs ys
 
--- no solution has the prefix's values at these subjects
+-- no values with which every clause is true agree on these subjects with what is assumed
 abbrev pub IsClash : List Clause → List ℕ → List ℕ → SubjectSet → Type 0
-IsClash clauses base prefix subjects = (xs : List ℕ) → IsSolution clauses base xs → Agrees prefix subjects xs → ⊥
+IsClash clauses base prefix subjects = (xs : List ℕ) → AreMet clauses (length base) xs → Agrees (record { base = base; chosen = prefix }) subjects xs → ⊥
 
 -- the first solution that extends the prefix, or subjects that are to blame that there is none
 abbrev pub IsOutcome : List Clause → List ℕ → List ℕ → Outcome → Type 0
@@ -113,15 +132,15 @@ IsOutcome clauses base prefix (outcome.Clash subjects) = IsClash clauses base pr
 
 -- what was known is known of the values that have one value more
 abbrev pub Chooses : List Domain → ℕ → ℕ → List Domain → Type 0
-Chooses old subject value new = (prefix xs : List ℕ) → length prefix ≡ subject → Knows prefix old xs → Knows (prefix ++ value ∷ []) new xs
+Chooses old subject value new = (a : Assumed) (xs : List ℕ) → length a.chosen ≡ subject → Knows a old xs → Knows (choosing a value) new xs
 
 -- the same of values that meet the clauses
 abbrev pub KeepsMore : List Clause → List Domain → ℕ → ℕ → List Domain → Type 0
-KeepsMore clauses old subject value new = (prefix xs : List ℕ) → length prefix ≡ subject → AllMet xs clauses → Knows prefix old xs → Knows (prefix ++ value ∷ []) new xs
+KeepsMore clauses old subject value new = (a : Assumed) (xs : List ℕ) → length a.chosen ≡ subject → AllMet xs clauses → Knows a old xs → Knows (choosing a value) new xs
 
--- no values that meet the clauses, and of which this is known, agree with the prefix and the one value more on these subjects
+-- no values that meet the clauses, and of which this is known, agree with what is assumed and the one value more on these subjects
 abbrev pub RefutesMore : List Clause → List Domain → ℕ → ℕ → SubjectSet → Type 0
-RefutesMore clauses old subject value reasons = (prefix xs : List ℕ) → length prefix ≡ subject → AllMet xs clauses → Knows prefix old xs → Agrees (prefix ++ value ∷ []) reasons xs → ⊥
+RefutesMore clauses old subject value reasons = (a : Assumed) (xs : List ℕ) → length a.chosen ≡ subject → AllMet xs clauses → Knows a old xs → Agrees (choosing a value) reasons xs → ⊥
 
 -- subjects that are to blame, if there are some
 abbrev pub IsClashOfAll : List Clause → List Domain → Option SubjectSet → Type 0
@@ -132,3 +151,14 @@ IsClashOfAll clauses domains (Some reasons) = RefutesAll clauses domains reasons
 abbrev pub IsClashOfMore : List Clause → List Domain → ℕ → ℕ → Option SubjectSet → Type 0
 IsClashOfMore clauses domains subject value None = Unit {0}
 IsClashOfMore clauses domains subject value (Some reasons) = RefutesMore clauses domains subject value reasons
+
+-- ---- values that all solutions have
+
+-- every solution has the pair's value at the pair's subject, counted from the first one's number
+abbrev pub AllHave : List Clause → List ℕ → ℕ → Pair → Type 0
+AllHave clauses base first p = (xs : List ℕ) → IsSolution clauses base xs → slice_index xs (first + p.item) ≡ p.value
+
+-- exactly the pairs of these subjects that all solutions have, rising
+pub record IsBackbone (clauses : List Clause) (base : List ℕ) (first vars : ℕ) (pairs : List Pair) : Type 0 where
+  pub rising : IsRising pairs
+  pub each : (p : Pair) → Contains pairs p ↔ (IsTrue (has vars p.item) × (first + p.item < length base) × AllHave clauses base first p)

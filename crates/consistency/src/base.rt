@@ -1,9 +1,16 @@
-ghost use Rattle.std.specs.Prelude.{◌≡◌, ◌&&◌, ℕ, ◌<◌, ◌≤◌, nat_lt, length, slice_index, All, IfOk};
+//! What each subject may be, where components have given modes and variables given values.
+
+ghost use Rattle.std.specs.Prelude.{◌≡◌, ◌&&◌, ◌++◌, ℕ, ◌<◌, ◌≤◌, nat_lt, length, slice_index, All, IfOk};
 ghost use Rattle.cca_base.specs.Sets.{has};
 ghost use Rattle.cca_base.specs.declared.limits.TheConstants.{MAX_CHOICES};
+ghost use Rattle.cca_base.specs.Model.{HasMode, mode_counts, value_counts};
+ghost use Rattle.cca_base.specs.State.{HasValue};
+ghost use Rattle.clause_form.specs.Clauses.{AreClauses};
+ghost use Rattle.consistency.specs.Problem.{IsProblem, clauses_in};
 ghost use Rattle.consistency.specs.Base.{allows, ArePairs, IsBase};
 
-use cca_base::{Pair, ValueSet};
+use crate::problem::Problem;
+use cca_base::{Model, Pair, ValueSet};
 use std::alloc::{AllocError, Global};
 
 /// All values of each subject.
@@ -34,7 +41,7 @@ fn restricted(sets: Vec<ValueSet>, first: usize, pairs: &[Pair]) -> Vec<ValueSet
 }
 
 /// The values that each subject may have, where components have these modes and variables these values.
-pub fn base_of(
+fn base_of(
     alloc: Global,
     sizes: &[u8],
     components: usize,
@@ -49,4 +56,23 @@ pub fn base_of(
     let sets = whole_sets(alloc, sizes)?;
     let sets = restricted(sets, 0, modes);
     Ok(restricted(sets, components, seen))
+}
+
+/// The values that each subject of the model may have, where components have these modes and variables these values.
+pub fn model_base(
+    alloc: Global,
+    model: &Model,
+    problem: &Problem,
+    modes: &[Pair],
+    seen: &[Pair],
+) -> Result<Vec<ValueSet>, AllocError>
+    requires sizes { problem.now.sizes ≡ mode_counts model.now ++ value_counts model.now }
+    requires clauses { AreClauses (clauses_in problem.now) }
+    requires modes { All (λ p. HasMode model.now p.item p.value) modes.now }
+    requires seen { All (λ p. HasValue model.now p.item p.value) seen.now }
+    ensures base { IfOk result (λ r. IsBase problem.now.sizes (length model.now.components) modes.now seen.now r.items) }
+    ensures proper { IfOk result (λ r. IsProblem problem.now.clauses r.items) }
+{
+    let components = model.components().len();
+    base_of(alloc, problem.sizes.as_slice(), components, modes, seen)
 }

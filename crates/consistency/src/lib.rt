@@ -2,19 +2,25 @@
 //! that no world fits it. A caller gets None exactly where there is none.
 #![tactic(auto)]
 
+mod backbone;
 mod base;
+mod calls;
 mod conflicts;
+mod denied;
 mod domain;
 mod found;
 mod laws;
+mod other;
+mod pairs;
 mod problem;
 mod propagate;
 mod search;
 mod solution;
-mod split;
 mod subjects;
 mod visit;
+mod worlds;
 
-pub use conflicts::conflict;
-pub use found::{Found, find_counter, find_world};
+pub use calls::{conflict, find_counter, find_world, forced};
+pub use found::Found;
 pub use laws::conflicts_are_minimal;
+pub use worlds::Worlds;

@@ -1,12 +1,18 @@
-use cca_base::{List, ValueSet};
-use clause_form::{Clause, Literal};
+//! Clauses with an index of the places where each subject stands.
+
+ghost use Rattle.std.specs.Prelude.{◌≡◌, IfOk};
+ghost use Rattle.consistency.specs.Problem.{clauses_in};
+
+use cca_base::List;
+use clause_form::{Clause, Clauses, Literal};
 use std::alloc::{AllocError, Global};
 
-/// Clauses, with what each of their subjects may be.
-#[derive(Drop)]
+/// Clauses over subjects of these sizes.
+#[derive(Debug, Drop)]
 pub struct Problem {
+    /// How many values each subject has.
+    pub sizes: List<u8>,
     pub clauses: List<Clause>,
-    pub base: Vec<ValueSet>,
     /// For each subject the places of the clauses that speak of it, as an index for speed.
     pub places: Vec<Vec<usize>>,
 }
@@ -33,7 +39,7 @@ fn add_place(
 }
 
 /// For each subject the places of the clauses that speak of it.
-pub fn places_of(
+fn places_of(
     alloc: Global,
     clauses: &[Clause],
     subjects: usize,
@@ -43,4 +49,17 @@ pub fn places_of(
         add_place(&mut places, clause.literals.as_slice(), at)?;
     }
     Ok(places)
+}
+
+/// The clauses with their index.
+pub fn problem_of(alloc: Global, clauses: Clauses) -> Result<Problem, AllocError>
+    ensures { IfOk result (λ p. clauses_in p ≡ clauses) }
+{
+    let Clauses { sizes, clauses } = clauses;
+    let places = places_of(alloc, clauses.as_slice(), sizes.len())?;
+    Ok(Problem {
+        sizes,
+        clauses,
+        places,
+    })
 }

@@ -1,13 +1,18 @@
-ghost use Rattle.std.specs.Prelude.{◌≡◌, ◌++◌, ◌∷◌, [], ◌<◌, ◌≤◌, length, ℕ, List, IfOk, IfSome, IsNone, slice_index};
+//! Search for the first solution by conflict-directed backjumping: unit propagation after each choice, and each clash names
+//! the chosen subjects that are to blame, so that choices which have nothing to do with it are passed by.
+
+ghost use Rattle.std.specs.Prelude.{◌≡◌, ◌++◌, ◌∷◌, [], ◌<◌, ◌≤◌, true, length, ℕ, List, IfOk, IfSome, IsNone, slice_index};
 ghost use Rattle.cca_base.specs.declared.limits.TheConstants.{MAX_CHOICES};
-ghost use Rattle.consistency.specs.Search.{IsSolution, IsFirst, KnowsAll, IsOutcome, values_at};
+ghost use Rattle.consistency.specs.Search.{IsSolution, IsFirst, KnowsAll, IsOutcome, values_at, why_at};
+ghost use Rattle.consistency.specs.Subjects.{is_in};
+ghost use Rattle.consistency.specs.declared.subjects.TheConstants.{MAX_SUBJECTS};
 ghost use Rattle.consistency.specs.Problem.{IsProblem};
 
 use crate::domain::Domain;
 use crate::problem::Problem;
 use crate::propagate::{extend, settle_all};
 use crate::solution::is_solution;
-use crate::subjects::{SubjectSet, all_subjects, has_subject, no_subject, union};
+use crate::subjects::{SubjectSet, all_subjects, has_subject, no_subject, union, with_subject};
 use cca_base::{List, MAX_CHOICES, ValueSet};
 use std::alloc::{AllocError, Global};
 
@@ -24,18 +29,19 @@ pub enum Outcome {
 fn seek(
     alloc: Global,
     problem: &Problem,
+    base: &[ValueSet],
     domains: &[Domain],
     prefix: &List<u8>,
 ) -> Result<Outcome, AllocError>
-    requires proper { IsProblem problem.now }
-    requires full { length domains.now ≡ length problem.now.base.items }
-    requires room { length prefix.now ≤ length problem.now.base.items }
-    requires known { KnowsAll problem.now.clauses problem.now.base.items prefix.now domains.now }
-    ensures { IfOk result (IsOutcome problem.now.clauses problem.now.base.items prefix.now) }
+    requires proper { IsProblem problem.now.clauses base.now }
+    requires full { length domains.now ≡ length base.now }
+    requires room { length prefix.now ≤ length base.now }
+    requires known { KnowsAll problem.now.clauses base.now prefix.now domains.now }
+    ensures { IfOk result (IsOutcome problem.now.clauses base.now prefix.now) }
 {
     let subject = prefix.len();
-    if subject == problem.base.len() {
-        if is_solution(problem, prefix.as_slice()) {
+    if subject == base.len() {
+        if is_solution(problem, base, prefix.as_slice()) {
             return Ok(Outcome::Found(prefix.copy(alloc)?));
         }
         return Ok(Outcome::Clash(all_subjects()));
@@ -44,7 +50,7 @@ fn seek(
     let mut blame = domains[subject].why;
     for value in 0..MAX_CHOICES as u8 {
         if values.has(value) {
-            match attempt(alloc, problem, domains, prefix, value)? {
+            match attempt(alloc, problem, base, domains, prefix, value)? {
                 Outcome::Found(found) => return Ok(Outcome::Found(found)),
                 Outcome::Clash(subjects) => {
                     if !has_subject(&subjects, subject as u16) {
@@ -63,57 +69,73 @@ fn seek(
 fn attempt(
     alloc: Global,
     problem: &Problem,
+    base: &[ValueSet],
     domains: &[Domain],
     prefix: &List<u8>,
     value: u8,
 ) -> Result<Outcome, AllocError>
-    requires proper { IsProblem problem.now }
-    requires full { length domains.now ≡ length problem.now.base.items }
-    requires room { length prefix.now < length problem.now.base.items }
+    requires proper { IsProblem problem.now.clauses base.now }
+    requires full { length domains.now ≡ length base.now }
+    requires room { length prefix.now < length base.now }
     requires value { value < MAX_CHOICES }
-    requires known { KnowsAll problem.now.clauses problem.now.base.items prefix.now domains.now }
-    ensures { IfOk result (IsOutcome problem.now.clauses problem.now.base.items (prefix.now ++ value ∷ [])) }
+    requires known { KnowsAll problem.now.clauses base.now prefix.now domains.now }
+    ensures { IfOk result (IsOutcome problem.now.clauses base.now (prefix.now ++ value ∷ [])) }
 {
     let subject = prefix.len();
     let mut longer = prefix.copy(alloc)?;
     longer.push(value)?;
     if domains[subject].values == ValueSet::empty().with(value) {
-        return seek(alloc, problem, domains, &longer);
+        return seek(alloc, problem, base, domains, &longer);
     }
     let mut narrower = Vec::from_slice(alloc, domains)?;
     match extend(alloc, problem, &mut narrower, subject as u16, value)? {
         Some(because) => Ok(Outcome::Clash(because)),
-        None => seek(alloc, problem, &narrower, &longer),
+        None => seek(alloc, problem, base, &narrower, &longer),
     }
 }
 
-/// What each subject may be before anything is chosen.
+/// What each subject may be before anything is chosen, for the reason that it is assumed of the subject itself.
 fn whole_domains(alloc: Global, base: &[ValueSet]) -> Result<Vec<Domain>, AllocError>
+    requires { length base.now ≤ MAX_SUBJECTS }
     ensures full { IfOk result (λ r. length r.items ≡ length base.now) }
     ensures values { IfOk result (λ r. (d : ℕ) → d < length base.now → values_at r.items d ≡ slice_index base.now d) }
+    ensures why { IfOk result (λ r. (d : ℕ) → d < length base.now → is_in (why_at r.items d) d ≡ true) }
 {
     let mut domains = Vec::new(alloc);
-    for values in base {
+    for (at, values) in base.iter().enumerate() {
         domains.push(Domain {
             values: *values,
-            why: no_subject(),
+            why: with_subject(&no_subject(), at as u16),
         })?;
     }
     Ok(domains)
 }
 
-/// The first solution.
-pub fn first_solution(alloc: Global, problem: &Problem) -> Result<Option<List<u8>>, AllocError>
-    requires { IsProblem problem.now }
-    ensures some { IfOk result (λ o. IfSome o (IsFirst problem.now.clauses problem.now.base.items)) }
-    ensures none { IfOk result (λ o. IsNone o → (xs : List ℕ) → IsSolution problem.now.clauses problem.now.base.items xs → ⊥) }
+/// The first solution, or the subjects that are to blame that there is none: where these have values of their sets,
+/// whatever the other subjects have, some clause is false.
+pub fn solve(alloc: Global, problem: &Problem, base: &[ValueSet]) -> Result<Outcome, AllocError>
+    requires { IsProblem problem.now.clauses base.now }
+    ensures { IfOk result (IsOutcome problem.now.clauses base.now []) }
 {
-    let mut domains = whole_domains(alloc, problem.base.as_slice())?;
-    if let Some(_) = settle_all(alloc, problem, &mut domains)? {
-        return Ok(None);
+    let mut domains = whole_domains(alloc, base)?;
+    if let Some(because) = settle_all(alloc, problem, &mut domains)? {
+        return Ok(Outcome::Clash(because));
     }
     let prefix = List::new(alloc);
-    match seek(alloc, problem, &domains, &prefix)? {
+    seek(alloc, problem, base, &domains, &prefix)
+}
+
+/// The first solution.
+pub fn first_solution(
+    alloc: Global,
+    problem: &Problem,
+    base: &[ValueSet],
+) -> Result<Option<List<u8>>, AllocError>
+    requires { IsProblem problem.now.clauses base.now }
+    ensures some { IfOk result (λ o. IfSome o (IsFirst problem.now.clauses base.now)) }
+    ensures none { IfOk result (λ o. IsNone o → (xs : List ℕ) → IsSolution problem.now.clauses base.now xs → ⊥) }
+{
+    match solve(alloc, problem, base)? {
         Outcome::Found(values) => Ok(Some(values)),
         Outcome::Clash(_) => Ok(None),
     }

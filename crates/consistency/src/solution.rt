@@ -21,13 +21,13 @@ fn is_met(literals: &[Literal], values: &[u8]) -> bool
 }
 
 /// Whether the values are a solution.
-pub fn is_solution(problem: &Problem, values: &[u8]) -> bool
-    requires full { length values.now ≡ length problem.now.base.items }
-    requires proper { IsProblem problem.now }
-    ensures yes { result ≡ true → IsSolution problem.now.clauses problem.now.base.items values.now }
-    ensures no { result ≡ false → IsSolution problem.now.clauses problem.now.base.items values.now → ⊥ }
+pub fn is_solution(problem: &Problem, base: &[ValueSet], values: &[u8]) -> bool
+    requires full { length values.now ≡ length base.now }
+    requires proper { IsProblem problem.now.clauses base.now }
+    ensures yes { result ≡ true → IsSolution problem.now.clauses base.now values.now }
+    ensures no { result ≡ false → IsSolution problem.now.clauses base.now values.now → ⊥ }
 {
-    for (i, set) in problem.base.as_slice().iter().enumerate() {
+    for (i, set) in base.iter().enumerate() {
         if !set.has(values[i]) {
             return false;
         }

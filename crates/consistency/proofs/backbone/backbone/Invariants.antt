@@ -1,0 +1,5 @@
+use Rattle.consistency.proofs.BackboneLemmas.{IsBackboneTo}
+use Rattle.consistency.proofs.backbone.backbone.Given as goal
+
+abbrev pub invariant-loop-item : goal.invariant-loop-item
+invariant-loop-item l = IsBackboneTo l.problem.clauses l.base l.components l.vars l.item l.pairs

@@ -1,0 +1,20 @@
+use Rattle.std.proofs.Common.{◌≡◌, ◌++◌, Some, None, List, ap, sym, subst, ◌∙◌}
+use Rattle.clause_form.specs.declared.clause.Clauses.{Clauses}
+use Rattle.clause_form.specs.declared.clause.Clause.{Clause}
+use Rattle.clause_form.specs.Formulas.{AreClausesOf}
+use Rattle.consistency.specs.Problem.{clauses_in}
+use Rattle.consistency.proofs.DeniedClauses.{denied_beside_rules}
+use Rattle.consistency.proofs.Weaker.{IfOk-weaker}
+use Rattle.consistency.proofs.denied.denied_problem.Goals as goal
+
+pub returns : goal.returns
+returns c =
+    let m = c.args.model.now in
+    let denied = c.in_ok-sizes.field-0 in
+    let both : Clauses = record { sizes = denied.sizes; clauses = denied.clauses ++ c.args.rules.now.clauses } in
+    let made : AreClausesOf m None (Some c.args.formula.now) both = denied_beside_rules m c.args.formula.now denied (clauses_in c.args.rules.now) c.in_ok-sizes.ensures c.requires.rules in
+    let after : c.add_copies.new.clauses ≡ denied.clauses ++ c.args.rules.now.clauses =
+    c.in_ok-add_copies.ensures ∙ ap (λ (cs : List Clause). denied.clauses ++ cs) c.as_slice.ensures in
+    IfOk-weaker c.problem_of.result (λ p. clauses_in p ≡ record { sizes = denied.sizes; clauses = c.add_copies.new.clauses }) (λ p. AreClausesOf m None (Some c.args.formula.now) (clauses_in p))
+    (λ p e. subst (AreClausesOf m None (Some c.args.formula.now)) (sym (e ∙ ap (λ (cs : List Clause). record { sizes = denied.sizes; clauses = cs }) after)) made)
+    c.problem_of.ensures

@@ -1,0 +1,88 @@
+//! The backbone of a state's worlds: the values that all of them have. The first world gives each candidate, and a search
+//! with the value excluded shows whether some other world differs.
+
+ghost use Rattle.std.specs.Prelude.{◌≡◌, ◌+◌, ◌≤◌, ℕ, List, length, slice_index, All, IfOk};
+ghost use Rattle.cca_base.specs.State.{HasValue, HasWorld, IsState};
+ghost use Rattle.consistency.specs.Forced.{AreForced};
+ghost use Rattle.consistency.specs.Problem.{IsProblem};
+ghost use Rattle.consistency.specs.Search.{IsSolution, IsBackbone};
+ghost use Rattle.consistency.specs.Worlds.{AreWorldsOf};
+
+use crate::base::model_base;
+use crate::other::has_other;
+use crate::pairs::all_pairs;
+use crate::problem::Problem;
+use crate::search::first_solution;
+use crate::worlds::Worlds;
+use cca_base::{List, Model, Pair, Seen, State, ValueSet, VarSet};
+use std::alloc::{AllocError, Global};
+
+/// The variables of the set whose value is that of the given solution in every other one.
+fn backbone(
+    alloc: Global,
+    problem: &Problem,
+    base: &[ValueSet],
+    components: usize,
+    values: &[u8],
+    vars: VarSet,
+) -> Result<List<Pair>, AllocError>
+    requires proper { IsProblem problem.now.clauses base.now }
+    requires solution { IsSolution problem.now.clauses base.now values.now }
+    requires front { components ≤ length base.now }
+    ensures { IfOk result (IsBackbone problem.now.clauses base.now components vars) }
+{
+    let mut pairs = List::new(alloc);
+    for item in 0..(values.len() - components) as u16 {
+        if vars.has(item) {
+            let subject = components + item as usize;
+            let value = values[subject];
+            if !has_other(alloc, problem, base, subject, value)? {
+                pairs.push(Pair { item, value })?;
+            }
+        }
+    }
+    Ok(pairs)
+}
+
+/// The variables of the set that have one value in all solutions, where there is some.
+fn first_backbone(
+    alloc: Global,
+    problem: &Problem,
+    base: &[ValueSet],
+    components: usize,
+    vars: VarSet,
+) -> Result<List<Pair>, AllocError>
+    requires proper { IsProblem problem.now.clauses base.now }
+    requires front { components ≤ length base.now }
+    requires some { ((xs : List ℕ) → IsSolution problem.now.clauses base.now xs → ⊥) → ⊥ }
+    ensures { IfOk result (IsBackbone problem.now.clauses base.now components vars) }
+{
+    match first_solution(alloc, problem, base)? {
+        Some(values) => backbone(alloc, problem, base, components, values.as_slice(), vars),
+        None => Ok(List::new(alloc)),
+    }
+}
+
+impl Worlds {
+    /// The variables of the set that have one value in all worlds of the state, each with that value, rising. The error
+    /// is out of memory.
+    pub fn forced(
+        &self,
+        alloc: Global,
+        model: &Model,
+        state: &State,
+        vars: VarSet,
+    ) -> Result<Seen, AllocError>
+        requires of { AreWorldsOf model.now self.now }
+        requires state { IsState model.now state.now.modes }
+        requires world { HasWorld model.now state.now.modes }
+        ensures forced { IfOk result (λ r. AreForced model.now state.now.modes vars r.pairs) }
+        ensures values { IfOk result (λ r. All (λ p. HasValue model.now p.item p.value) r.pairs) }
+    {
+        let modes = all_pairs(alloc, model, state)?;
+        let base = model_base(alloc, model, &self.rules, modes.as_slice(), &[])?;
+        let components = model.components().len();
+        let pairs = first_backbone(alloc, &self.rules, base.as_slice(), components, vars)?;
+        Ok(Seen { pairs })
+    }
+}

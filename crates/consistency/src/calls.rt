@@ -1,0 +1,78 @@
+//! The questions of a model whose clauses are made for the one call.
+
+ghost use Rattle.std.specs.Prelude.{◌↔◌, length, All, IfOk, IfSome, IsNone, IsTrue};
+ghost use Rattle.cca_base.specs.Formula.{is_within};
+ghost use Rattle.cca_base.specs.Model.{HasMode};
+ghost use Rattle.cca_base.specs.Shown.{CanShow, IsConflict};
+ghost use Rattle.cca_base.specs.State.{HasValue, HasWorld, Follows, IsState};
+ghost use Rattle.consistency.specs.Forced.{AreForced};
+ghost use Rattle.consistency.specs.Found.{Fits, Counters, NoneFits, IsFirstOf};
+
+use crate::found::Found;
+use crate::worlds::Worlds;
+use cca_base::{Cube, Formula, Model, Seen, State, VarSet};
+use std::alloc::{AllocError, Global};
+
+/// The first state in mode order that extends the modes and has a world that agrees with what is seen, with its first
+/// such world in value order. None comes exactly where there is none. The error is out of memory.
+pub fn find_world(
+    alloc: Global,
+    model: &Model,
+    modes: &Cube,
+    seen: &Seen,
+) -> Result<Option<Found>, AllocError>
+    requires modes { All (λ p. HasMode model.now p.item p.value) modes.now }
+    requires seen { All (λ p. HasValue model.now p.item p.value) seen.now.pairs }
+    ensures some { IfOk result (λ o. IfSome o (λ f. IsFirstOf (Fits model.now modes.now seen.now.pairs) f.state.modes f.world.values)) }
+    ensures none { IfOk result (λ o. IsNone o → NoneFits model.now modes.now seen.now.pairs) }
+{
+    let worlds = Worlds::of(alloc, model)?;
+    worlds.find_world(alloc, model, modes, seen)
+}
+
+/// The first state in mode order that extends the modes and has a world in which the formula is false, with its first
+/// such world in value order. None comes exactly where the formula follows from the modes. The error is out of memory.
+pub fn find_counter(
+    alloc: Global,
+    model: &Model,
+    modes: &Cube,
+    formula: &Formula,
+) -> Result<Option<Found>, AllocError>
+    requires modes { All (λ p. HasMode model.now p.item p.value) modes.now }
+    requires formula { IsTrue (is_within (length model.now.components) (length model.now.variables) formula.now) }
+    ensures some { IfOk result (λ o. IfSome o (λ f. IsFirstOf (Counters model.now modes.now formula.now) f.state.modes f.world.values)) }
+    ensures none { IfOk result (λ o. IsNone o → Follows model.now modes.now formula.now) }
+{
+    let worlds = Worlds::of(alloc, model)?;
+    worlds.find_counter(alloc, model, modes, formula)
+}
+
+/// Why no world of the state agrees with what is seen: of the state's pairs, each tried in component order, those that
+/// are kept since some state that extends the others has such a world. None comes exactly where the state has a world
+/// that agrees. The error is out of memory.
+pub fn conflict(
+    alloc: Global,
+    model: &Model,
+    state: &State,
+    seen: &Seen,
+) -> Result<Option<Cube>, AllocError>
+    requires state { IsState model.now state.now.modes }
+    requires seen { All (λ p. HasValue model.now p.item p.value) seen.now.pairs }
+    ensures some { IfOk result (λ o. IfSome o (IsConflict model.now state.now.modes seen.now.pairs)) }
+    ensures none { IfOk result (λ o. IsNone o ↔ CanShow model.now state.now.modes seen.now.pairs) }
+{
+    let worlds = Worlds::of(alloc, model)?;
+    worlds.conflict(alloc, model, state, seen)
+}
+
+/// The variables of the set that have one value in all worlds of the state, each with that value, rising. The error is out
+/// of memory.
+pub fn forced(alloc: Global, model: &Model, state: &State, vars: VarSet) -> Result<Seen, AllocError>
+    requires state { IsState model.now state.now.modes }
+    requires world { HasWorld model.now state.now.modes }
+    ensures forced { IfOk result (λ r. AreForced model.now state.now.modes vars r.pairs) }
+    ensures values { IfOk result (λ r. All (λ p. HasValue model.now p.item p.value) r.pairs) }
+{
+    let worlds = Worlds::of(alloc, model)?;
+    worlds.forced(alloc, model, state, vars)
+}

@@ -1,0 +1,38 @@
+//! The clauses of a model's rules beside those that say that a formula is false.
+
+ghost use Rattle.std.specs.Prelude.{◌≡◌, ◌++◌, length, IfOk, OnOk, IsTrue, None, Some};
+ghost use Rattle.cca_base.specs.Formula.{is_within};
+ghost use Rattle.clause_form.specs.Formulas.{AreClausesOf};
+ghost use Rattle.consistency.specs.Problem.{clauses_in};
+
+use crate::problem::{Problem, problem_of};
+use cca_base::{Formula, List, Model};
+use clause_form::{Clause, Clauses, denied_clauses};
+use std::alloc::{AllocError, Global};
+
+/// Puts a copy of the rules' clauses behind the others.
+fn add_copies(alloc: Global, rules: &[Clause], clauses: &mut List<Clause>) -> Result<(), AllocError>
+    ensures { OnOk result (clauses.new ≡ clauses.old ++ rules.now) }
+{
+    for clause in rules {
+        let literals = clause.literals.copy(alloc)?;
+        clauses.push(Clause { literals })?;
+    }
+    Ok(())
+}
+
+/// The clauses of the rules, beside those that say that the formula is false.
+pub fn denied_problem(
+    alloc: Global,
+    model: &Model,
+    rules: &Problem,
+    formula: &Formula,
+) -> Result<Problem, AllocError>
+    requires rules { AreClausesOf model.now None None (clauses_in rules.now) }
+    requires formula { IsTrue (is_within (length model.now.components) (length model.now.variables) formula.now) }
+    ensures { IfOk result (λ p. AreClausesOf model.now None (Some formula.now) (clauses_in p)) }
+{
+    let Clauses { sizes, mut clauses } = denied_clauses(alloc, model, formula)?;
+    add_copies(alloc, rules.clauses.as_slice(), &mut clauses)?;
+    problem_of(alloc, Clauses { sizes, clauses })
+}

@@ -1,0 +1,106 @@
+//! The clauses of a model's rules, made once for many questions.
+
+ghost use Rattle.std.specs.Prelude.{◌≡◌, ◌++◌, length, All, IfOk, IfSome, IsNone, IsTrue, None, Option, List, ℕ};
+ghost use Rattle.cca_base.specs.declared.formula.Formula.{Formula};
+ghost use Rattle.cca_base.specs.Formula.{is_within};
+ghost use Rattle.cca_base.specs.Model.{HasMode, mode_counts, value_counts};
+ghost use Rattle.cca_base.specs.State.{HasValue, Follows};
+ghost use Rattle.clause_form.specs.Clauses.{AreClauses};
+ghost use Rattle.clause_form.specs.Formulas.{AreClausesOf};
+ghost use Rattle.consistency.specs.Problem.{clauses_in};
+ghost use Rattle.consistency.specs.Found.{Fits, Counters, NoneFits, FitsAndDenies, IsFirstOf};
+
+use crate::base::model_base;
+use crate::denied::denied_problem;
+use crate::found::{Found, split};
+use crate::problem::{Problem, problem_of};
+use crate::search::first_solution;
+use cca_base::{Cube, Formula, Model, Pair, Seen};
+use clause_form::clauses_of;
+use std::alloc::{AllocError, Global};
+
+/// The clauses of a model's rules, for all questions of its worlds.
+#[derive(Debug, Drop)]
+pub struct Worlds {
+    pub(crate) rules: Problem,
+}
+
+/// The first state and world that fit and have the denied formula false, if there is one.
+fn first_found(
+    alloc: Global,
+    model: &Model,
+    problem: &Problem,
+    modes: &[Pair],
+    seen: &[Pair],
+) -> Result<Option<Found>, AllocError>
+    requires sizes { problem.now.sizes ≡ mode_counts model.now ++ value_counts model.now }
+    requires proper { AreClauses (clauses_in problem.now) }
+    requires modes { All (λ p. HasMode model.now p.item p.value) modes.now }
+    requires seen { All (λ p. HasValue model.now p.item p.value) seen.now }
+    ensures some { (denied : Option Formula) → AreClausesOf model.now None denied (clauses_in problem.now) → IfOk result (λ o. IfSome o (λ f. IsFirstOf (FitsAndDenies model.now modes.now seen.now denied) f.state.modes f.world.values)) }
+    ensures none { (denied : Option Formula) → AreClausesOf model.now None denied (clauses_in problem.now) → IfOk result (λ o. IsNone o → (s w : List ℕ) → FitsAndDenies model.now modes.now seen.now denied s w → ⊥) }
+{
+    let components = model.components().len();
+    let base = model_base(alloc, model, problem, modes, seen)?;
+    match first_solution(alloc, problem, base.as_slice())? {
+        Some(values) => Ok(Some(split(alloc, components, values.as_slice())?)),
+        None => Ok(None),
+    }
+}
+
+impl Worlds {
+    ghost use Rattle.consistency.specs.Worlds.{AreWorldsOf};
+
+    /// The clauses of the model's rules. The error is out of memory.
+    pub fn of(alloc: Global, model: &Model) -> Result<Worlds, AllocError>
+        ensures { IfOk result (AreWorldsOf model.now) }
+    {
+        let clauses = clauses_of(alloc, model, None, None)?;
+        let rules = problem_of(alloc, clauses)?;
+        Ok(Worlds { rules })
+    }
+
+    /// The first state in mode order that extends the modes and has a world that agrees with what is seen, with its
+    /// first such world in value order. None comes exactly where there is none. The error is out of memory.
+    pub fn find_world(
+        &self,
+        alloc: Global,
+        model: &Model,
+        modes: &Cube,
+        seen: &Seen,
+    ) -> Result<Option<Found>, AllocError>
+        requires of { AreWorldsOf model.now self.now }
+        requires modes { All (λ p. HasMode model.now p.item p.value) modes.now }
+        requires seen { All (λ p. HasValue model.now p.item p.value) seen.now.pairs }
+        ensures some { IfOk result (λ o. IfSome o (λ f. IsFirstOf (Fits model.now modes.now seen.now.pairs) f.state.modes f.world.values)) }
+        ensures none { IfOk result (λ o. IsNone o → NoneFits model.now modes.now seen.now.pairs) }
+    {
+        first_found(
+            alloc,
+            model,
+            &self.rules,
+            modes.as_slice(),
+            seen.pairs.as_slice(),
+        )
+    }
+
+    /// The first state in mode order that extends the modes and has a world in which the formula is false, with its
+    /// first such world in value order. None comes exactly where the formula follows from the modes. The error is out
+    /// of memory.
+    pub fn find_counter(
+        &self,
+        alloc: Global,
+        model: &Model,
+        modes: &Cube,
+        formula: &Formula,
+    ) -> Result<Option<Found>, AllocError>
+        requires of { AreWorldsOf model.now self.now }
+        requires modes { All (λ p. HasMode model.now p.item p.value) modes.now }
+        requires formula { IsTrue (is_within (length model.now.components) (length model.now.variables) formula.now) }
+        ensures some { IfOk result (λ o. IfSome o (λ f. IsFirstOf (Counters model.now modes.now formula.now) f.state.modes f.world.values)) }
+        ensures none { IfOk result (λ o. IsNone o → Follows model.now modes.now formula.now) }
+    {
+        let problem = denied_problem(alloc, model, &self.rules, formula)?;
+        first_found(alloc, model, &problem, modes.as_slice(), &[])
+    }
+}
