@@ -22,7 +22,7 @@ use Rattle.reversibility.specs.Parts.{CoversState}
 use Rattle.policy_tables.specs.Tables.{TableParts, IsTables}
 use Rattle.planner_step.specs.Planning.{member_of, IsGoal}
 use Rattle.plan_runner.specs.Walks.{Wants, WantsOnly, WantsNone, AreBackPairs}
-use Rattle.planner_step.proofs.Planning.{setting, stands_in, inside_mode}
+use Rattle.planner_step.proofs.Covered.{setting, stands_in, inside_mode}
 
 pub take_next : (xs : List ℕ) (i x : ℕ) → slice_get xs i ≡ Some x → take (i + 1) xs ≡ take i xs ++ x ∷ []
 take_next [] i x at = absurd (none_some x at)

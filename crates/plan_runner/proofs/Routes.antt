@@ -12,7 +12,7 @@ use Rattle.reversibility.specs.Parts.{CoversState}
 use Rattle.policy_tables.specs.Tables.{TableParts, IsTables}
 use Rattle.planner_step.specs.Planning.{member_of, IsGoal}
 use Rattle.plan_runner.specs.Walks.{IsWholePlan, IsWayBack}
-use Rattle.planner_step.proofs.Planning.{setting}
+use Rattle.planner_step.proofs.Covered.{setting}
 use Rattle.plan_runner.proofs.Walking.{some_plan}
 use Rattle.plan_runner.proofs.Backing.{some_goal, back_is_goal}
 

@@ -28,7 +28,7 @@ use Rattle.reversibility.specs.Parts.{CoversState}
 use Rattle.policy_tables.specs.Tables.{TableParts, IsTables}
 use Rattle.planner_step.specs.Planning.{cells_of, member_of}
 use Rattle.plan_runner.specs.Walks.{WholeTo, IsWholePlan}
-use Rattle.planner_step.proofs.Planning.{setting}
+use Rattle.planner_step.proofs.Covered.{setting}
 
 module _ (b : CompiledParts) (goal : List Pair) where
   pub whole_more : (s : List ℕ) (ks : List ℕ) (at next : List ℕ) (k : ℕ) → WholeTo b goal s ks at → (Extends at goal → ⊥) → PicksForGoal b at goal k → Step b.model at k next

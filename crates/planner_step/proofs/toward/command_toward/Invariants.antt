@@ -1,7 +1,9 @@
 use Rattle.std.proofs.Common.{◌≡◌, ◌+◌, ℕ}
 use Rattle.reach_laws.specs.Cells.{Finds}
-use Rattle.planner_step.specs.Planning.{cells_of, IsWantedPair, later}
-use Rattle.planner_step.proofs.planner.toward.Given as goal
+use Rattle.planner_step.specs.Planning.{cells_of}
+use Rattle.planner_step.specs.Toward.{IsWantedPair}
+use Rattle.planner_step.proofs.Later.{later}
+use Rattle.planner_step.proofs.toward.command_toward.Given as goal
 
 abbrev pub invariant-toward : goal.invariant-toward
 invariant-toward g l = IsWantedPair l.tables l.state.modes l.at

@@ -1,8 +1,9 @@
 use Rattle.std.proofs.Common.{◌≡◌, ◌+◌, suc, subst, arith}
 use Rattle.reach_laws.specs.Cells.{Finds}
-use Rattle.planner_step.specs.Planning.{cells_of, GoesOn}
-use Rattle.planner_step.proofs.Planning.{nearer_end}
-use Rattle.planner_step.proofs.planner.toward.Goals as goal
+use Rattle.planner_step.specs.Planning.{cells_of}
+use Rattle.planner_step.specs.Toward.{GoesOn}
+use Rattle.planner_step.proofs.Stepping.{nearer_end}
+use Rattle.planner_step.proofs.toward.command_toward.Goals as goal
 
 pub toward-init : goal.toward-init
 toward-init g c = (

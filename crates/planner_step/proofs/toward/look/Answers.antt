@@ -1,8 +1,9 @@
 use Rattle.std.proofs.Common.{sym, subst, ◌<◌, length, All}
 use Rattle.cca_base.specs.State.{Extends}
 use Rattle.cca_base.specs.Orders.{IsFirstMissing}
-use Rattle.planner_step.proofs.Planning.{inside_place, inside_mode, mode_here, stands_in, cube_within, finds_now, goes_on}
-use Rattle.planner_step.proofs.planner.look.Goals as goal
+use Rattle.planner_step.proofs.Covered.{inside_place, inside_mode, mode_here, stands_in}
+use Rattle.planner_step.proofs.Stepping.{cube_within, finds_now, goes_on}
+use Rattle.planner_step.proofs.toward.look.Goals as goal
 
 pub get-mode-requires : goal.get-mode-requires
 get-mode-requires g c =
