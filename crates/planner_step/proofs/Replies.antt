@@ -118,7 +118,7 @@ module _ (t : TableParts) (is : IsTables t) (s : List ℕ) (cov : CoversState t.
   held_reached held = all_from (λ p. Reach b.model s p.item p.value) goal (λ p among.
       reach_from t is s cov p (inl (All-contains (λ q. slice_get s q.item ≡ Some q.value) goal p held among)))
 
-  inside_reached : AreInside (member_of t) goal → AreReached b.model s goal
+  pub inside_reached : AreInside (member_of t) goal → AreReached b.model s goal
   inside_reached inside = all_from (λ p. Reach b.model s p.item p.value) goal (λ p among.
       reach_from t is s cov p (inr (All-contains (λ q. member_of t q.item q.value ≡ true) goal p inside among)))
 
