@@ -43,3 +43,7 @@ module _ (moves : List Move) (fit : RepairsFit moves) where
       along zero e = absurd (both_ways (is_broken moves c b) h.sound (subst (λ x. is_broken moves c x ≡ true) e h.broken))
       along (suc zero) p = subst (IsNext moves c a) p.2 p.1
       along (suc (suc n)) p = absurd (both_ways (is_broken moves c p.0) (next_sound c a p.0 p.1) (next_broken moves c p.0 p.2.0 p.2.1))
+
+  -- a mode has one mended mode
+  pub one_mended : (c mode a b : ℕ) → IsMended moves c mode a → IsMended moves c mode b → a ≡ b
+  one_mended c mode a b h k = fit.one_target c mode a b (next_of_mended c mode a h) (next_of_mended c mode b k)

@@ -1,3 +1,6 @@
-pub mod Walking
-pub mod Backing
-pub mod Routes
+pub mod Growing
+pub mod StepMoves
+pub mod Stuck
+pub mod Along
+pub mod GoingBack
+pub mod ThereAndBack

@@ -1,1 +1,3 @@
-pub mod Walks
+pub mod Plans
+pub mod Walked
+pub mod WaysBack

@@ -1,6 +1,13 @@
 //! Whole plans, and the ways back.
 #![tactic(auto)]
 
-mod runner;
+mod back;
+mod goal_back;
+mod route;
+mod step;
+mod walked;
+mod whole;
 
-pub use runner::{route_of, way_back, whole_plan};
+pub use back::way_back;
+pub use route::route_of;
+pub use whole::whole_plan;

@@ -1,5 +1,5 @@
 -- How far components stand from the end of an order.
-use Rattle.std.proofs.Common.{◌≡◌, ◌<◌, ◌≤◌, ◌==◌, ℕ, List, [], ◌∷◌, length, sym, ap, subst, inl, inr, arith}
+use Rattle.std.proofs.Common.{◌≡◌, ◌<◌, ◌≤◌, ◌==◌, ℕ, cond, List, [], ◌∷◌, length, sym, ap, subst, inl, inr, arith}
 use Rattle.std.proofs.lemmas.Bool.{cases_eq, cond-true, cond-false, eq-eqb, ne_eqb}
 use Rattle.cca_base.specs.declared.cube.Pair.{Pair}
 use Rattle.cca_base.specs.Automata.{Automata}
@@ -7,7 +7,11 @@ use Rattle.cca_base.specs.Implicants.{Needs}
 use Rattle.cca_base.specs.Orders.{AreInOrder}
 use Rattle.reach_laws.proofs.Order.{Among, AreEffectsFirst}
 use Rattle.reach_laws.proofs.Needed.{needed_among}
-use Rattle.planner_step.specs.Planning.{later}
+
+-- how many components stand after c in the order
+abbrev pub later : List ℕ → ℕ → ℕ
+later [] c = 0
+later (d ∷ order) c = cond (d == c) (length order) (later order c)
 
 later_here : (d : ℕ) (order : List ℕ) (c : ℕ) → c ≡ d → later (d ∷ order) c ≡ length order
 later_here d order c e = cond-true (d == c) (length order) (later order c) (eq-eqb d c (sym e))

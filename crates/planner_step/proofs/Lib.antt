@@ -1,2 +1,4 @@
 pub mod Later
-pub mod Planning
+pub mod Covered
+pub mod Stepping
+pub mod Replies

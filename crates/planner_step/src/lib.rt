@@ -1,6 +1,11 @@
 //! The one command that is sent for a goal, found by tables alone.
 #![tactic(auto)]
 
-mod planner;
+mod answer;
+mod missing;
+mod next;
+mod reached;
+mod toward;
 
-pub use planner::{Answer, next_command};
+pub use answer::Answer;
+pub use next::next_command;

@@ -1,0 +1,54 @@
+use Rattle.std.proofs.Common.{ℕ, ap, subst, sym, arith, All, length, ◌<◌, List}
+use Rattle.cca_base.specs.declared.cube.Pair.{Pair}
+use Rattle.cca_base.specs.Goals.{IsFirstUnreached}
+use Rattle.cca_base.specs.Orders.{IsFirstMissing}
+use Rattle.planner_step.specs.Planning.{AreReached}
+use Rattle.planner_step.specs.Toward.{IsWantedPair}
+use Rattle.planner_step.proofs.Replies.{goal_within, goal_few, unreached_answer, first_wanted, send_answer, found_few}
+use Rattle.planner_step.proofs.next.answer_by_rule.Goals as goal
+
+pub first_unreached-requires-clause-within : goal.first_unreached-requires-clause-within
+first_unreached-requires-clause-within g c = subst (All (λ p. p.item < length c.args.state.now.modes)) (sym c.as_slice-pairs.ensures)
+    (goal_within c.args.tables.now c.classes-classes.ensures.tables c.args.state.now.modes c.requires.covers c.args.goal.now.pairs c.requires.goal)
+
+pub returns-in-Some-clause-rule : goal.returns-in-Some-clause-rule
+returns-in-Some-clause-rule g c =
+    unreached_answer c.args.tables.now c.classes-classes.ensures.tables c.args.state.now.modes c.requires.covers c.args.goal.now.pairs c.requires.goal c.in-Some.pair
+    (subst (λ l. IsFirstUnreached c.args.tables.now.classes.compiled.model c.args.state.now.modes l c.in-Some.pair) c.as_slice-pairs.ensures c.in-Some.ensures.value)
+
+pub returns-in-Some-clause-steps : goal.returns-in-Some-clause-steps
+returns-in-Some-clause-steps g c =
+    let few = goal_few c.args.tables.now c.classes-classes.ensures.tables c.args.state.now.modes c.requires.covers c.args.goal.now.pairs c.requires.goal in
+    omega (arith, few, c.in-Some.ensures.steps, ap length c.as_slice-pairs.ensures)
+
+pub command_toward-requires-clause-wanted : goal.command_toward-requires-clause-wanted
+command_toward-requires-clause-wanted g c =
+    first_wanted c.args.tables.now c.classes-classes.ensures.tables c.args.state.now.modes c.requires.covers c.args.goal.now.pairs c.requires.goal
+    (subst (AreReached c.args.tables.now.classes.compiled.model c.args.state.now.modes) c.as_slice-pairs.ensures c.in_default.ensures.value)
+    c.in-Some-first_missing.pair
+    (subst (λ l. IsFirstMissing c.args.state.now.modes l c.in-Some-first_missing.pair) c.as_slice-pairs.ensures c.in-Some-first_missing.ensures)
+
+pub returns-in-None-clause-steps : goal.returns-in-None-clause-steps
+returns-in-None-clause-steps g c =
+    let few = goal_few c.args.tables.now c.classes-classes.ensures.tables c.args.state.now.modes c.requires.covers c.args.goal.now.pairs c.requires.goal in
+    omega (arith, few, c.in_default.ensures.steps, ap length c.as_slice-pairs.ensures)
+
+pub returns-in-Some-first_missing-clause-rule : goal.returns-in-Some-first_missing-clause-rule
+returns-in-Some-first_missing-clause-rule g c =
+    send_answer c.args.tables.now c.classes-classes.ensures.tables c.args.state.now.modes c.requires.covers c.args.goal.now.pairs c.requires.goal
+    (subst (AreReached c.args.tables.now.classes.compiled.model c.args.state.now.modes) c.as_slice-pairs.ensures c.in_default.ensures.value)
+    c.in-Some-first_missing.pair
+    (subst (λ l. IsFirstMissing c.args.state.now.modes l c.in-Some-first_missing.pair) c.as_slice-pairs.ensures c.in-Some-first_missing.ensures)
+    c.command_toward.result c.command_toward.ensures.0 c.command_toward.ensures.1
+
+pub returns-in-Some-first_missing-clause-steps : goal.returns-in-Some-first_missing-clause-steps
+returns-in-Some-first_missing-clause-steps g c =
+    let s : List ℕ = c.args.state.now.modes in
+    let p : Pair = c.in-Some-first_missing.pair in
+    let few = goal_few c.args.tables.now c.classes-classes.ensures.tables s c.requires.covers c.args.goal.now.pairs c.requires.goal in
+    let wanted : IsWantedPair c.args.tables.now s p =
+    first_wanted c.args.tables.now c.classes-classes.ensures.tables s c.requires.covers c.args.goal.now.pairs c.requires.goal
+    (subst (AreReached c.args.tables.now.classes.compiled.model s) c.as_slice-pairs.ensures c.in_default.ensures.value)
+    p (subst (λ l. IsFirstMissing s l p) c.as_slice-pairs.ensures c.in-Some-first_missing.ensures) in
+    let looked = found_few c.args.tables.now c.classes-classes.ensures.tables s c.requires.covers c.args.goal.now.pairs c.requires.goal c.command_toward.result c.command_toward.ensures.0 p wanted c.command_toward.ensures.1 in
+    omega (arith, few, looked, c.command_toward.ensures.2, c.in_default.ensures.steps, ap length c.as_slice-pairs.ensures)
