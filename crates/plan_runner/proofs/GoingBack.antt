@@ -12,7 +12,7 @@ use Rattle.cca_base.specs.Plans.{IsWanted, IsBackGoal}
 use Rattle.cca_base.proofs.Members.{all_from, some_inj, none_some, contains_here, contains_there, contains_none}
 use Rattle.reach_laws.specs.Classes.{AreInside}
 use Rattle.reach_laws.proofs.Facts.{get_at}
-use Rattle.reach_laws.proofs.Order.{Among, IsOrder, order_from}
+use Rattle.reach_laws.proofs.Order.{Among, IsOrder, repair_rules, order_from}
 use Rattle.reach_laws.proofs.Trails.{among_from}
 use Rattle.reach_laws.proofs.Walk.{member_sound}
 use Rattle.reach_laws.proofs.Answered.{way_back}
@@ -199,6 +199,6 @@ module _ (t : TableParts) (is : IsTables t) (s : List ℕ) (cov : CoversState t.
           in_order = back.in_order;
           modes = all_from (λ p. HasMode b.model p.item p.value) ps (λ p among. inside_mode t is s cov p.item p.value (each p among));
           sound = all_from (λ p. is_broken b.model.moves p.item p.value ≡ false) ps (λ p among.
-              member_sound b.model t.classes.base (member_of t) rules is.classes.classes p.item p.value (each p among));
+              member_sound b.model t.classes.base (member_of t) (repair_rules b.model is.classes.compiled.accepted.well_formed) is.classes.classes p.item p.value (each p among));
         },
       )
