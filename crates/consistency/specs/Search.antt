@@ -152,6 +152,20 @@ abbrev pub IsClashOfMore : List Clause → List Domain → ℕ → ℕ → Optio
 IsClashOfMore clauses domains subject value None = Unit {0}
 IsClashOfMore clauses domains subject value (Some reasons) = RefutesMore clauses domains subject value reasons
 
+-- what is known stays known where these sets are assumed
+abbrev pub KeepsAssumed : List ℕ → List Domain → List Domain → Type 0
+KeepsAssumed base old new = (chosen xs : List ℕ) → Knows (record { base = base; chosen = chosen }) old xs → Knows (record { base = base; chosen = chosen }) new xs
+
+-- the same of values that meet the clauses
+abbrev pub KeepsAllAssumed : List Clause → List ℕ → List Domain → List Domain → Type 0
+KeepsAllAssumed clauses base old new = (chosen xs : List ℕ) → AllMet xs clauses → Knows (record { base = base; chosen = chosen }) old xs → Knows (record { base = base; chosen = chosen }) new xs
+
+-- subjects that are to blame where these sets are assumed, if there are some
+abbrev pub IsClashOfAssumed : List Clause → List ℕ → List Domain → Option SubjectSet → Type 0
+IsClashOfAssumed clauses base domains None = Unit {0}
+IsClashOfAssumed clauses base domains (Some reasons) =
+    (chosen xs : List ℕ) → AllMet xs clauses → Knows (record { base = base; chosen = chosen }) domains xs → Agrees (record { base = base; chosen = chosen }) reasons xs → ⊥
+
 -- ---- values that all solutions have
 
 -- every solution has the pair's value at the pair's subject, counted from the first one's number

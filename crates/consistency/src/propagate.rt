@@ -1,12 +1,14 @@
-ghost use Rattle.std.specs.Prelude.{◌<◌, length, IfOk, OnOk};
+//! Unit propagation: a clause of which one literal alone can still be true narrows the domain of that literal's subject.
+
+ghost use Rattle.std.specs.Prelude.{◌≡◌, ◌<◌, ◌≤◌, length, IfOk, OnOk};
 ghost use Rattle.cca_base.specs.declared.limits.TheConstants.{MAX_CHOICES};
 ghost use Rattle.clause_form.specs.Clauses.{AllBelow};
 ghost use Rattle.consistency.specs.declared.subjects.TheConstants.{MAX_SUBJECTS};
-ghost use Rattle.consistency.specs.Search.{KeepsAll, IsClashOfAll, Chooses, KeepsMore, IsClashOfMore};
+ghost use Rattle.consistency.specs.Search.{KeepsAll, IsClashOfAll, KeepsAssumed, KeepsAllAssumed, IsClashOfAssumed, Chooses, KeepsMore, IsClashOfMore};
 
 use crate::domain::Domain;
 use crate::problem::Problem;
-use crate::subjects::{SubjectSet, no_subject, with_subject};
+use crate::subjects::{SubjectSet, no_subject, union, with_subject};
 use crate::visit::{Visit, look_at};
 use cca_base::ValueSet;
 use clause_form::Clause;
@@ -79,21 +81,54 @@ fn settle(
     Ok(None)
 }
 
-/// Looks at every clause, and then at those of what has changed, until nothing changes.
-pub fn settle_all(
+/// Leaves the subject the values that are assumed of it, for the reason that they are, and notes it if it has fewer.
+fn assume(
+    base: &[ValueSet],
+    domains: &mut [Domain],
+    changed: &mut Vec<u16>,
+    subject: u16,
+) -> Result<(), AllocError>
+    requires subject { subject < length domains.old }
+    requires assumed { subject < length base.now }
+    requires small { subject < MAX_SUBJECTS }
+    ensures { OnOk result (KeepsAssumed base.now domains.old domains.new) }
+{
+    let before = domains[subject as usize];
+    let values = before.values.common(base[subject as usize]);
+    if values != before.values {
+        let because = with_subject(&no_subject(), subject);
+        let why = union(&before.why, &because);
+        domains[subject as usize] = Domain { values, why };
+        changed.push(subject)?;
+    }
+    Ok(())
+}
+
+/// Assumes the sets of the subjects, from the last one to the first, and narrows the domains after each. So a clash blames
+/// late components where it can, and those are the pairs of a state that a conflict keeps.
+pub fn assume_all(
     alloc: Global,
     problem: &Problem,
+    base: &[ValueSet],
     domains: &mut [Domain],
 ) -> Result<Option<SubjectSet>, AllocError>
-    requires { AllBelow (length domains.old) problem.now.clauses }
-    ensures keeps { OnOk result (KeepsAll problem.now.clauses domains.old domains.new) }
-    ensures clash { IfOk result (IsClashOfAll problem.now.clauses domains.old) }
+    requires within { AllBelow (length domains.old) problem.now.clauses }
+    requires full { length domains.old ≡ length base.now }
+    requires small { length base.now ≤ MAX_SUBJECTS }
+    ensures keeps { OnOk result (KeepsAllAssumed problem.now.clauses base.now domains.old domains.new) }
+    ensures clash { IfOk result (IsClashOfAssumed problem.now.clauses base.now domains.old) }
 {
     let mut changed = Vec::new(alloc);
-    match visit_all(problem.clauses.as_slice(), domains, &mut changed)? {
-        Some(because) => Ok(Some(because)),
-        None => settle(problem, domains, &mut changed),
+    if let Some(because) = visit_all(problem.clauses.as_slice(), domains, &mut changed)? {
+        return Ok(Some(because));
     }
+    for subject in (0..base.len() as u16).rev() {
+        assume(base, domains, &mut changed, subject)?;
+        if let Some(because) = settle(problem, domains, &mut changed)? {
+            return Ok(Some(because));
+        }
+    }
+    Ok(None)
 }
 
 /// Gives the subject the value, whose reason is the subject itself.

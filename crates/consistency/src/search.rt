@@ -1,18 +1,17 @@
 //! Search for the first solution by conflict-directed backjumping: unit propagation after each choice, and each clash names
 //! the chosen subjects that are to blame, so that choices which have nothing to do with it are passed by.
 
-ghost use Rattle.std.specs.Prelude.{◌≡◌, ◌++◌, ◌∷◌, [], ◌<◌, ◌≤◌, true, length, ℕ, List, IfOk, IfSome, IsNone, slice_index};
+ghost use Rattle.std.specs.Prelude.{◌≡◌, ◌++◌, ◌∷◌, [], ◌<◌, ◌≤◌, true, length, ℕ, List, IfOk, IfSome, IsNone, slice_index, nat_lt};
 ghost use Rattle.cca_base.specs.declared.limits.TheConstants.{MAX_CHOICES};
-ghost use Rattle.consistency.specs.Search.{IsSolution, IsFirst, KnowsAll, IsOutcome, values_at, why_at};
-ghost use Rattle.consistency.specs.Subjects.{is_in};
-ghost use Rattle.consistency.specs.declared.subjects.TheConstants.{MAX_SUBJECTS};
+ghost use Rattle.consistency.specs.Search.{IsSolution, IsFirst, KnowsAll, IsOutcome, values_at};
+ghost use Rattle.cca_base.specs.Sets.{has};
 ghost use Rattle.consistency.specs.Problem.{IsProblem};
 
 use crate::domain::Domain;
 use crate::problem::Problem;
-use crate::propagate::{extend, settle_all};
+use crate::propagate::{assume_all, extend};
 use crate::solution::is_solution;
-use crate::subjects::{SubjectSet, all_subjects, has_subject, no_subject, union, with_subject};
+use crate::subjects::{SubjectSet, all_subjects, has_subject, no_subject, union};
 use cca_base::{List, MAX_CHOICES, ValueSet};
 use std::alloc::{AllocError, Global};
 
@@ -94,18 +93,16 @@ fn attempt(
     }
 }
 
-/// What each subject may be before anything is chosen, for the reason that it is assumed of the subject itself.
-fn whole_domains(alloc: Global, base: &[ValueSet]) -> Result<Vec<Domain>, AllocError>
-    requires { length base.now ≤ MAX_SUBJECTS }
-    ensures full { IfOk result (λ r. length r.items ≡ length base.now) }
-    ensures values { IfOk result (λ r. (d : ℕ) → d < length base.now → values_at r.items d ≡ slice_index base.now d) }
-    ensures why { IfOk result (λ r. (d : ℕ) → d < length base.now → is_in (why_at r.items d) d ≡ true) }
+/// All small values for each of so many subjects, before anything is assumed.
+fn whole_domains(alloc: Global, subjects: usize) -> Result<Vec<Domain>, AllocError>
+    ensures full { IfOk result (λ r. length r.items ≡ subjects) }
+    ensures values { IfOk result (λ r. (d v : ℕ) → d < subjects → has (values_at r.items d) v ≡ nat_lt v MAX_CHOICES) }
 {
     let mut domains = Vec::new(alloc);
-    for (at, values) in base.iter().enumerate() {
+    for _ in 0..subjects {
         domains.push(Domain {
-            values: *values,
-            why: with_subject(&no_subject(), at as u16),
+            values: ValueSet::full(MAX_CHOICES as u8),
+            why: no_subject(),
         })?;
     }
     Ok(domains)
@@ -117,8 +114,8 @@ pub fn solve(alloc: Global, problem: &Problem, base: &[ValueSet]) -> Result<Outc
     requires { IsProblem problem.now.clauses base.now }
     ensures { IfOk result (IsOutcome problem.now.clauses base.now []) }
 {
-    let mut domains = whole_domains(alloc, base)?;
-    if let Some(because) = settle_all(alloc, problem, &mut domains)? {
+    let mut domains = whole_domains(alloc, base.len())?;
+    if let Some(because) = assume_all(alloc, problem, base, &mut domains)? {
         return Ok(Outcome::Clash(because));
     }
     let prefix = List::new(alloc);
