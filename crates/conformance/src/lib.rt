@@ -5,6 +5,8 @@
 #[cfg(test)]
 mod answers;
 #[cfg(test)]
+mod backbones;
+#[cfg(test)]
 mod calls;
 #[cfg(test)]
 mod compiled;

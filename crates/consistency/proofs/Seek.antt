@@ -1,6 +1,7 @@
 -- What a search knows, one value at a time.
 use Rattle.std.proofs.Common.{take, ◌≡◌, inl, inr, ℕ, ◌+◌, ◌<◌, ◌≤◌, ◌||◌, ◌==◌, true, false, List, [], ◌∷◌, ◌++◌, length, slice_index, slice_index_or, slice_set, sym, ap, subst, ◌∙◌, refl, arith, get_or-set_same, get_or-set_other, length-set, length-append, eq-eqb}
-use Rattle.std.proofs.lemmas.Bool.{cases_eq, cases_order, true≢false}
+use Rattle.std.specs.Prelude.{nat_lt}
+use Rattle.std.proofs.lemmas.Bool.{lt-ltb, cases_eq, cases_order, true≢false}
 use Rattle.std.proofs.lemmas.List.{get_or_append_left, ext_get_or}
 use Rattle.std.proofs.Math.Seq.{get_or-append_seam, take-append_seam}
 use Rattle.cca_base.specs.Sets.{has}
@@ -137,6 +138,13 @@ pub whole_clash : (clauses : List Clause) (base prefix : List ℕ) (all : Subjec
 whole_clash clauses base prefix all full small every wrong xs h agrees =
     let same : prefix ≡ xs = same_list base prefix xs full h.full (λ d n. (agrees d (every d (omega arith))).1 n) in
     wrong (subst (IsSolution clauses base) (sym same) (record { full = h.full; within = λ d n. (agrees d (every d (omega arith))).0 n; met = h.met }))
+
+-- at first what is known is that values are small
+pub start : (clauses : List Clause) (a : Assumed) (n : ℕ) (made domains : List Domain) (xs : List ℕ) → domains ≡ made → length made ≡ n → ((d v : ℕ) → d < n → has (values_at made d) v ≡ nat_lt v MAX_CHOICES)
+    → AreMet clauses n xs → Knows a domains xs
+start clauses a n made domains xs same full values h d k agrees =
+    let inside : d < n = omega (arith, ap (λ (ds : List Domain). length ds) same) in
+    ap (λ (ds : List Domain). has (values_at ds d) (slice_index xs d)) same ∙ (values d (slice_index xs d) inside ∙ lt-ltb (slice_index xs d) MAX_CHOICES (h.small d inside))
 
 -- what a call wrote into a vector's slice
 pub written : {X : Type 0} (n : ℕ) (now fresh rest : List X) → now ≡ take n (fresh ++ rest) → n ≡ length fresh → now ≡ fresh

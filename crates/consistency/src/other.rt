@@ -4,8 +4,9 @@ ghost use Rattle.std.specs.Prelude.{◌≡◌, ◌≢◌, ◌==◌, ◌&&◌, �
 ghost use Rattle.cca_base.specs.declared.limits.TheConstants.{MAX_CHOICES};
 ghost use Rattle.cca_base.specs.Sets.{has};
 ghost use Rattle.consistency.specs.Problem.{IsProblem};
-ghost use Rattle.consistency.specs.Search.{IsSolution};
+ghost use Rattle.consistency.specs.Search.{IsSolution, AreBounds};
 
+use crate::domain::Domain;
 use crate::problem::Problem;
 use crate::search::first_solution;
 use cca_base::{MAX_CHOICES, ValueSet};
@@ -42,7 +43,7 @@ fn excluded(
 }
 
 /// Whether some solution has another value at the subject: a search with the value excluded.
-pub fn has_other(
+fn has_other(
     alloc: Global,
     problem: &Problem,
     base: &[ValueSet],
@@ -59,4 +60,27 @@ pub fn has_other(
         Some(_) => Ok(true),
         None => Ok(false),
     }
+}
+
+/// Whether every solution has the value at the subject: propagation leaves no other, or no search finds one.
+pub fn is_forced(
+    alloc: Global,
+    problem: &Problem,
+    base: &[ValueSet],
+    domains: &[Domain],
+    subject: usize,
+    value: u8,
+) -> Result<bool, AllocError>
+    requires proper { IsProblem problem.now.clauses base.now }
+    requires bounds { AreBounds problem.now.clauses base.now domains.now }
+    requires subject { subject < length base.now }
+    requires small { value < MAX_CHOICES }
+    ensures yes { IfOk result (λ b. b ≡ true → (xs : List ℕ) → IsSolution problem.now.clauses base.now xs → slice_index xs subject ≡ value) }
+    ensures no { IfOk result (λ b. b ≡ false → (xs : List ℕ) × IsSolution problem.now.clauses base.now xs × (slice_index xs subject ≢ value)) }
+{
+    if domains[subject].values == ValueSet::empty().with(value) {
+        return Ok(true);
+    }
+    let other = has_other(alloc, problem, base, subject, value)?;
+    Ok(!other)
 }

@@ -1,21 +1,9 @@
-use Rattle.std.proofs.Common.{◌≡◌, ℕ, ◌<◌, ◌∙◌, List, [], length, arith, slice_index, sym, ap, subst}
-use Rattle.std.specs.Prelude.{nat_lt}
-use Rattle.std.proofs.lemmas.Bool.{lt-ltb}
-use Rattle.cca_base.specs.Sets.{has}
-use Rattle.cca_base.specs.declared.limits.TheConstants.{MAX_CHOICES}
+use Rattle.std.proofs.Common.{◌≡◌, ℕ, ◌∙◌, List, [], length, arith, sym, ap, subst}
 use Rattle.clause_form.specs.Clauses.{AllBelow}
-use Rattle.clause_form.specs.declared.clause.Clause.{Clause}
 use Rattle.consistency.specs.declared.domain.Domain.{Domain}
-use Rattle.consistency.specs.Search.{AreMet, Assumed, Knows, IsClashOfAssumed, values_at}
-use Rattle.consistency.proofs.Seek.{written}
+use Rattle.consistency.specs.Search.{Knows, IsClashOfAssumed}
+use Rattle.consistency.proofs.Seek.{written, start}
 use Rattle.consistency.proofs.search.solve.Goals as goal
-
--- at first what is known is that values are small
-start : (clauses : List Clause) (a : Assumed) (n : ℕ) (made domains : List Domain) (xs : List ℕ) → domains ≡ made → length made ≡ n → ((d v : ℕ) → d < n → has (values_at made d) v ≡ nat_lt v MAX_CHOICES)
-    → AreMet clauses n xs → Knows a domains xs
-start clauses a n made domains xs same full values h d k agrees =
-    let inside : d < n = omega (arith, ap (λ (ds : List Domain). length ds) same) in
-    ap (λ (ds : List Domain). has (values_at ds d) (slice_index xs d)) same ∙ (values d (slice_index xs d) inside ∙ lt-ltb (slice_index xs d) MAX_CHOICES (h.small d inside))
 
 pub assume_all-requires-clause-within : goal.assume_all-requires-clause-within
 assume_all-requires-clause-within c =
