@@ -15,6 +15,8 @@ mod conflicts;
 #[cfg(test)]
 mod documented;
 #[cfg(test)]
+mod estimates;
+#[cfg(test)]
 mod first_path;
 #[cfg(test)]
 mod goals;
