@@ -3,12 +3,13 @@
 
 ghost use Rattle.std.specs.Prelude.{◌≡◌, [], None, IfOk, All, ℕ, List};
 ghost use Rattle.cca_base.specs.State.{HasValue, IsState};
+ghost use Rattle.consistency.specs.Worlds.{AreWorldsOf};
 ghost use Rattle.cost_search.specs.Search.{IsChosen};
 ghost use Rattle.mode_estimator.specs.First.{IsFirstShown};
 
 use crate::answer::Estimate;
 use cca_base::{Model, Seen};
-use consistency::conflict;
+use consistency::Worlds;
 use cost_search::Search;
 use std::alloc::{AllocError, Global};
 
@@ -16,9 +17,11 @@ use std::alloc::{AllocError, Global};
 pub fn first_shown(
     alloc: Global,
     model: &Model,
+    worlds: &Worlds,
     mut states: Search,
     seen: &Seen,
 ) -> Result<Estimate, AllocError>
+    requires worlds { AreWorldsOf model.now worlds.now }
     requires seen { All (λ p. HasValue model.now p.item p.value) seen.now.pairs }
     requires chosen { (s : List ℕ) (cost : ℕ) → IsChosen states.rows s cost → IsState model.now s }
     requires last { states.last ≡ None }
@@ -26,7 +29,7 @@ pub fn first_shown(
     ensures { IfOk result (IsFirstShown model.now states.rows seen.now.pairs) }
 {
     while let Some(costed) = states.next()? {
-        match conflict(alloc, model, &costed.state, seen)? {
+        match worlds.conflict(alloc, model, &costed.state, seen)? {
             None => {
                 return Ok(Estimate::Found {
                     state: costed.state,

@@ -2,17 +2,39 @@
 
 ghost use Rattle.std.specs.Prelude.{IfOk, All};
 ghost use Rattle.cca_base.specs.State.{HasValue, IsState};
+ghost use Rattle.consistency.specs.Worlds.{AreWorldsOf};
 ghost use Rattle.mode_estimator.specs.Estimated.{IsEstimate};
 
 use crate::answer::Estimate;
 use crate::first::first_shown;
 use cca_base::{Compiled, Seen, State};
+use consistency::Worlds;
 use cost_search::Search;
 use std::alloc::{AllocError, Global};
 use successors::choices;
 
-/// The state of least cost that has a world agreeing with what is seen, the first in mode order among equals. The error
-/// is out of memory.
+/// The state of least cost that has a world agreeing with what is seen, the first in mode order among equals, by the
+/// clauses of the model's rules, which are made once for many ticks. The error is out of memory.
+pub fn estimate_by(
+    alloc: Global,
+    compiled: &Compiled,
+    worlds: &Worlds,
+    state: &State,
+    command: Option<u16>,
+    seen: &Seen,
+) -> Result<Estimate, AllocError>
+    requires worlds { AreWorldsOf compiled.now.model worlds.now }
+    requires state { IsState compiled.now.model state.now.modes }
+    requires seen { All (λ p. HasValue compiled.now.model p.item p.value) seen.now.pairs }
+    ensures { IfOk result (IsEstimate compiled.now.model state.now.modes command seen.now.pairs) }
+{
+    let model = compiled.model();
+    let rows = choices(alloc, compiled, state, command)?;
+    let states = Search::of(alloc, rows)?;
+    first_shown(alloc, model, worlds, states, seen)
+}
+
+/// The same for one tick alone.
 pub fn estimate(
     alloc: Global,
     compiled: &Compiled,
@@ -24,8 +46,6 @@ pub fn estimate(
     requires seen { All (λ p. HasValue compiled.now.model p.item p.value) seen.now.pairs }
     ensures { IfOk result (IsEstimate compiled.now.model state.now.modes command seen.now.pairs) }
 {
-    let model = compiled.model();
-    let rows = choices(alloc, compiled, state, command)?;
-    let states = Search::of(alloc, rows)?;
-    first_shown(alloc, model, states, seen)
+    let worlds = Worlds::of(alloc, compiled.model())?;
+    estimate_by(alloc, compiled, &worlds, state, command, seen)
 }

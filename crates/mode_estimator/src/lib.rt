@@ -7,4 +7,4 @@ mod first;
 mod least;
 
 pub use answer::Estimate;
-pub use least::estimate;
+pub use least::{estimate, estimate_by};

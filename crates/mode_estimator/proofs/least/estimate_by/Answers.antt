@@ -7,7 +7,7 @@ use Rattle.cost_search.specs.Search.{IsChosen, Searched}
 use Rattle.mode_estimator.specs.First.{IsFirstShown}
 use Rattle.mode_estimator.specs.Estimated.{IsEstimate}
 use Rattle.mode_estimator.proofs.Chosen.{chosen_state, estimated}
-use Rattle.mode_estimator.proofs.least.estimate.Goals as goal
+use Rattle.mode_estimator.proofs.least.estimate_by.Goals as goal
 
 pub first_shown-requires-clause-chosen : goal.first_shown-requires-clause-chosen
 first_shown-requires-clause-chosen c t cost h =
