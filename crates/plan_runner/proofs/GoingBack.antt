@@ -1,6 +1,7 @@
 -- Where components go back to.
-use Rattle.std.proofs.Common.{◌≡◌, ◌<◌, ◌↔◌, ◌+◌, ◌⊎◌, ℕ, zero, suc, true, false, List, [], ◌∷◌, ◌++◌, length, slice_get, slice_index, take, Some, Contains, refl, sym, ap, subst, ◌∙◌, inl, inr, arith, append_assoc, append-nil}
+use Rattle.std.proofs.Common.{◌≡◌, ◌<◌, ◌≤◌, ◌↔◌, ◌+◌, ◌⊎◌, ℕ, zero, suc, true, false, List, [], ◌∷◌, ◌++◌, length, slice_get, slice_index, take, Some, Contains, refl, sym, ap, subst, ◌∙◌, inl, inr, arith, append_assoc, append-nil}
 use Rattle.std.proofs.lemmas.Bool.{cases_Bool, both_ways}
+use Rattle.std.proofs.lemmas.List.{take_all}
 use Rattle.std.proofs.lemmas.Option.{slice_get_within, get_or_from_slice_get}
 use Rattle.std.proofs.lemmas.List.Elements.{All-contains, Contains-append_left, Contains-push, Contains-push_cases}
 use Rattle.cca_base.specs.declared.cube.Pair.{Pair}
@@ -16,7 +17,7 @@ use Rattle.reach_laws.proofs.Order.{Among, IsOrder, repair_rules, order_from}
 use Rattle.reach_laws.proofs.Trails.{among_from}
 use Rattle.reach_laws.proofs.Walk.{member_sound}
 use Rattle.reach_laws.proofs.Answered.{way_back}
-use Rattle.reversibility.specs.Parts.{CoversState}
+use Rattle.reversibility.specs.Parts.{ClassParts, CoversState}
 use Rattle.policy_tables.specs.Tables.{TableParts, IsTables}
 use Rattle.planner_step.specs.Planning.{member_of, IsGoal}
 use Rattle.planner_step.proofs.Covered.{setting, inside_mode}
@@ -30,6 +31,10 @@ take_next (y ∷ xs) zero x at = ap (λ z. z ∷ []) (some_inj y x at)
 take_next (y ∷ xs) (suc i) x at =
     let e : suc i + 1 ≡ suc (i + 1) = omega arith in
     subst (λ n. take n (y ∷ xs) ≡ take (suc i) (y ∷ xs) ++ x ∷ []) (sym e) (ap (λ l. y ∷ l) (take_next xs i x at))
+
+-- what was taken of the whole order is all
+pub taken_whole : (c : ClassParts) (s order : List ℕ) (i : ℕ) (ps : List Pair) → length order ≤ i → AreBackPairs c s (take i order) ps → AreBackPairs c s order ps
+taken_whole c s order i ps past h = subst (λ l. AreBackPairs c s l ps) (take_all i order past) h
 
 module _ (t : TableParts) (is : IsTables t) (s : List ℕ) (cov : CoversState t.classes s) where
   abbrev b : CompiledParts

@@ -30,6 +30,7 @@ fn mode_back(tables: &Tables, to: &State, c: u16) -> Option<u8>
 
 /// The goal of the way back to where a state stands: the modes that are not broken, and the mended modes of what is
 /// mendable.
+#[tactic(auto, using(crate::proofs::GoingBack::taken_whole))]
 pub(crate) fn back_goal(alloc: Global, tables: &Tables, to: &State) -> Result<Goal, AllocError>
     requires { CoversState tables.now.classes to.now.modes }
     ensures { IfOk result (λ g. AreBackPairs tables.now.classes to.now.modes tables.now.classes.compiled.order g.pairs) }

@@ -38,7 +38,10 @@ fn answer_by_rule<L: Ledger>(
     }
     match first_missing(state, pairs) {
         None => Answer::Achieved,
-        Some(pair) => Answer::Send(command_toward(tables, state, pair, steps)),
+        Some(pair) => {
+            let command = command_toward(tables, state, pair, steps);
+            Answer::Send(command)
+        }
     }
 }
 

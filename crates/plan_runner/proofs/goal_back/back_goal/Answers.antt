@@ -1,5 +1,4 @@
-use Rattle.std.proofs.Common.{◌≡◌, ◌+◌, ◌++◌, ◌∷◌, [], ◌∙◌, ℕ, List, length, take, slice_get, Some, sym, ap, subst, arith}
-use Rattle.std.proofs.lemmas.List.{take_all}
+use Rattle.std.proofs.Common.{◌≡◌, ◌+◌, ◌++◌, ◌∷◌, [], ◌∙◌, ℕ, List, take, slice_get, Some, sym, ap, subst}
 use Rattle.policy_tables.specs.Tables.{TableParts}
 use Rattle.plan_runner.specs.WaysBack.{AreBackPairs}
 use Rattle.plan_runner.proofs.GoingBack.{take_next, back_skip, back_push, order_place}
@@ -28,11 +27,3 @@ loop-i-preserved c =
           subst (AreBackPairs t.classes c.args.to.now.modes (take c.loop-i.i order ++ c.get-c.result.now ∷ [])) (sym w.pairs-is)
           (back_skip t c.classes.ensures.tables c.args.to.now.modes c.requires (take c.loop-i.i order) c.get-c.result.now c.loop-i.pairs c.loop-i.invariant w.in_default.ensures)
     ])
-
-pub returns : goal.returns
-returns c =
-    let t : TableParts = c.args.tables.now in
-    let order : List ℕ = t.classes.compiled.order in
-    let order_is : c.order-order.result.now ≡ order = c.order-order.ensures.value ∙ ap (λ z. z.order) (c.compiled.ensures.value ∙ ap (λ z. z.compiled) c.classes.ensures.value) in
-    let whole : take c.loop-i.i order ≡ order = take_all c.loop-i.i order (omega (arith, c.loop-i-test.false, c.len-i-end.ensures, ap length order_is)) in
-    subst (λ l. AreBackPairs t.classes c.args.to.now.modes l c.loop-i.pairs) whole c.loop-i.invariant

@@ -21,8 +21,8 @@ returns-in-Some-clause-steps g c =
     let few = goal_few c.args.tables.now c.classes-classes.ensures.tables c.args.state.now.modes c.requires.covers c.args.goal.now.pairs c.requires.goal in
     omega (arith, few, c.in-Some.ensures.steps, ap length c.as_slice-pairs.ensures)
 
-pub command_toward-requires-clause-wanted : goal.command_toward-requires-clause-wanted
-command_toward-requires-clause-wanted g c =
+pub command_toward-command-requires-clause-wanted : goal.command_toward-command-requires-clause-wanted
+command_toward-command-requires-clause-wanted g c =
     first_wanted c.args.tables.now c.classes-classes.ensures.tables c.args.state.now.modes c.requires.covers c.args.goal.now.pairs c.requires.goal
     (subst (AreReached c.args.tables.now.classes.compiled.model c.args.state.now.modes) c.as_slice-pairs.ensures c.in_default.ensures.value)
     c.in-Some-first_missing.pair
@@ -39,7 +39,7 @@ returns-in-Some-first_missing-clause-rule g c =
     (subst (AreReached c.args.tables.now.classes.compiled.model c.args.state.now.modes) c.as_slice-pairs.ensures c.in_default.ensures.value)
     c.in-Some-first_missing.pair
     (subst (λ l. IsFirstMissing c.args.state.now.modes l c.in-Some-first_missing.pair) c.as_slice-pairs.ensures c.in-Some-first_missing.ensures)
-    c.command_toward.result c.command_toward.ensures.0 c.command_toward.ensures.1
+    c.command_toward-command.result c.command_toward-command.ensures.0 c.command_toward-command.ensures.1
 
 pub returns-in-Some-first_missing-clause-steps : goal.returns-in-Some-first_missing-clause-steps
 returns-in-Some-first_missing-clause-steps g c =
@@ -50,5 +50,5 @@ returns-in-Some-first_missing-clause-steps g c =
     first_wanted c.args.tables.now c.classes-classes.ensures.tables s c.requires.covers c.args.goal.now.pairs c.requires.goal
     (subst (AreReached c.args.tables.now.classes.compiled.model s) c.as_slice-pairs.ensures c.in_default.ensures.value)
     p (subst (λ l. IsFirstMissing s l p) c.as_slice-pairs.ensures c.in-Some-first_missing.ensures) in
-    let looked = found_few c.args.tables.now c.classes-classes.ensures.tables s c.requires.covers c.args.goal.now.pairs c.requires.goal c.command_toward.result c.command_toward.ensures.0 p wanted c.command_toward.ensures.1 in
-    omega (arith, few, looked, c.command_toward.ensures.2, c.in_default.ensures.steps, ap length c.as_slice-pairs.ensures)
+    let looked = found_few c.args.tables.now c.classes-classes.ensures.tables s c.requires.covers c.args.goal.now.pairs c.requires.goal c.command_toward-command.result c.command_toward-command.ensures.0 p wanted c.command_toward-command.ensures.1 in
+    omega (arith, few, looked, c.command_toward-command.ensures.2, c.in_default.ensures.steps, ap length c.as_slice-pairs.ensures)
