@@ -3,3 +3,4 @@ pub mod Approach
 pub mod FirstCube
 pub mod Filled
 pub mod Own
+pub mod Choices

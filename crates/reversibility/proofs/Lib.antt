@@ -4,3 +4,4 @@ pub mod Near
 pub mod Shortest
 pub mod Taken
 pub mod Standing
+pub mod Promised
