@@ -1,5 +1,5 @@
 -- A right cell is the fixed choice at each covered state.
-use Rattle.std.proofs.Common.{◌≡◌, ℕ, true, false, List, slice_get, slice_index, Some, sym, ap, subst, ◌∙◌}
+use Rattle.std.proofs.Common.{◌≡◌, ℕ, slice_index, Some, sym, ap, subst, ◌∙◌}
 use Rattle.std.proofs.lemmas.Bool.{both_ways}
 use Rattle.cca_base.specs.Model.{HasMode}
 use Rattle.cca_base.proofs.Members.{some_inj}

@@ -1,4 +1,5 @@
 pub mod Lists
+pub mod Exactly
 pub mod OpenMoves
 pub mod Near
 pub mod Shortest

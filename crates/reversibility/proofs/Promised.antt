@@ -1,9 +1,8 @@
 -- What classes promise follows from the laws of classes and reach.
-use Rattle.std.proofs.Common.{◌≡◌, ◌↔◌, ◌<◌, ℕ, true, false, List, length, slice_index, refl, inl, inr}
+use Rattle.std.proofs.Common.{◌↔◌, ◌<◌, ℕ, List, length, slice_index, refl, inl, inr}
 use Rattle.std.proofs.lemmas.Bool.{cases_Bool, both_ways, false_from_ne_true}
 use Rattle.cca_base.specs.Model.{is_broken}
-use Rattle.cca_base.specs.State.{IsState}
-use Rattle.reach_laws.specs.Classes.{Covers, IsHome, InClass}
+use Rattle.reach_laws.specs.Classes.{IsHome, InClass}
 use Rattle.reach_laws.specs.Laws.{Setting}
 use Rattle.reach_laws.proofs.Agree.{allowed_inside}
 use Rattle.reach_laws.proofs.Order.{repair_rules}

@@ -1,5 +1,5 @@
 ghost use Rattle.std.specs.Prelude.{◌≡◌, ◌↔◌, ◌+◌, ◌-◌, ◌<◌, IsTrue, IfOk, OnOk, drop, length, slice_index};
-ghost use Rattle.reversibility.specs.Levels.{AreDone};
+ghost use Rattle.reversibility.specs.Homes.{AreDone};
 ghost use Rattle.cca_base.specs.Flags.{is_set};
 ghost use Rattle.cca_base.specs.State.{IsState};
 ghost use Rattle.reach_laws.specs.Classes.{Covers, Stands};

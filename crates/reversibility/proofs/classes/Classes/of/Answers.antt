@@ -1,7 +1,7 @@
 use Rattle.std.proofs.Common.{◌≡◌, ◌-◌, ◌∙◌, ℕ, List, drop, length, sym, ap, subst, arith}
 use Rattle.cca_base.specs.Accepted.{CompiledParts, IsCompiled}
 use Rattle.reversibility.specs.Parts.{ClassParts, IsClasses, CoversState}
-use Rattle.reversibility.specs.Levels.{AreDone}
+use Rattle.reversibility.specs.Homes.{AreDone}
 use Rattle.reversibility.proofs.Taken.{all_done}
 use Rattle.reversibility.proofs.Promised.{base_covered}
 use Rattle.reversibility.proofs.classes.Classes.of.Goals as goal
