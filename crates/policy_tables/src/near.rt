@@ -11,9 +11,9 @@ pub(crate) fn distance(levels: &List<List<ValueSet>>, from: u8, to: u8) -> Optio
     requires { (k : ℕ) (level : List ℕ) → slice_get levels.now k ≡ Some level → from < length level }
     ensures { MatchOption result (IsNoLevel levels.now from to) (IsFirstLevel levels.now from to) }
 {
-    for k in 0..levels.len() {
-        if levels.get(k).get(from as usize).has(to) {
-            return Some(k);
+    for left in 0..levels.len() {
+        if levels.get(left).get(from as usize).has(to) {
+            return Some(left);
         }
     }
     None

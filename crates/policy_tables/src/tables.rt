@@ -73,7 +73,7 @@ impl Tables {
         ensures place { result.now ≡ cell_at self.now.classes.compiled.model self.now.cells c from to }
         ensures steps { steps.new ≡ steps.old + 1 }
     {
-        steps.tick();
+        steps.tick(); // one place is read
         let component = self.classes.compiled().model().components().get(c as usize);
         let modes = component.modes.len();
         self.cells
