@@ -9,6 +9,8 @@ mod backbones;
 #[cfg(test)]
 mod calls;
 #[cfg(test)]
+mod classes;
+#[cfg(test)]
 mod compiled;
 #[cfg(test)]
 mod conflicts;

@@ -41,7 +41,8 @@ pub fn valve_model(alloc: Global) -> Result<Model, Fail> {
     )
 }
 
-fn has_mode(model: &Model, c: u16, mode: u8) -> bool
+/// Whether the component has the mode.
+pub fn has_mode(model: &Model, c: u16, mode: u8) -> bool
     ensures { IsTrue result → HasMode model.now c mode }
 {
     let components = model.components();

@@ -1,49 +1,66 @@
 -- The first level is the distance, and moves that lead near approach.
-use Rattle.std.proofs.Common.{◌≡◌, ◌<◌, ◌≤◌, ℕ, suc, List, length, slice_get, Some, refl, sym, subst, inl, inr, arith}
+use Rattle.std.proofs.Common.{◌≡◌, ◌≢◌, ◌<◌, ◌≤◌, ◌-◌, ℕ, zero, suc, List, [], ◌∷◌, length, slice_get, slice_index, Some, refl, sym, ap, subst, ◌∙◌, inl, inr, arith}
 use Rattle.std.proofs.lemmas.Bool.{cases_lt, cases_order}
+use Rattle.std.proofs.lemmas.Option.{slice_get_within, slice_get-get_or}
 use Rattle.cca_base.specs.declared.model.Move.{Move}
 use Rattle.cca_base.specs.Automata.{Automata}
-use Rattle.cca_base.specs.Model.{WellFormed, HasMode}
-use Rattle.reach_laws.specs.Classes.{Test, OpenMove, OpenWalk}
+use Rattle.cca_base.specs.Model.{WellFormed, HasMode, mode_counts}
+use Rattle.reach_laws.specs.Classes.{Test, OpenMove, OpenWalk, Joined}
 use Rattle.reach_laws.specs.Cells.{IsShortest, Approaches}
 use Rattle.reach_laws.proofs.Needed.{move_in}
-use Rattle.reversibility.specs.Levels.{AreEdges, IsNear, IsLevel, AreLevels}
-use Rattle.policy_tables.specs.Making.{IsFirstLevel, LeadsNear, LevelsAreDistances, NearMovesApproach}
+use Rattle.reversibility.specs.Levels.{IsNear, IsLevel, AreLevelsOf}
+use Rattle.policy_tables.specs.Distances.{IsFirstLevel, IsNoLevel, LeadsNear}
 use Rattle.reversibility.proofs.Shortest.{to_open, from_open, target_mode}
 
-module _ (m : Automata) (w : WellFormed m) (member : Test) (c : ℕ) (edges : List ℕ) (are : AreEdges m member c edges) (levels : List (List ℕ)) (leveled : AreLevels edges levels)
-    (all_there : (k : ℕ) → k < length levels → (level : List ℕ) × (slice_get levels k ≡ Some level)) where
-  place : (x : ℕ) → HasMode m c x → x < length edges
-  place x has_x = subst (λ n. x < n) (sym are.full) has_x
+all_there : {X : Type 0} (xs : List X) (i : ℕ) → i < length xs → (x : X) × (slice_get xs i ≡ Some x)
+all_there [] i h = absurd (omega (arith, h))
+all_there (x ∷ xs) zero h = (x, refl)
+all_there (x ∷ xs) (suc i) h = all_there xs i (omega (arith, h))
 
-  pub level_shortest : (from to k : ℕ) → HasMode m c from → k < length levels → IsFirstLevel levels from to k → IsShortest m member c from to k
-  level_shortest from to k has_from within first =
-      let level : IsLevel edges k first.level = leveled k first.level first.at in
-      let near : IsNear edges k from to = (level.each from to (place from has_from)).0 first.leads in
-      let none : (j : ℕ) → j < k → OpenWalk m member c from to j → ⊥ = λ j lt walk.
-      (let there = all_there j (omega (arith, lt, within)) in
-      let at_j : IsLevel edges j there.0 = leveled j there.0 there.1 in
-      first.first j there.0 lt there.1 ((at_j.each from to (place from has_from)).1
-      (record { count = j; few = omega arith; walk = from_open m w member c edges are from to j walk }))) in
-      let same : near.count ≡ k = elim (cases_order near.count k) [
-        | inl e ↦ e
-        | inr (inl lt) ↦ absurd (none near.count lt (to_open m w member c edges are from to near.count near.walk))
-        | inr (inr gt) ↦ absurd (omega (arith, gt, near.few))
-      ] in
-      record {
-        walk = subst (OpenWalk m member c from to) same (to_open m w member c edges are from to near.count near.walk);
-        least = λ fewer walk. elim (cases_lt fewer k) [
-          | inl lt ↦ absurd (none fewer lt walk)
-          | inr past ↦ past
-        ];
-      }
+module _ (m : Automata) (w : WellFormed m) (member : Test) (c : ℕ) where
+  abbrev modes : ℕ
+  modes = slice_index (mode_counts m) c
 
--- where the distance is one more than a level's, the moves that lead near by the level are those that approach
-module _ (m : Automata) (w : WellFormed m) (member : Test) (c : ℕ) (edges : List ℕ) (are : AreEdges m member c edges) where
-  mode_place : (x : ℕ) → HasMode m c x → x < length edges
-  mode_place x has_x = subst (λ n. x < n) (sym are.full) has_x
+  module _ (levels : List (List ℕ)) (of : AreLevelsOf m member c levels) where
+    pub levels_full : (from : ℕ) → HasMode m c from → (k : ℕ) (level : List ℕ) → slice_get levels k ≡ Some level → from < length level
+    levels_full from has_from k level at = let l : IsLevel (OpenMove m member c) modes k level = of.each k level at in omega (arith, has_from, l.full)
 
-  module _ (from to rest : ℕ) (shortest : IsShortest m member c from to (suc rest)) (level : List ℕ) (is : IsLevel edges rest level) where
+    -- what is joined is in the last level
+    pub no_level : (from to : ℕ) → HasMode m c from → Joined m member c from to → IsNoLevel levels from to → ⊥
+    no_level from to has_from joined none =
+        let last = all_there levels (length levels - 1) (omega (arith, of.some)) in
+        none (length levels - 1) last.0 last.1 (of.last last.0 last.1 from to has_from joined)
+
+    pub level_shortest : (from to k : ℕ) → HasMode m c from → IsFirstLevel levels from to k → IsShortest m member c from to k
+    level_shortest from to k has_from first =
+        let within : k < length levels = slice_get_within levels k first.level first.at in
+        let level : IsLevel (OpenMove m member c) modes k first.level = of.each k first.level first.at in
+        let near : IsNear (OpenMove m member c) k from to = (level.each from to has_from).0 first.leads in
+        let none : (j : ℕ) → j < k → OpenWalk m member c from to j → ⊥ = λ j lt walk.
+        (let there = all_there levels j (omega (arith, lt, within)) in
+        let at_j : IsLevel (OpenMove m member c) modes j there.0 = of.each j there.0 there.1 in
+        first.first j there.0 lt there.1 ((at_j.each from to has_from).1
+        (record { count = j; few = omega arith; walk = from_open m w member c from to j walk }))) in
+        let same : near.count ≡ k = elim (cases_order near.count k) [
+          | inl e ↦ e
+          | inr (inl lt) ↦ absurd (none near.count lt (to_open m w member c from to near.count near.walk))
+          | inr (inr gt) ↦ absurd (omega (arith, gt, near.few))
+        ] in
+        record {
+          walk = subst (OpenWalk m member c from to) same (to_open m w member c from to near.count near.walk);
+          least = λ fewer walk. elim (cases_lt fewer k) [
+            | inl lt ↦ absurd (none fewer lt walk)
+            | inr past ↦ past
+          ];
+        }
+
+  -- where the modes differ, an open move is left
+  pub apart_some : (from to k : ℕ) → IsShortest m member c from to k → from ≢ to → 0 < k
+  apart_some from to zero s ne = absurd (ne s.walk)
+  apart_some from to (suc k) s ne = omega arith
+
+  -- where the distance is one more than a level's number, the moves that lead near by the level are those that approach
+  module _ (from to rest : ℕ) (shortest : IsShortest m member c from to (suc rest)) (level : List ℕ) (is : IsLevel (OpenMove m member c) modes rest level) where
     pub approach_to : (i : ℕ) → (h : LeadsNear m member level c from to i) → Approaches m member c from to (suc rest) h.move
     approach_to i h =
         let o : OpenMove m member c from h.move.target = record {
@@ -54,8 +71,8 @@ module _ (m : Automata) (w : WellFormed m) (member : Test) (c : ℕ) (edges : Li
           target = refl;
           open_move = h.open_move;
         } in
-        let near : IsNear edges rest h.move.target to = (is.each h.move.target to (mode_place h.move.target (target_mode m w member c edges are from h.move.target o))).0 h.near in
-        let long : suc rest ≤ suc near.count = shortest.least (suc near.count) (h.move.target, o, to_open m w member c edges are h.move.target to near.count near.walk) in
+        let near : IsNear (OpenMove m member c) rest h.move.target to = (is.each h.move.target to (target_mode m w member c from h.move.target o)).0 h.near in
+        let long : suc rest ≤ suc near.count = shortest.least (suc near.count) (h.move.target, o, to_open m w member c h.move.target to near.count near.walk) in
         let same : near.count ≡ rest = omega (arith, long, near.few) in
         record {
           own = h.own;
@@ -65,7 +82,7 @@ module _ (m : Automata) (w : WellFormed m) (member : Test) (c : ℕ) (edges : Li
           counts = refl;
           before = shortest;
           after = record {
-            walk = subst (OpenWalk m member c h.move.target to) same (to_open m w member c edges are h.move.target to near.count near.walk);
+            walk = subst (OpenWalk m member c h.move.target to) same (to_open m w member c h.move.target to near.count near.walk);
             least = λ fewer walk. (let le : suc rest ≤ suc fewer = shortest.least (suc fewer) (h.move.target, o, walk) in omega (arith, le));
           };
         }
@@ -86,14 +103,29 @@ module _ (m : Automata) (w : WellFormed m) (member : Test) (c : ℕ) (edges : Li
           move_at = at;
           own = a.own;
           source = a.source;
-          near = (is.each move.target to (mode_place move.target (target_mode m w member c edges are from move.target o))).1
-              (record { count = a.rest; few = few; walk = from_open m w member c edges are move.target to a.rest a.after.walk });
+          near = (is.each move.target to (target_mode m w member c from move.target o)).1
+              (record { count = a.rest; few = few; walk = from_open m w member c move.target to a.rest a.after.walk });
           open_move = a.open_move;
         }
 
-pub levels_are_distances : LevelsAreDistances
-levels_are_distances m w member c edges are levels leveled all_there from to k has_from within first = level_shortest m w member c edges are levels leveled all_there from to k has_from within first
-
-pub near_moves_approach : NearMovesApproach
-near_moves_approach m w member c edges are from to rest shortest level is =
-    (approach_to m w member c edges are from to rest shortest level is, approach_from m w member c edges are from to rest shortest level is)
+    -- the first move of a shortest walk leads near
+    pub some_leads : (i : ℕ) × LeadsNear m member level c from to i
+    some_leads =
+        let next : ℕ = shortest.walk.0 in
+        let o : OpenMove m member c from next = shortest.walk.1 in
+        let walk : OpenWalk m member c next to rest = shortest.walk.2 in
+        let at : ℕ = o.of_model.0 in (
+          at,
+          approach_from at o.move (slice_get-get_or m.moves at o.move o.of_model.1 ∙ ap (λ z. Some z) o.of_model.2) (record {
+            own = o.own;
+            source = o.source;
+            open_move = o.open_move;
+            rest = rest;
+            counts = refl;
+            before = shortest;
+            after = record {
+              walk = subst (λ x. OpenWalk m member c x to rest) (sym o.target) walk;
+              least = λ fewer other. (let le : suc rest ≤ suc fewer = shortest.least (suc fewer) (next, o, subst (λ x. OpenWalk m member c x to fewer) o.target other) in omega (arith, le));
+            };
+          }),
+        )

@@ -1,5 +1,6 @@
 pub mod Places
 pub mod Approach
 pub mod FirstCube
+pub mod Leavers
 pub mod Filled
-pub mod Own
+pub mod Choices

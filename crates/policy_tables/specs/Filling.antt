@@ -1,26 +1,11 @@
 -- What tables are filled with.
 use Rattle.std.specs.Prelude.{◌≡◌, ◌<◌, ◌+◌, ◌*◌, ℕ, List, [], length, slice_index, slice_index_or}
-use Rattle.cca_base.specs.Automata.{Automata}
 use Rattle.cca_base.specs.Model.{mode_counts}
 use Rattle.reach_laws.specs.declared.cell.Cell.{Cell}
 use Rattle.reach_laws.specs.declared.cell.Cell.TheVariants as cell
 use Rattle.reach_laws.specs.Cells.{IsCell}
-use Rattle.reach_laws.specs.Classes.{Test, Stands}
-use Rattle.reversibility.specs.Levels.{AreEdges, IsLevel, AreLevels}
+use Rattle.reach_laws.specs.Classes.{Stands}
 use Rattle.reversibility.specs.Parts.{ClassParts, in_row}
-
--- what so many open moves of the component lead to at most
-pub record IsLevelOf (m : Automata) (member : Test) (c k : ℕ) (level : List ℕ) : Type 0 where
-  pub edges : List ℕ
-  pub are : AreEdges m member c edges
-  pub is : IsLevel edges k level
-
--- the levels of the component's open moves, from 0 moves to as many as it has modes
-pub record AreLevelsOf (m : Automata) (member : Test) (c : ℕ) (levels : List (List ℕ)) : Type 0 where
-  pub edges : List ℕ
-  pub are : AreEdges m member c edges
-  pub leveled : AreLevels edges levels
-  pub full : length levels ≡ length edges + 1
 
 -- the component may stand in the mode
 abbrev pub MayStand : ClassParts → ℕ → ℕ → Type 0
@@ -31,15 +16,18 @@ pub record IsRightCell (p : ClassParts) (c from to : ℕ) (x : Cell) : Type 0 wh
   pub policy : MayStand p c from → IsCell p.compiled (in_row p.rows) c from to x
   pub outside : (MayStand p c from → ⊥) → x ≡ cell.Never
 
--- the cells at the first places are right
+-- the cells at the first places are right, where each mode has so many
 pub record AreRightTo (p : ClassParts) (c modes : ℕ) (cells : List Cell) (n : ℕ) : Type 0 where
   pub full : length cells ≡ n
   pub each : (from to : ℕ) → to < modes → from * modes + to < n → IsRightCell p c from to (slice_index_or cells (from * modes + to) cell.Never)
 
+-- the cells of the first modes are right
+abbrev pub AreRightRows : ClassParts → ℕ → ℕ → List Cell → Type 0
+AreRightRows p c n cells = AreRightTo p c (slice_index (mode_counts p.compiled.model) c) cells (n * slice_index (mode_counts p.compiled.model) c)
+
 -- the cells of the component are right, one for each two modes
 abbrev pub AreRightCells : ClassParts → ℕ → List Cell → Type 0
-AreRightCells p c cells =
-    AreRightTo p c (slice_index (mode_counts p.compiled.model) c) cells (slice_index (mode_counts p.compiled.model) c * slice_index (mode_counts p.compiled.model) c)
+AreRightCells p c = AreRightRows p c (slice_index (mode_counts p.compiled.model) c)
 
 -- the first components have their cells
 pub record AreFilledTo (p : ClassParts) (rows : List (List Cell)) (n : ℕ) : Type 0 where

@@ -1,3 +1,4 @@
-pub mod Making
+pub mod Leaving
+pub mod Distances
 pub mod Filling
 pub mod Tables

@@ -1,123 +1,94 @@
-ghost use Rattle.std.specs.Prelude.{◌≡◌, ◌≢◌, ◌-◌, ◌<◌, ◌≤◌, true, IfOk, All, length, slice_index};
-ghost use Rattle.cca_base.specs.Model.{HasMode, mode_counts};
-ghost use Rattle.cca_base.specs.Orders.{IsSorted};
-ghost use Rattle.reach_laws.specs.Cells.{IsCell, IsShortest};
-ghost use Rattle.policy_tables.specs.Filling.{IsLevelOf, AreLevelsOf, IsRightCell, AreRightCells};
-ghost use Rattle.policy_tables.specs.Making.{AreOwnMoves};
-ghost use Rattle.reversibility.specs.Parts.{in_row};
+//! The cells of one component, a row for each mode in which it may stand.
 
-use crate::making::{distance, first_cube, first_move, own_moves};
-use causal_graph::sort_goal;
-use cca_base::{Compiled, Cube, List, ValueSet};
+ghost use Rattle.std.specs.Prelude.{◌≡◌, ◌+◌, ◌<◌, IfOk, OnOk, length, slice_index};
+ghost use Rattle.cca_base.specs.Model.{HasMode, mode_counts};
+ghost use Rattle.policy_tables.specs.Filling.{MayStand, AreRightRows, AreRightCells};
+ghost use Rattle.policy_tables.specs.Leaving.{IsLeavingOf};
+ghost use Rattle.reach_laws.specs.Cells.{IsCell};
+ghost use Rattle.reversibility.specs.Parts.{in_row};
+ghost use Rattle.reversibility.specs.Paths.{ArePaths};
+
+use crate::leaving::{Leaving, leaving_of};
+use crate::near::{distance, first_near};
+use cca_base::List;
 use reach_laws::Cell;
-use reversibility::{Classes, edges, levels};
+use reversibility::{Classes, Paths, paths_of};
 use std::alloc::{AllocError, Global};
 
-/// A cube of the same pairs, effects before their causes.
-fn effects_first(alloc: Global, compiled: &Compiled, cube: &Cube) -> Result<Cube, AllocError>
-    requires { All (λ p. p.item < length compiled.now.model.components) cube.now }
-    ensures { IfOk result (IsSorted compiled.now.order cube.now) }
-{
-    let pairs = List::of(Vec::from_slice(alloc, cube.as_slice())?);
-    let _order = compiled.order();
-    let goal = sort_goal(alloc, compiled, &pairs)?;
-    let mut sorted = Cube::new(alloc);
-    for pair in goal.pairs.as_slice() {
-        sorted.push(*pair)?;
-    }
-    Ok(sorted)
-}
-
-/// The step from the one mode toward the other, by the level that says what one open move fewer leads to.
-fn step(
-    alloc: Global,
-    compiled: &Compiled,
-    rows: &[ValueSet],
-    own: &[u16],
-    level: &[ValueSet],
-    c: u16,
-    from: u8,
-    to: u8,
-    left: u8,
-) -> Result<Cell, AllocError>
-    requires rows { length rows.now ≡ length compiled.now.model.components }
-    requires own { AreOwnMoves compiled.now.model c own.now }
-    requires some { 0 < left }
-    requires level { IsLevelOf compiled.now.model (in_row rows.now) c (left - 1) level.now }
-    requires shortest { IsShortest compiled.now.model (in_row rows.now) c from to left }
-    requires inside { in_row rows.now c to ≡ true }
-    requires other { from ≢ to }
-    ensures { IfOk result (IsCell compiled.now (in_row rows.now) c from to) }
-{
-    let model = compiled.model();
-    let Some(number) = first_move(compiled, rows, own, level, c, from, to) else {
-        unreachable!()
-    };
-    let command = model.moves().get(number).command;
-    let ways = compiled.ways().get(number);
-    let Some(way) = first_cube(ways.as_slice(), rows) else {
-        unreachable!()
-    };
-    let cube = effects_first(alloc, compiled, ways.get(way))?;
-    Ok(Cell::Step {
-        move_number: number as u16,
-        command,
-        cube,
-        left,
-    })
-}
-
-/// The cell of a component from one mode to another.
+/// The cell to a mode from the mode that the moves leave, in which the component may stand.
 fn cell(
     alloc: Global,
     classes: &Classes,
-    own: &[u16],
-    levels: &List<List<ValueSet>>,
-    c: u16,
-    from: u8,
+    paths: &Paths,
+    leaving: &Leaving,
     to: u8,
 ) -> Result<Cell, AllocError>
-    requires within { c < length classes.now.compiled.model.components }
-    requires from { HasMode classes.now.compiled.model c from }
-    requires to { HasMode classes.now.compiled.model c to }
-    requires own { AreOwnMoves classes.now.compiled.model c own.now }
-    requires levels { AreLevelsOf classes.now.compiled.model (in_row classes.now.rows) c levels.now }
-    ensures { IfOk result (IsRightCell classes.now c from to) }
+    requires within { leaving.now.component < length classes.now.compiled.model.components }
+    requires from { HasMode classes.now.compiled.model leaving.now.component leaving.now.mode }
+    requires to { HasMode classes.now.compiled.model leaving.now.component to }
+    requires stands { MayStand classes.now leaving.now.component leaving.now.mode }
+    requires paths { ArePaths classes.now.compiled.model (in_row classes.now.rows) leaving.now.component paths.now }
+    requires leaving { IsLeavingOf classes.now.compiled (in_row classes.now.rows) leaving.now }
+    ensures { IfOk result (IsCell classes.now.compiled (in_row classes.now.rows) leaving.now.component leaving.now.mode to) }
 {
-    if !classes.stands(c, from) {
-        return Ok(Cell::Never);
-    }
-    if from == to {
+    if leaving.mode == to {
         return Ok(Cell::Stay);
     }
-    if !classes.class(c).has(to) {
+    if !classes.class(leaving.component).has(to) {
         return Ok(Cell::Never);
     }
-    let Some(left) = distance(levels, from, to) else {
+    let Some(left) = distance(&paths.levels, leaving.mode, to) else {
         unreachable!()
     };
-    let level = levels.get(left - 1).as_slice();
-    let compiled = classes.compiled();
-    step(
-        alloc,
-        compiled,
-        classes.rows(),
-        own,
-        level,
-        c,
-        from,
-        to,
-        left as u8,
-    )
+    let level = paths.levels.get(left - 1).as_slice();
+    let model = classes.compiled().model();
+    let Some(place) = first_near(model, leaving.numbers.as_slice(), level, to) else {
+        unreachable!()
+    };
+    let number = *leaving.numbers.get(place);
+    Ok(Cell::Step {
+        move_number: number,
+        command: model.moves().get(number as usize).command,
+        cube: leaving.cubes.get(place).copy(alloc)?,
+        left: left as u8,
+    })
 }
 
-/// What so many open moves of a component lead to.
-fn levels_of(alloc: Global, classes: &Classes, c: u16) -> Result<List<List<ValueSet>>, AllocError>
-    requires { c < length classes.now.compiled.model.components }
-    ensures { IfOk result (AreLevelsOf classes.now.compiled.model (in_row classes.now.rows) c) }
+/// Puts the cells from a mode in which the component may stand behind the others.
+fn fill_row(
+    alloc: Global,
+    classes: &Classes,
+    paths: &Paths,
+    leaving: &Leaving,
+    cells: &mut List<Cell>,
+) -> Result<(), AllocError>
+    requires within { leaving.now.component < length classes.now.compiled.model.components }
+    requires from { HasMode classes.now.compiled.model leaving.now.component leaving.now.mode }
+    requires stands { MayStand classes.now leaving.now.component leaving.now.mode }
+    requires paths { ArePaths classes.now.compiled.model (in_row classes.now.rows) leaving.now.component paths.now }
+    requires leaving { IsLeavingOf classes.now.compiled (in_row classes.now.rows) leaving.now }
+    requires rows { AreRightRows classes.now leaving.now.component leaving.now.mode cells.old }
+    ensures { OnOk result (AreRightRows classes.now leaving.now.component (leaving.now.mode + 1) cells.new) }
 {
-    let edges = edges(alloc, classes.compiled(), classes.rows(), c)?;
-    levels(alloc, edges.as_slice())
+    let components = classes.compiled().model().components();
+    for to in 0..components.get(leaving.component as usize).modes.len() {
+        cells.push(cell(alloc, classes, paths, leaving, to as u8)?)?;
+    }
+    Ok(())
+}
+
+/// Puts a cell that says never for each mode behind the others.
+fn skip_row(classes: &Classes, c: u16, from: u8, cells: &mut List<Cell>) -> Result<(), AllocError>
+    requires within { c < length classes.now.compiled.model.components }
+    requires stands { MayStand classes.now c from → ⊥ }
+    requires rows { AreRightRows classes.now c from cells.old }
+    ensures { OnOk result (AreRightRows classes.now c (from + 1) cells.new) }
+{
+    let components = classes.compiled().model().components();
+    for _to in 0..components.get(c as usize).modes.len() {
+        cells.push(Cell::Never)?;
+    }
+    Ok(())
 }
 
 /// The cells of a component, each row of its modes after the other.
@@ -125,15 +96,17 @@ pub(crate) fn cells_of(alloc: Global, classes: &Classes, c: u16) -> Result<List<
     requires { c < length classes.now.compiled.model.components }
     ensures { IfOk result (AreRightCells classes.now c) }
 {
-    let levels = levels_of(alloc, classes, c)?;
-    let model = classes.compiled().model();
-    let own = own_moves(alloc, model, c)?;
-    let modes = model.components().get(c as usize).modes.len();
+    let compiled = classes.compiled();
+    let paths = paths_of(alloc, compiled, classes.rows(), c)?;
+    let modes = compiled.model().components().get(c as usize).modes.len();
     let mut cells = List::new(alloc);
-    for place in 0..modes * modes {
-        let from = (place / modes) as u8;
-        let to = (place % modes) as u8;
-        cells.push(cell(alloc, classes, own.as_slice(), &levels, c, from, to)?)?;
+    for from in 0..modes {
+        if classes.stands(c, from as u8) {
+            let leaving = leaving_of(alloc, classes, &paths, c, from as u8)?;
+            fill_row(alloc, classes, &paths, &leaving, &mut cells)?;
+        } else {
+            skip_row(classes, c, from as u8, &mut cells)?;
+        }
     }
     Ok(cells)
 }

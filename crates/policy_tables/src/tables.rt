@@ -3,7 +3,7 @@ ghost use Rattle.cca_base.specs.Model.{HasMode};
 ghost use Rattle.reach_laws.specs.Cells.{cell_at, IsCell};
 ghost use Rattle.reach_laws.specs.Classes.{Stands};
 ghost use Rattle.reversibility.specs.Parts.{CoversState, in_row};
-ghost use Rattle.policy_tables.specs.Tables.{IsTables};
+ghost use Rattle.policy_tables.specs.Tables.{IsTables, IsChoiceFrom};
 
 use crate::filling::cells_of;
 use cca_base::{List, State, Steps};
@@ -69,10 +69,11 @@ impl Tables {
         requires to { HasMode self.now.classes.compiled.model c to }
         requires stands { Stands self.now.classes.compiled.model self.now.classes.base (in_row self.now.classes.rows) c from }
         ensures cell { IsCell self.now.classes.compiled (in_row self.now.classes.rows) c from to result.now }
+        ensures chosen { IsChoiceFrom self.now.classes c from to result.now }
         ensures place { result.now ≡ cell_at self.now.classes.compiled.model self.now.cells c from to }
         ensures steps { steps.new ≡ steps.old + 1 }
     {
-        steps.tick();
+        steps.tick(); // one place is read
         let component = self.classes.compiled().model().components().get(c as usize);
         let modes = component.modes.len();
         self.cells

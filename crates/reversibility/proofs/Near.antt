@@ -1,23 +1,15 @@
 -- Levels of nearness grow edge by edge.
-use Rattle.std.proofs.Common.{◌≡◌, ◌<◌, ◌≤◌, ◌+◌, ◌⊎◌, ◌||◌, ◌↔◌, ℕ, true, false, zero, suc, List, [], ◌∷◌, ◌++◌, length, slice_get, slice_index, Some, refl, sym, ap, subst, ◌∙◌, inl, inr, arith, length-append}
-use Rattle.std.proofs.lemmas.Bool.{cases_lt, both_ways, or_cases, or_left, or_right}
+use Rattle.std.proofs.Common.{◌≡◌, ◌≢◌, ◌<◌, ◌≤◌, ◌+◌, ◌⊎◌, ◌||◌, ◌↔◌, ℕ, true, zero, suc, List, [], ◌∷◌, ◌++◌, length, slice_get, slice_index, slice_set, Some, refl, sym, ap, subst, ◌∙◌, inl, inr, arith, get_or-set_same, get_or-set_other, length-set}
+use Rattle.std.proofs.lemmas.Bool.{cases_eq, cases_lt, or_cases, or_left, or_right}
+use Rattle.std.proofs.lemmas.Option.{slice_get_within, get_or_from_slice_get}
+use Rattle.cca_base.specs.declared.model.Move.{Move}
+use Rattle.cca_base.specs.Automata.{Automata}
 use Rattle.cca_base.specs.Sets.{has}
 use Rattle.cca_base.proofs.Members.{some_inj, none_some}
 use Rattle.reversibility.specs.Parts.{in_row}
-use Rattle.reversibility.specs.Levels.{EdgeWalk, IsNear, IsLevel, AreLevels, IsExpanded, IsExpandedTo, StayWithin, IsJoinedTo}
+use Rattle.reversibility.specs.Levels.{Edges, AreMovesWithin, Leads, EdgeWalk, IsNear, IsLevel, AreLevels, IsExpanded, IsSelf}
 
 -- ---- lists that grow
-
-pub push_at : (xs : List ℕ) (y i : ℕ) → i < length xs → slice_index (xs ++ y ∷ []) i ≡ slice_index xs i
-push_at [] y i lt = absurd (omega arith)
-push_at (x ∷ xs) y zero lt = refl
-push_at (x ∷ xs) y (suc i) lt = push_at xs y i (omega arith)
-
-pub push_last : (xs : List ℕ) (y i : ℕ) → i ≡ length xs → slice_index (xs ++ y ∷ []) i ≡ y
-push_last [] y zero e = refl
-push_last [] y (suc i) e = absurd (omega (arith, e))
-push_last (x ∷ xs) y zero e = absurd (omega (arith, e))
-push_last (x ∷ xs) y (suc i) e = push_last xs y i (omega (arith, e))
 
 pub push_get : {X : Type 0} (xs : List X) (y z : X) (k : ℕ) → slice_get (xs ++ y ∷ []) k ≡ Some z → (slice_get xs k ≡ Some z) ⊎ ((k ≡ length xs) × (y ≡ z))
 push_get [] y z zero h = inr (refl, some_inj y z h)
@@ -28,102 +20,144 @@ push_get (x ∷ xs) y z (suc k) h = elim (push_get xs y z k h) [
   | inr last ↦ inr (ap suc last.0, last.1)
 ]
 
--- ---- sets
+-- ---- one move more
 
-pub join_yes : (start set : ℕ) (level : List ℕ) (n all row next : ℕ) → IsJoinedTo start set level n all → has set n ≡ true → slice_index level n ≡ row
-    → ((b : ℕ) → has next b ≡ (has all b || has row b)) → IsJoinedTo start set level (n + 1) next
-join_yes start set level n all row next h yes_n at made b = (
-  (λ e. elim (or_cases (has all b) (has row b) (sym (made b) ∙ e)) [
-    | inl old ↦ elim ((h b).0 old) [
-      | inl s ↦ inl s
-      | inr k ↦ inr (k.0, omega (arith, k.1), k.2, k.3)
-    ]
-    | inr new ↦ inr (n, omega arith, yes_n, ap (λ r. has r b) at ∙ new)
-  ]),
-  (λ k. made b ∙ elim k [
-    | inl s ↦ or_left (has all b) (has row b) ((h b).1 (inl s))
-    | inr j ↦ elim (cases_lt j.0 n) [
-      | inl below ↦ or_left (has all b) (has row b) ((h b).1 (inr (j.0, below, j.2, j.3)))
-      | inr past ↦
-          let same : j.0 ≡ n = omega (arith, past, j.1) in
-          or_right (has all b) (has row b) (sym (ap (λ r. has r b) at) ∙ subst (λ x. in_row level x b ≡ true) same j.3)
-    ]
-  ]),
-)
+-- what the move of a number leads between
+pub move_within : (m : Automata) (n : ℕ) (numbers : List ℕ) → AreMovesWithin m n numbers → (place : ℕ) → place < length numbers → (move : Move)
+    → slice_get m.moves (slice_index numbers place) ≡ Some move → (move.source < n) × (move.target < n)
+move_within m n numbers within place lt move at =
+    let is = within place lt in
+    let same : is.0 ≡ move = some_inj is.0 move (sym is.1 ∙ at) in
+    (subst (λ (z : Move). z.source < n) same is.2, subst (λ (z : Move). z.target < n) same is.3)
 
-pub join_no : (start set : ℕ) (level : List ℕ) (n all : ℕ) → IsJoinedTo start set level n all → has set n ≡ false → IsJoinedTo start set level (n + 1) all
-join_no start set level n all h no_n b = (
-  (λ e. elim ((h b).0 e) [
-    | inl s ↦ inl s
-    | inr k ↦ inr (k.0, omega (arith, k.1), k.2, k.3)
-  ]),
-  (λ k. (h b).1 (elim k [
-    | inl s ↦ inl s
-    | inr j ↦ elim (cases_lt j.0 n) [
-      | inl below ↦ inr (j.0, below, j.2, j.3)
-      | inr past ↦
-          let same : j.0 ≡ n = omega (arith, past, j.1) in
-          absurd (both_ways (has set n) no_n (subst (λ x. has set x ≡ true) same j.2))
-    ]
-  ])),
-)
+module _ (m : Automata) (numbers : List ℕ) (level : List ℕ) where
+  -- what the first n of the moves lead to besides
+  abbrev pub IsExpandedBy : ℕ → List ℕ → Type 0
+  IsExpandedBy n next = IsExpanded (Leads m numbers n) level next
 
-pub expand_more : (edges level next : List ℕ) (n lv e all : ℕ) → IsExpandedTo edges level next n → slice_index level n ≡ lv → slice_index edges n ≡ e
-    → IsJoinedTo lv e level (length level) all → IsExpandedTo edges level (next ++ all ∷ []) (n + 1)
-expand_more edges level next n lv e all h at_lv at_e joined = record {
-  full = length-append next (all ∷ []) ∙ ap (λ k. k + 1) h.full;
-  each = λ a b lt. elim (cases_lt a n) [
-    | inl below ↦ subst (λ r. (has r b ≡ true) ↔ ((in_row level a b ≡ true) ⊎ ((x : ℕ) × (x < length level) × (in_row edges a x ≡ true) × (in_row level x b ≡ true))))
-        (sym (push_at next all a (omega (arith, below, h.full)))) (h.each a b below)
+  more_leads : (n a x : ℕ) → Leads m numbers n a x → Leads m numbers (n + 1) a x
+  more_leads n a x h = record { place = h.place; below = omega (arith, h.below); move = h.move; move_at = h.move_at; source = h.source; target = h.target }
+
+  -- the last of the moves, or one before it
+  pub last_or : (n a x : ℕ) (move : Move) → slice_get m.moves (slice_index numbers n) ≡ Some move → Leads m numbers (n + 1) a x
+      → Leads m numbers n a x ⊎ ((move.source ≡ a) × (move.target ≡ x))
+  last_or n a x move at h = elim (cases_lt h.place n) [
+    | inl below ↦ inl (record { place = h.place; below = below; move = h.move; move_at = h.move_at; source = h.source; target = h.target })
     | inr past ↦
-        let here : n ≡ a = omega (arith, past, lt) in
-        subst (λ z. (in_row (next ++ all ∷ []) z b ≡ true) ↔ ((in_row level z b ≡ true) ⊎ ((x : ℕ) × (x < length level) × (in_row edges z x ≡ true) × (in_row level x b ≡ true)))) here (
-          (λ yes_b. elim ((joined b).0 (sym (ap (λ r. has r b) (push_last next all n (sym h.full))) ∙ yes_b)) [
-            | inl s ↦ inl (ap (λ r. has r b) at_lv ∙ s)
-            | inr k ↦ inr (k.0, k.1, ap (λ r. has r k.0) at_e ∙ k.2, k.3)
-          ]),
-          (λ k. ap (λ r. has r b) (push_last next all n (sym h.full)) ∙ (joined b).1 (elim k [
-            | inl s ↦ inl (sym (ap (λ r. has r b) at_lv) ∙ s)
-            | inr j ↦ inr (j.0, j.1, sym (ap (λ r. has r j.0) at_e) ∙ j.2, j.3)
-          ])),
-        )
-  ];
-}
+        let here : h.place ≡ n = omega (arith, past, h.below) in
+        let same : h.move ≡ move = some_inj h.move move (sym h.move_at ∙ (ap (λ k. slice_get m.moves (slice_index numbers k)) here ∙ at)) in
+        inr (sym (ap (λ z. z.source) same) ∙ h.source, sym (ap (λ z. z.target) same) ∙ h.target)
+  ]
+
+  pub expand_none : IsExpandedBy 0 level
+  expand_none = record {
+    full = refl;
+    each = λ a b lt. (
+      (λ e. inl e),
+      (λ k. elim k [
+        | inl old ↦ old
+        | inr j ↦ let h : Leads m numbers 0 a j.0 = j.1 in absurd (omega (arith, h.below))
+      ]),
+    );
+  }
+
+  pub expand_more : (n : ℕ) (next : List ℕ) → IsExpandedBy n next → (move : Move) → slice_get m.moves (slice_index numbers n) ≡ Some move
+      → (old row set : ℕ) → slice_get next move.source ≡ Some old → slice_index level move.target ≡ row → ((b : ℕ) → has set b ≡ (has old b || has row b))
+      → IsExpandedBy (n + 1) (slice_set next move.source set)
+  expand_more n next h move at old row set at_old at_row made =
+      let s : ℕ = move.source in
+      let within : s < length next = slice_get_within next s old at_old in
+      let same_row : (b : ℕ) → in_row (slice_set next s set) s b ≡ (in_row next s b || has row b) =
+      λ b. (ap (λ r. has r b) (get_or-set_same next s set 0 within) ∙ (made b ∙ ap (λ r. has r b || has row b) (sym (get_or_from_slice_get next s old 0 at_old)))) in
+      let other_row : (a b : ℕ) → a ≢ s → in_row (slice_set next s set) a b ≡ in_row next a b =
+      λ a b ne. ap (λ r. has r b) (get_or-set_other next s a set 0 ne) in
+      record {
+        full = length-set next s set ∙ h.full;
+        each = λ a b lt. elim (cases_eq a s) [
+          | inr ne ↦ (
+            (λ e. elim ((h.each a b lt).0 (sym (other_row a b ne) ∙ e)) [
+              | inl was ↦ inl was
+              | inr j ↦ inr (j.0, more_leads n a j.0 j.1, j.2)
+            ]),
+            (λ k. other_row a b ne ∙ (h.each a b lt).1 (elim k [
+              | inl was ↦ inl was
+              | inr j ↦ elim (last_or n a j.0 move at j.1) [
+                | inl before ↦ inr (j.0, before, j.2)
+                | inr here ↦ absurd (ne (sym here.0))
+              ]
+            ])),
+          )
+          | inl e ↦ subst (λ z. (in_row (slice_set next s set) z b ≡ true) ↔ ((in_row level z b ≡ true) ⊎ ((x : ℕ) × Leads m numbers (n + 1) z x × (in_row level x b ≡ true)))) (sym e) (
+            (λ yes_b. elim (or_cases (in_row next s b) (has row b) (sym (same_row b) ∙ yes_b)) [
+              | inl before ↦ elim ((h.each s b (subst (λ z. z < length level) e lt)).0 before) [
+                | inl was ↦ inl was
+                | inr j ↦ inr (j.0, more_leads n s j.0 j.1, j.2)
+              ]
+              | inr new ↦ inr (move.target, record { place = n; below = omega arith; move = move; move_at = at; source = refl; target = refl }, ap (λ r. has r b) at_row ∙ new)
+            ]),
+            (λ k. same_row b ∙ elim k [
+              | inl was ↦ or_left (in_row next s b) (has row b) ((h.each s b (subst (λ z. z < length level) e lt)).1 (inl was))
+              | inr j ↦ elim (last_or n s j.0 move at j.1) [
+                | inl before ↦ or_left (in_row next s b) (has row b) ((h.each s b (subst (λ z. z < length level) e lt)).1 (inr (j.0, before, j.2)))
+                | inr here ↦ or_right (in_row next s b) (has row b) (sym (ap (λ r. has r b) at_row) ∙ subst (λ x. in_row level x b ≡ true) (sym here.1) j.2)
+              ]
+            ]),
+          )
+        ];
+      }
 
 -- ---- levels
 
-module _ (edges : List ℕ) (stay : StayWithin edges) where
-  near_more : (k a b : ℕ) → IsNear edges k a b → IsNear edges (k + 1) a b
+pub self_level : (edge : Edges) (n : ℕ) (level : List ℕ) → IsSelf n level → IsLevel edge n 0 level
+self_level edge n level h = record {
+  full = h.full;
+  each = λ a b lt. (
+    (λ e. record { count = 0; few = omega arith; walk = (h.each a b lt).0 e }),
+    (λ near. (h.each a b lt).1 (nothing near.count near.few near.walk)),
+  );
+}
+  where
+    nothing : {a b : ℕ} (count : ℕ) → count ≤ 0 → EdgeWalk edge a b count → a ≡ b
+    nothing zero few walk = walk
+    nothing (suc count) few walk = absurd (omega (arith, few))
+
+module _ (edge : Edges) (n : ℕ) (stay : (a x : ℕ) → edge a x → x < n) where
+  near_more : (k a b : ℕ) → IsNear edge k a b → IsNear edge (k + 1) a b
   near_more k a b h = record { count = h.count; few = omega (arith, h.few); walk = h.walk }
 
-  near_split : (k a b n : ℕ) → n ≤ k + 1 → EdgeWalk edges a b n → IsNear edges k a b ⊎ ((x : ℕ) × (in_row edges a x ≡ true) × IsNear edges k x b)
+  near_split : (k a b i : ℕ) → i ≤ k + 1 → EdgeWalk edge a b i → IsNear edge k a b ⊎ ((x : ℕ) × edge a x × IsNear edge k x b)
   near_split k a b zero few walk = inl (record { count = 0; few = omega arith; walk = walk })
-  near_split k a b (suc n) few walk = inr (walk.0, walk.1, record { count = n; few = omega (arith, few); walk = walk.2 })
+  near_split k a b (suc i) few walk = inr (walk.0, walk.1, record { count = i; few = omega (arith, few); walk = walk.2 })
 
-  pub level_next : (k : ℕ) (level next : List ℕ) → IsLevel edges k level → IsExpanded edges level next → IsLevel edges (k + 1) next
+  pub level_next : (k : ℕ) (level next : List ℕ) → IsLevel edge n k level → IsExpanded edge level next → IsLevel edge n (k + 1) next
   level_next k level next h made = record {
-    full = made.full;
+    full = made.full ∙ h.full;
     each = λ a b lt. (
-      (λ e. elim ((made.each a b lt).0 e) [
+      (λ e. elim ((made.each a b (subst (λ z. a < z) (sym h.full) lt)).0 e) [
         | inl old ↦ near_more k a b ((h.each a b lt).0 old)
         | inr j ↦
-            let rest : IsNear edges k j.0 b = (h.each j.0 b (stay a j.0 j.2)).0 j.3 in
-            record { count = suc rest.count; few = omega (arith, rest.few); walk = (j.0, j.2, rest.walk) }
+            let rest : IsNear edge k j.0 b = (h.each j.0 b (stay a j.0 j.1)).0 j.2 in
+            record { count = suc rest.count; few = omega (arith, rest.few); walk = (j.0, j.1, rest.walk) }
       ]),
-      (λ near. (made.each a b lt).1 (elim (near_split k a b near.count near.few near.walk) [
+      (λ near. (made.each a b (subst (λ z. a < z) (sym h.full) lt)).1 (elim (near_split k a b near.count near.few near.walk) [
         | inl old ↦ inl ((h.each a b lt).1 old)
-        | inr j ↦
-            let within : j.0 < length edges = stay a j.0 j.1 in
-            inr (j.0, omega (arith, within, h.full), j.1, (h.each j.0 b within).1 j.2)
+        | inr j ↦ inr (j.0, j.1, (h.each j.0 b (stay a j.0 j.1)).1 j.2)
       ])),
     );
   }
 
-  pub levels_more : (levels : List (List ℕ)) (k : ℕ) (level next : List ℕ) → AreLevels edges levels → length levels ≡ k + 1 → slice_get levels k ≡ Some level → IsExpanded edges level next
-      → AreLevels edges (levels ++ next ∷ [])
+  pub levels_more : (levels : List (List ℕ)) (k : ℕ) (level next : List ℕ) → AreLevels edge n levels → length levels ≡ k + 1 → slice_get levels k ≡ Some level → IsExpanded edge level next
+      → AreLevels edge n (levels ++ next ∷ [])
   levels_more levels k level next h full at made j other at_j = elim (push_get levels next other j at_j) [
     | inl there ↦ h j other there
     | inr last ↦
         let here : k + 1 ≡ j = omega (arith, last.0, full) in
-        subst (λ z. IsLevel edges z other) here (subst (IsLevel edges (k + 1)) last.1 (level_next k level next (h k level at) made))
+        subst (λ z. IsLevel edge n z other) here (subst (IsLevel edge n (k + 1)) last.1 (level_next k level next (h k level at) made))
   ]
+
+  -- where one edge more leads to nothing more, no edges do
+  pub closed_walk : (level : List ℕ) → length level ≡ n → ((a : ℕ) → a < n → in_row level a a ≡ true) → IsExpanded edge level level
+      → (i a b : ℕ) → a < n → EdgeWalk edge a b i → in_row level a b ≡ true
+  closed_walk level full self closed zero a b lt walk = subst (λ z. in_row level a z ≡ true) walk (self a lt)
+  closed_walk level full self closed (suc i) a b lt walk =
+      (closed.each a b (subst (λ z. a < z) (sym full) lt)).1 (inr (walk.0, walk.1, closed_walk level full self closed i walk.0 b (stay a walk.0 walk.1) walk.2))

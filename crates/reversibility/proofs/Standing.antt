@@ -52,8 +52,8 @@ module _ (p : ClassParts) (is : IsClasses p) (s : List ℕ) (c row mode : ℕ) (
         | inr e ↦ other (e ∙ get_or_from_slice_get p.base c b 0 at_b)
       ]
 
--- a component has 16 modes at most
-pub modes_few : (m : Automata) → WellFormed m → (c : ℕ) → c < length m.components → slice_index (mode_counts m) c ≤ 16
+-- a component has no more modes than it may have
+pub modes_few : (m : Automata) → WellFormed m → (c : ℕ) → c < length m.components → slice_index (mode_counts m) c ≤ MAX_CHOICES
 modes_few m w c within =
     let found = some_at m.components c within in
     let is : IsComponent found.0 = All-contains IsComponent m.components found.0 w.components (c, within, get_or_from_slice_get m.components c found.0 found.0 found.1) in

@@ -21,7 +21,7 @@ use Rattle.reach_laws.proofs.Facts.{RepairRules}
 use Rattle.reach_laws.proofs.Walk.{one_end, repairs_from}
 use Rattle.reach_laws.proofs.Needed.{needed_among}
 use Rattle.reversibility.specs.Parts.{in_row, IsClasses}
-use Rattle.reversibility.specs.Levels.{IsHomeFrom, IsClassFrom, AreDone}
+use Rattle.reversibility.specs.Homes.{IsHomeFrom, IsClassFrom, AreDone}
 
 -- ---- what depends on the needed components alone
 

@@ -1,14 +1,14 @@
--- Which modes edges lead to, in how many moves.
-use Rattle.std.specs.Prelude.{◌≡◌, ◌⊎◌, ◌↔◌, ◌<◌, ◌≤◌, ℕ, Bool, zero, suc, true, false, List, length, slice_index, slice_get, Some, Contains}
+-- Which modes the open moves of a component lead to, in how many moves.
+use Rattle.std.specs.Prelude.{◌≡◌, ◌⊎◌, ◌↔◌, ◌<◌, ◌≤◌, ◌-◌, ℕ, zero, suc, true, List, length, slice_index, slice_get, Some, Contains}
 use Rattle.cca_base.specs.declared.cube.Pair.{Pair}
 use Rattle.cca_base.specs.declared.model.Move.{Move}
 use Rattle.cca_base.specs.Automata.{Automata}
-use Rattle.cca_base.specs.Flags.{is_set}
-use Rattle.cca_base.specs.Model.{mode_counts, is_broken, IsNext}
-use Rattle.cca_base.specs.Sets.{has}
-use Rattle.reach_laws.specs.Classes.{Test, AreInside, IsOpen, OpenMove, Joined, OpenRepairs, IsHome, InClass}
-use Rattle.reach_laws.proofs.Order.{Among}
+use Rattle.cca_base.specs.Model.{HasMode, mode_counts}
+use Rattle.cca_base.specs.Relations.{AreExactly}
+use Rattle.reach_laws.specs.Classes.{Test, AreInside, IsOpen, OpenMove, Joined}
 use Rattle.reversibility.specs.Parts.{in_row}
+
+-- ---- open moves
 
 -- some cube of the list lies in the classes
 pub record SomeInside (member : Test) (cubes : List (List Pair)) : Type 0 where
@@ -16,96 +16,80 @@ pub record SomeInside (member : Test) (cubes : List (List Pair)) : Type 0 where
   pub one : Contains cubes cube
   pub inside : AreInside member cube
 
--- one of the first moves is an open one of c from a to x
-pub record OpenBelow (m : Automata) (member : Test) (c a x n : ℕ) : Type 0 where
-  pub at : ℕ
-  pub below : at < n
+-- the number is that of an open move of the component
+pub record IsOpenNumber (m : Automata) (member : Test) (c i : ℕ) : Type 0 where
   pub move : Move
-  pub move_at : slice_get m.moves at ≡ Some move
+  pub move_at : slice_get m.moves i ≡ Some move
   pub own : move.component ≡ c
-  pub source : move.source ≡ a
-  pub target : move.target ≡ x
   pub open_move : IsOpen m member move
 
--- the edges of the first moves
-pub record AreEdgesTo (m : Automata) (member : Test) (c : ℕ) (edges : List ℕ) (n : ℕ) : Type 0 where
-  pub full : length edges ≡ slice_index (mode_counts m) c
-  pub each : (a x : ℕ) → (in_row edges a x ≡ true) ↔ OpenBelow m member c a x n
+-- exactly the numbers of the component's open moves, rising
+abbrev pub AreOpenMoves : Automata → Test → ℕ → List ℕ → Type 0
+AreOpenMoves m member c = AreExactly (IsOpenNumber m member c)
 
--- the edges of a component are its open moves
-pub record AreEdges (m : Automata) (member : Test) (c : ℕ) (edges : List ℕ) : Type 0 where
-  pub full : length edges ≡ slice_index (mode_counts m) c
-  pub each : (a x : ℕ) → (in_row edges a x ≡ true) ↔ OpenMove m member c a x
+-- exactly those of them that come before a number
+abbrev pub AreOpenBefore : Automata → Test → ℕ → ℕ → List ℕ → Type 0
+AreOpenBefore m member c n = AreExactly (λ i. (i < n) × IsOpenNumber m member c i)
+
+-- each of the numbers names a move between modes below n
+abbrev pub AreMovesWithin : Automata → ℕ → List ℕ → Type 0
+AreMovesWithin m n numbers = (place : ℕ) → place < length numbers
+    → (move : Move) × (slice_get m.moves (slice_index numbers place) ≡ Some move) × (move.source < n) × (move.target < n)
+
+-- ---- edges, and what so many of them lead to
+
+-- which numbers edges lead to
+abbrev pub Edges : Type 1
+Edges = ℕ → ℕ → Type 0
+
+-- one of the first numbers is that of a move from a to x
+pub record Leads (m : Automata) (numbers : List ℕ) (n a x : ℕ) : Type 0 where
+  pub place : ℕ
+  pub below : place < n
+  pub move : Move
+  pub move_at : slice_get m.moves (slice_index numbers place) ≡ Some move
+  pub source : move.source ≡ a
+  pub target : move.target ≡ x
 
 -- n edges lead from the one to the other
-abbrev pub EdgeWalk : List ℕ → ℕ → ℕ → ℕ → Type 0
-EdgeWalk edges a b zero = a ≡ b
-EdgeWalk edges a b (suc n) = (x : ℕ) × (in_row edges a x ≡ true) × EdgeWalk edges x b n
+abbrev pub EdgeWalk : Edges → ℕ → ℕ → ℕ → Type 0
+EdgeWalk edge a b zero = a ≡ b
+EdgeWalk edge a b (suc n) = (x : ℕ) × edge a x × EdgeWalk edge x b n
 
 -- so many edges at most lead from the one to the other
-pub record IsNear (edges : List ℕ) (k a b : ℕ) : Type 0 where
+pub record IsNear (edge : Edges) (k a b : ℕ) : Type 0 where
   pub count : ℕ
   pub few : count ≤ k
-  pub walk : EdgeWalk edges a b count
+  pub walk : EdgeWalk edge a b count
 
--- for each number all that so many edges at most lead to
-pub record IsLevel (edges : List ℕ) (k : ℕ) (level : List ℕ) : Type 0 where
-  pub full : length level ≡ length edges
-  pub each : (a b : ℕ) → a < length edges → (in_row level a b ≡ true) ↔ IsNear edges k a b
+-- for each number below n all that so many edges at most lead to
+pub record IsLevel (edge : Edges) (n k : ℕ) (level : List ℕ) : Type 0 where
+  pub full : length level ≡ n
+  pub each : (a b : ℕ) → a < n → (in_row level a b ≡ true) ↔ IsNear edge k a b
 
 -- the levels from 0 on
-abbrev pub AreLevels : List ℕ → List (List ℕ) → Type 0
-AreLevels edges levels = (k : ℕ) (level : List ℕ) → slice_get levels k ≡ Some level → IsLevel edges k level
+abbrev pub AreLevels : Edges → ℕ → List (List ℕ) → Type 0
+AreLevels edge n levels = (k : ℕ) (level : List ℕ) → slice_get levels k ≡ Some level → IsLevel edge n k level
 
--- one move more: what was near, and what an edge leads near to
-pub record IsExpanded (edges level next : List ℕ) : Type 0 where
-  pub full : length next ≡ length edges
-  pub each : (a b : ℕ) → a < length edges → (in_row next a b ≡ true) ↔ ((in_row level a b ≡ true) ⊎ ((x : ℕ) × (x < length level) × (in_row edges a x ≡ true) × (in_row level x b ≡ true)))
+-- one edge more: what was near, and what an edge leads near to
+pub record IsExpanded (edge : Edges) (level next : List ℕ) : Type 0 where
+  pub full : length next ≡ length level
+  pub each : (a b : ℕ) → a < length level → (in_row next a b ≡ true) ↔ ((in_row level a b ≡ true) ⊎ ((x : ℕ) × edge a x × (in_row level x b ≡ true)))
 
--- the edges lead to numbers that have edges of their own
-abbrev pub StayWithin : List ℕ → Type 0
-StayWithin edges = (a x : ℕ) → in_row edges a x ≡ true → x < length edges
-
--- a set joined with the rows of the first numbers of another set
-abbrev pub IsJoinedTo : ℕ → ℕ → List ℕ → ℕ → ℕ → Type 0
-IsJoinedTo start set level n all =
-    (b : ℕ) → (has all b ≡ true) ↔ ((has start b ≡ true) ⊎ ((x : ℕ) × (x < n) × (has set x ≡ true) × (in_row level x b ≡ true)))
-
--- the numbers that the last level joins both ways with the home
-abbrev pub IsAround : List ℕ → ℕ → ℕ → ℕ → Type 0
-IsAround closed home n all = (x : ℕ) → (has all x ≡ true) ↔ ((x < n) × (in_row closed home x ≡ true) × (in_row closed x home ≡ true))
+-- there is a level for each number of edges up to n, or one edge more than at the last level leads to nothing more
+abbrev pub AreEnough : Edges → ℕ → List (List ℕ) → Type 0
+AreEnough edge n levels = (length levels ≡ suc n) ⊎ ((level : List ℕ) → slice_get levels (length levels - 1) ≡ Some level → IsExpanded edge level level)
 
 -- each of the first numbers leads to itself alone
 pub record IsSelf (n : ℕ) (level : List ℕ) : Type 0 where
   pub full : length level ≡ n
   pub each : (a b : ℕ) → a < n → (in_row level a b ≡ true) ↔ (a ≡ b)
 
--- the first rows are expanded
-pub record IsExpandedTo (edges level next : List ℕ) (n : ℕ) : Type 0 where
-  pub full : length next ≡ n
-  pub each : (a b : ℕ) → a < n → (in_row next a b ≡ true) ↔ ((in_row level a b ≡ true) ⊎ ((x : ℕ) × (x < length level) × (in_row edges a x ≡ true) × (in_row level x b ≡ true)))
+-- ---- a component
 
--- by edges: the mode itself where it is not broken, and else its mended mode, where an edge leads there
-abbrev pub IsHomeBy : List Move → List ℕ → ℕ → ℕ → ℕ → Type 0
-IsHomeBy moves edges c mode a = ((is_broken moves c mode ≡ false) × (a ≡ mode)) ⊎ (IsNext moves c mode a × (in_row edges mode a ≡ true))
-
--- the first mode that is not broken on the way from a mode along open repairs
-pub record IsHomeFrom (m : Automata) (member : Test) (c mode a : ℕ) : Type 0 where
-  pub sound : is_broken m.moves c a ≡ false
-  pub count : ℕ
-  pub way : OpenRepairs m member c mode a count
-
--- exactly the modes that are joined both ways with the home
-pub record IsClassFrom (m : Automata) (member : Test) (c mode set : ℕ) : Type 0 where
-  pub home : ℕ
-  pub is_home : IsHomeFrom m member c mode home
-  pub each : (x : ℕ) → (has set x ≡ true) ↔ (Joined m member c home x × Joined m member c x home)
-
--- the classes of these components stand, and the others are empty
-pub record AreDone (m : Automata) (base rows : List ℕ) (flags : List Bool) (done : List ℕ) : Type 0 where
-  pub rows_full : length rows ≡ length m.components
-  pub flags_full : length flags ≡ length m.components
-  pub each : (d x : ℕ) → Among d done → (in_row rows d x ≡ true) ↔ InClass m base (in_row rows) d x
-  pub rest : (d x : ℕ) → (Among d done → ⊥) → in_row rows d x ≡ false
-  pub flagged : (d : ℕ) → Among d done → (is_set flags d ≡ true) ↔ ((is_broken m.moves d (slice_index base d) ≡ true) × ((a : ℕ) × IsHome m base (in_row rows) d a))
-  pub unflagged : (d : ℕ) → (Among d done → ⊥) → is_set flags d ≡ false
+-- the levels of a component's open moves from 0 on, of which the last has all that open moves lead to
+pub record AreLevelsOf (m : Automata) (member : Test) (c : ℕ) (levels : List (List ℕ)) : Type 0 where
+  pub some : 0 < length levels
+  pub few : length levels ≤ suc (slice_index (mode_counts m) c)
+  pub each : AreLevels (OpenMove m member c) (slice_index (mode_counts m) c) levels
+  pub last : (level : List ℕ) → slice_get levels (length levels - 1) ≡ Some level → (a b : ℕ) → HasMode m c a → Joined m member c a b → in_row level a b ≡ true

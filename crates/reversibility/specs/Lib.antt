@@ -1,2 +1,5 @@
 pub mod Parts
 pub mod Levels
+pub mod Homes
+pub mod Paths
+pub mod Promises

@@ -1,31 +1,64 @@
-ghost use Rattle.std.specs.Prelude.{◌≡◌, ◌<◌, ℕ, IfOk, MatchOption, length};
+//! The class of a component: the strongly connected component of its home among the modes that open moves lead to.
+
+ghost use Rattle.std.specs.Prelude.{◌≡◌, ◌<◌, ◌≤◌, ◌↔◌, ℕ, IfOk, IsTrue, MatchOption, length};
+ghost use Rattle.cca_base.specs.declared.limits.TheConstants.{MAX_CHOICES};
 ghost use Rattle.cca_base.specs.Model.{HasMode};
-ghost use Rattle.reversibility.specs.Levels.{IsHomeBy, IsHomeFrom, IsClassFrom};
+ghost use Rattle.reversibility.specs.Homes.{IsAround, IsHomeBy, IsHomeFrom, IsClassFrom};
+ghost use Rattle.reversibility.specs.Levels.{AreMovesWithin, Leads};
 ghost use Rattle.reversibility.specs.Parts.{in_row};
 
-use crate::level::{around, levels};
-use crate::open::edges;
+use crate::paths::paths_of;
 use cca_base::{Compiled, Model, ValueSet};
 use std::alloc::{AllocError, Global};
 
-/// The home of a mode by its edges.
-fn home_of(model: &Model, edges: &[ValueSet], c: u16, mode: u8) -> Option<u8>
-    requires { mode < length edges.now }
+/// Whether one of the moves leads from the one mode to the other.
+fn leads(model: &Model, numbers: &[u16], from: u8, to: u8) -> bool
+    requires { (n : ℕ) × AreMovesWithin model.now n numbers.now }
+    ensures { IsTrue result ↔ Leads model.now numbers.now (length numbers.now) from to }
+{
+    let moves = model.moves();
+    for k in 0..numbers.len() {
+        let m = moves.get(numbers[k] as usize);
+        if m.source == from && m.target == to {
+            return true;
+        }
+    }
+    false
+}
+
+/// The home of a mode by the open moves: the mode itself, or where it is broken its mended mode.
+fn home_of(model: &Model, numbers: &[u16], c: u16, mode: u8) -> Option<u8>
+    requires { (n : ℕ) × AreMovesWithin model.now n numbers.now }
     ensures { MatchOption result
-        ((a : ℕ) → IsHomeBy model.now.moves edges.now c mode a → ⊥)
-        (IsHomeBy model.now.moves edges.now c mode) }
+        ((a : ℕ) → IsHomeBy model.now.moves (Leads model.now numbers.now (length numbers.now)) c mode a → ⊥)
+        (IsHomeBy model.now.moves (Leads model.now numbers.now (length numbers.now)) c mode) }
 {
     let _moves = model.moves();
     match model.mended(c, mode) {
         None => Some(mode),
         Some(mended) => {
-            if edges[mode as usize].has(mended) {
+            if leads(model, numbers, mode, mended) {
                 Some(mended)
             } else {
                 None
             }
         }
     }
+}
+
+/// The modes that are joined both ways with the home.
+fn around(closed: &[ValueSet], home: u8) -> ValueSet
+    requires few { length closed.now ≤ MAX_CHOICES }
+    requires within { home < length closed.now }
+    ensures { IsAround closed.now home (length closed.now) result }
+{
+    let mut all = ValueSet::empty();
+    for x in 0..closed.len() {
+        if closed[home as usize].has(x as u8) && closed[x].has(home) {
+            all = all.with(x as u8);
+        }
+    }
+    all
 }
 
 /// The class of a component around a mode, where the classes of what it needs are there.
@@ -43,11 +76,10 @@ pub(crate) fn class_around(
         ((a : ℕ) → IsHomeFrom compiled.now.model (in_row rows.now) c mode a → ⊥)
         (IsClassFrom compiled.now.model (in_row rows.now) c mode)) }
 {
-    let edges = edges(alloc, compiled, rows, c)?;
-    let Some(home) = home_of(compiled.model(), edges.as_slice(), c, mode) else {
+    let paths = paths_of(alloc, compiled, rows, c)?;
+    let Some(home) = home_of(compiled.model(), paths.numbers.as_slice(), c, mode) else {
         return Ok(None);
     };
-    let levels = levels(alloc, edges.as_slice())?;
-    let closed = levels.get(edges.len());
+    let closed = paths.levels.get(paths.levels.len() - 1);
     Ok(Some(around(closed.as_slice(), home)))
 }

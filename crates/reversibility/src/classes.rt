@@ -1,9 +1,10 @@
 ghost use Rattle.std.specs.Prelude.{◌≡◌, ◌↔◌, ◌+◌, ◌-◌, ◌<◌, IsTrue, IfOk, OnOk, drop, length, slice_index};
-ghost use Rattle.reversibility.specs.Levels.{AreDone};
+ghost use Rattle.reversibility.specs.Homes.{AreDone};
 ghost use Rattle.cca_base.specs.Flags.{is_set};
 ghost use Rattle.cca_base.specs.State.{IsState};
 ghost use Rattle.reach_laws.specs.Classes.{Covers, Stands};
-ghost use Rattle.reversibility.specs.Parts.{IsClasses, in_row};
+ghost use Rattle.reversibility.specs.Parts.{IsClasses, CoversState, in_row};
+ghost use Rattle.reversibility.specs.Promises.{IsMendable, IsLost, IsEmptySet, IsReachOf, AllowsInside, MendsInside, StaysInside};
 
 use crate::around::class_around;
 use cca_base::{Compiled, List, State, ValueSet};
@@ -85,6 +86,7 @@ impl Classes {
         requires { IsState compiled.now.value.model state.now.modes }
         ensures compiled { IfOk result (λ c. c.compiled ≡ compiled.now.value) }
         ensures base { IfOk result (λ c. c.base ≡ state.now.modes) }
+        ensures covered { IfOk result (λ c. CoversState c state.now.modes) }
     {
         let n = compiled.model().components().len();
         let mut taken = Taken {
@@ -123,6 +125,8 @@ impl Classes {
     pub fn class(&self, c: u16) -> ValueSet
         requires { c < length self.now.compiled.model.components }
         ensures value { result ≡ slice_index self.now.rows c }
+        ensures reach { IsReachOf self.now c result }
+        ensures empty { IsEmptySet result ↔ IsLost self.now c }
         ensures classes { IsClasses self.now }
     {
         *self.rows.get(c as usize)
@@ -149,6 +153,7 @@ impl Classes {
     pub fn mendable(&self, c: u16) -> bool
         requires { c < length self.now.compiled.model.components }
         ensures value { result ≡ is_set self.now.mendable c }
+        ensures mendable { IsTrue result ↔ IsMendable self.now c }
         ensures classes { IsClasses self.now }
     {
         *self.mendable.get(c as usize)
@@ -157,7 +162,10 @@ impl Classes {
     /// Whether each component of the state stands in its class or in its base mode.
     pub fn covers(&self, state: &State) -> bool
         requires { IsState self.now.compiled.model state.now.modes }
-        ensures { IsTrue result ↔ Covers self.now.compiled.model self.now.base (in_row self.now.rows) state.now.modes }
+        ensures value { IsTrue result ↔ Covers self.now.compiled.model self.now.base (in_row self.now.rows) state.now.modes }
+        ensures allowed { IsTrue result → AllowsInside self.now state.now.modes }
+        ensures mended { IsTrue result → MendsInside self.now state.now.modes }
+        ensures later { IsTrue result → StaysInside self.now state.now.modes }
     {
         for c in 0..self.rows.len() {
             let mode = *state.modes.get(c);

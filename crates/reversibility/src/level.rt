@@ -1,79 +1,72 @@
-ghost use Rattle.std.specs.Prelude.{◌≡◌, ◌↔◌, ◌+◌, ◌<◌, ◌≤◌, ℕ, IfOk, length, slice_get, Some};
-ghost use Rattle.reversibility.specs.Levels.{AreLevels, IsLevel, IsExpanded, StayWithin, IsJoinedTo, IsAround};
+//! Breadth-first search from all modes of a component at once. A level has for each mode the set of modes that so many
+//! moves at most lead to; the next level comes by one pass over the moves, and the search ends where nothing is new.
 
-use cca_base::{List, ValueSet};
+ghost use Rattle.std.specs.Prelude.{◌≡◌, ◌+◌, ◌<◌, ◌≤◌, IfOk, length};
+ghost use Rattle.cca_base.specs.declared.limits.TheConstants.{MAX_CHOICES};
+ghost use Rattle.reversibility.specs.Levels.{AreMovesWithin, Leads, AreLevels, AreEnough, IsLevel, IsExpanded};
+
+use cca_base::{List, Model, ValueSet};
 use std::alloc::{AllocError, Global};
 
-/// Each number leads to itself.
-fn first_level(alloc: Global, edges: &[ValueSet]) -> Result<List<ValueSet>, AllocError>
-    requires { length edges.now ≤ 16 }
-    ensures { IfOk result (IsLevel edges.now 0) }
+/// Each mode leads to itself.
+fn first_level(
+    alloc: Global,
+    model: &Model,
+    numbers: &[u16],
+    modes: usize,
+) -> Result<List<ValueSet>, AllocError>
+    requires { modes ≤ MAX_CHOICES }
+    ensures { IfOk result (IsLevel (Leads model.now numbers.now (length numbers.now)) modes 0) }
 {
     let mut level = List::new(alloc);
-    for a in 0..edges.len() {
+    for a in 0..modes {
         level.push(ValueSet::empty().with(a as u8))?;
     }
     Ok(level)
 }
 
-/// A set with the rows of the numbers of another set.
-fn joined(start: ValueSet, set: ValueSet, level: &[ValueSet]) -> ValueSet
-    requires { length level.now ≤ 16 }
-    ensures { IsJoinedTo start set level.now (length level.now) result }
-{
-    let mut all = start;
-    for x in 0..level.len() {
-        if set.has(x as u8) {
-            all = all.union(level[x]);
-        }
-    }
-    all
-}
-
-/// What one edge more leads to.
+/// What one of the moves more leads to.
 fn expand(
     alloc: Global,
+    model: &Model,
+    numbers: &[u16],
     level: &[ValueSet],
-    edges: &[ValueSet],
 ) -> Result<List<ValueSet>, AllocError>
-    requires few { length level.now ≤ 16 }
-    requires full { length level.now ≡ length edges.now }
-    ensures { IfOk result (IsExpanded edges.now level.now) }
+    requires { AreMovesWithin model.now (length level.now) numbers.now }
+    ensures { IfOk result (IsExpanded (Leads model.now numbers.now (length numbers.now)) level.now) }
 {
-    let mut next = List::new(alloc);
-    for a in 0..edges.len() {
-        next.push(joined(level[a], edges[a], level))?;
+    let moves = model.moves();
+    let mut next = List::of(Vec::from_slice(alloc, level)?);
+    for k in 0..numbers.len() {
+        let m = moves.get(numbers[k] as usize);
+        let set = next.get(m.source as usize).union(level[m.target as usize]);
+        next.set(m.source as usize, set);
     }
     Ok(next)
 }
 
-/// What so many edges lead to, from 0 edges to as many as there are numbers.
-pub fn levels(alloc: Global, edges: &[ValueSet]) -> Result<List<List<ValueSet>>, AllocError>
-    requires few { length edges.now ≤ 16 }
-    requires within { StayWithin edges.now }
-    ensures levels { IfOk result (AreLevels edges.now) }
-    ensures full { IfOk result (λ l. length l ≡ length edges.now + 1) }
+/// What so many of the moves lead to, from 0 moves on, until one move more leads to nothing new.
+pub(crate) fn levels(
+    alloc: Global,
+    model: &Model,
+    numbers: &[u16],
+    modes: usize,
+) -> Result<List<List<ValueSet>>, AllocError>
+    requires few { modes ≤ MAX_CHOICES }
+    requires within { AreMovesWithin model.now modes numbers.now }
+    ensures levels { IfOk result (AreLevels (Leads model.now numbers.now (length numbers.now)) modes) }
+    ensures enough { IfOk result (AreEnough (Leads model.now numbers.now (length numbers.now)) modes) }
+    ensures some { IfOk result (λ l. 0 < length l) }
+    ensures short { IfOk result (λ l. length l ≤ modes + 1) }
 {
     let mut levels = List::new(alloc);
-    levels.push(first_level(alloc, edges)?)?;
-    for k in 0..edges.len() {
-        let next = expand(alloc, levels.get(k).as_slice(), edges)?;
+    levels.push(first_level(alloc, model, numbers, modes)?)?;
+    for k in 0..modes {
+        let next = expand(alloc, model, numbers, levels.get(k).as_slice())?;
+        if next.as_slice() == levels.get(k).as_slice() {
+            return Ok(levels);
+        }
         levels.push(next)?;
     }
     Ok(levels)
-}
-
-/// The numbers that are joined both ways with the home.
-pub(crate) fn around(closed: &[ValueSet], home: u8) -> ValueSet
-    requires few { length closed.now ≤ 16 }
-    requires within { home < length closed.now }
-    ensures { IsAround closed.now home (length closed.now) result }
-{
-    let mut all = ValueSet::empty();
-    for x in 0..closed.len() {
-        if closed[home as usize].has(x as u8) && closed[x].has(home) {
-            all = all.with(x as u8);
-        }
-    }
-    all
 }

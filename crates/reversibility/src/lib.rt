@@ -5,7 +5,8 @@ mod around;
 mod classes;
 mod level;
 mod open;
+mod paths;
 
 pub use classes::Classes;
-pub use level::levels;
-pub use open::{edges, is_inside, is_open};
+pub use open::is_inside;
+pub use paths::{Paths, paths_of};

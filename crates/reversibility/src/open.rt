@@ -1,6 +1,8 @@
+//! Which moves are open: those that have a prime implicant inside the classes.
+
 ghost use Rattle.std.specs.Prelude.{◌≡◌, ◌↔◌, ◌<◌, IsTrue, IfOk, All, length};
 ghost use Rattle.reach_laws.specs.Classes.{AreInside};
-ghost use Rattle.reversibility.specs.Levels.{AreEdges, SomeInside};
+ghost use Rattle.reversibility.specs.Levels.{AreOpenMoves, SomeInside};
 ghost use Rattle.reversibility.specs.Parts.{in_row};
 
 use cca_base::{Compiled, Cube, List, Pair, ValueSet};
@@ -20,7 +22,7 @@ pub fn is_inside(cube: &[Pair], rows: &[ValueSet]) -> bool
 }
 
 /// Whether one of the cubes is in the sets.
-pub fn is_open(cubes: &[Cube], rows: &[ValueSet]) -> bool
+fn is_open(cubes: &[Cube], rows: &[ValueSet]) -> bool
     requires { All (λ cube. All (λ p. p.item < length rows.now) cube) cubes.now }
     ensures { IsTrue result ↔ SomeInside (in_row rows.now) cubes.now }
 {
@@ -32,26 +34,22 @@ pub fn is_open(cubes: &[Cube], rows: &[ValueSet]) -> bool
     false
 }
 
-/// For each mode of the component those to which an open move leads.
-pub fn edges(
+/// The numbers of the component's open moves, rising.
+pub(crate) fn open_moves(
     alloc: Global,
     compiled: &Compiled,
     rows: &[ValueSet],
     c: u16,
-) -> Result<List<ValueSet>, AllocError>
-    requires within { c < length compiled.now.model.components }
-    requires full { length rows.now ≡ length compiled.now.model.components }
-    ensures { IfOk result (AreEdges compiled.now.model (in_row rows.now) c) }
+) -> Result<List<u16>, AllocError>
+    requires { length rows.now ≡ length compiled.now.model.components }
+    ensures { IfOk result (AreOpenMoves compiled.now.model (in_row rows.now) c) }
 {
-    let model = compiled.model();
-    let modes = model.components().get(c as usize).modes.len();
-    let mut sets = List::of(vec![in alloc; ValueSet::empty(); modes]?);
-    for i in 0..model.moves().len() {
-        let m = model.moves().get(i);
-        if m.component == c && is_open(compiled.ways().get(i).as_slice(), rows) {
-            let set = sets.get(m.source as usize).with(m.target);
-            sets.set(m.source as usize, set);
+    let moves = compiled.model().moves();
+    let mut numbers = List::new(alloc);
+    for i in 0..moves.len() {
+        if moves.get(i).component == c && is_open(compiled.ways().get(i).as_slice(), rows) {
+            numbers.push(i as u16)?;
         }
     }
-    Ok(sets)
+    Ok(numbers)
 }

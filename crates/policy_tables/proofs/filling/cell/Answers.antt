@@ -1,59 +1,135 @@
-use Rattle.std.proofs.Common.{◌≡◌, ◌≤◌, ◌∙◌, true, sym, subst, arith, slice_index}
-use Rattle.std.proofs.lemmas.Option.{slice_get_within}
-use Rattle.std.proofs.lemmas.Result.{IfOk-weaker}
-use Rattle.cca_base.specs.Accepted.{CompiledParts}
-use Rattle.cca_base.specs.Model.{mode_counts}
+use Rattle.std.proofs.Common.{◌≡◌, ◌<◌, ◌≤◌, ◌-◌, ◌∙◌, ℕ, true, suc, List, [], length, slice_get, slice_index, slice_index_or, Some, refl, sym, ap, subst, arith}
+use Rattle.std.proofs.lemmas.Option.{slice_get_within, get_or_from_slice_get}
+use Rattle.cca_base.specs.declared.cube.Pair.{Pair}
+use Rattle.cca_base.specs.declared.limits.TheConstants.{MAX_CHOICES}
+use Rattle.cca_base.specs.Automata.{Automata}
+use Rattle.cca_base.specs.Model.{WellFormed, mode_counts}
 use Rattle.cca_base.specs.Sets.{has}
-use Rattle.reach_laws.specs.declared.cell.Cell.{Cell}
-use Rattle.reach_laws.specs.Cells.{IsCell, IsShortest}
-use Rattle.policy_tables.specs.Filling.{MayStand, IsRightCell}
+use Rattle.reach_laws.specs.Cells.{IsShortest, IsStep}
+use Rattle.reach_laws.specs.Classes.{Test, OpenMove}
+use Rattle.reversibility.specs.Levels.{AreMovesWithin, IsLevel, AreLevelsOf}
 use Rattle.reversibility.specs.Parts.{ClassParts, in_row}
 use Rattle.reversibility.proofs.Standing.{modes_few}
-use Rattle.policy_tables.proofs.Filled.{no_level, level_shortest, joined_here, apart_some}
+use Rattle.policy_tables.specs.Distances.{NearAt, IsFirstPlace, IsFirstNear}
+use Rattle.policy_tables.specs.Leaving.{IsCubeOf, AreLeaving}
+use Rattle.policy_tables.proofs.Approach.{no_level, level_shortest, apart_some, some_leads}
+use Rattle.policy_tables.proofs.Filled.{joined_here}
+use Rattle.policy_tables.proofs.Leavers.{leaving_within, near_place, first_near, step_is}
 use Rattle.policy_tables.proofs.filling.cell.Goals as goal
 
 pub unreachable-requires : goal.unreachable-requires
 unreachable-requires c =
     let p : ClassParts = c.args.classes.now in
-    let inside : in_row p.rows c.args.c c.args.to ≡ true = subst (λ r. has r c.args.to ≡ true) c.class.ensures.value (sym c.has.ensures ∙ c.if-not-has.false) in
-    no_level p.compiled.model c.stands.ensures.classes.compiled.accepted.well_formed (in_row p.rows) c.args.c c.args.levels.now c.requires.levels c.args.from c.args.to c.requires.from
-    (joined_here p c.stands.ensures.classes c.args.c c.args.from c.args.to (c.stands.ensures.value.0 c.if-not-stands.false) inside) c.in_default.ensures
+    let d : ℕ = c.args.leaving.now.component in
+    let inside : in_row p.rows d c.args.to ≡ true = subst (λ r. has r c.args.to ≡ true) c.class.ensures.value (sym c.has.ensures ∙ c.if-not-has.false) in
+    no_level p.compiled.model c.class.ensures.classes.compiled.accepted.well_formed (in_row p.rows) d c.args.paths.now.levels c.requires.paths.levels c.args.leaving.now.mode c.args.to c.requires.from
+    (joined_here p c.class.ensures.classes d c.args.leaving.now.mode c.args.to c.requires.stands inside) c.in_default.ensures
 
 pub overflow_sub-left : goal.overflow_sub-left
 overflow_sub-left c =
     let p : ClassParts = c.args.classes.now in
-    let short : IsShortest p.compiled.model (in_row p.rows) c.args.c c.args.from c.args.to c.in-Some.left = level_shortest p.compiled.model c.stands.ensures.classes.compiled.accepted.well_formed (in_row p.rows) c.args.c
-    c.args.levels.now c.requires.levels c.args.from c.args.to c.in-Some.left c.requires.from c.in-Some.ensures in
-    apart_some p.compiled.model (in_row p.rows) c.args.c c.args.from c.args.to c.in-Some.left short c.if-from-to.false
+    let d : ℕ = c.args.leaving.now.component in
+    let w : WellFormed p.compiled.model = c.class.ensures.classes.compiled.accepted.well_formed in
+    let short = level_shortest p.compiled.model w (in_row p.rows) d c.args.paths.now.levels c.requires.paths.levels c.args.leaving.now.mode c.args.to c.in-Some.left c.requires.from c.in-Some.ensures in
+    apart_some p.compiled.model w (in_row p.rows) d c.args.leaving.now.mode c.args.to c.in-Some.left short c.if-leaving-to.false
 
 pub get-requires : goal.get-requires
 get-requires c =
     let first = c.in-Some.ensures in
-    omega (arith, slice_get_within c.args.levels.now c.in-Some.left first.level first.at)
+    omega (arith, slice_get_within c.args.paths.now.levels c.in-Some.left first.level first.at)
 
-pub overflow_cast-left : goal.overflow_cast-left
-overflow_cast-left c =
+-- the level of one move less, and the moves that leave
+module _ (m : Automata) (w : WellFormed m) (member : Test) (c : ℕ) (model : Automata) (same : model ≡ m) (levels : List (List ℕ)) (of : AreLevelsOf m member c levels) (k : ℕ) (level slice : List ℕ)
+    (at : slice_get levels k ≡ Some level) (slice_is : slice ≡ level) where
+  level_is : IsLevel (OpenMove m member c) (slice_index (mode_counts m) c) k slice
+  level_is = subst (IsLevel (OpenMove m member c) (slice_index (mode_counts m) c) k) (sym slice_is) (of.each k level at)
+
+  moves_within : (from : ℕ) (numbers list : List ℕ) → AreLeaving m member c from numbers → list ≡ numbers → AreMovesWithin model (length slice) list
+  moves_within from numbers list are list_is =
+      subst (λ n. AreMovesWithin model n list) (sym level_is.full)
+      (subst (AreMovesWithin model (slice_index (mode_counts m) c)) (sym list_is)
+      (subst (λ (z : Automata). AreMovesWithin z (slice_index (mode_counts m) c) numbers) (sym same) (leaving_within m w member c from numbers are)))
+
+pub first_near-requires : goal.first_near-requires
+first_near-requires c =
+    let p : ClassParts = c.args.classes.now in
+    let w : WellFormed p.compiled.model = c.class.ensures.classes.compiled.accepted.well_formed in
+    moves_within p.compiled.model w (in_row p.rows) c.args.leaving.now.component c.model-model.result.now (c.model-model.ensures.value ∙ ap (λ z. z.model) c.compiled.ensures.value)
+    c.args.paths.now.levels c.requires.paths.levels (c.in-Some.left - 1) c.get.result.now c.as_slice-level.result.now c.get.ensures.value c.as_slice-level.ensures
+    c.args.leaving.now.mode c.args.leaving.now.numbers c.as_slice.result.now c.requires.leaving.numbers c.as_slice.ensures
+
+-- what is left after the next move
+rest_is : (m : Automata) (member : Test) (c from to left : ℕ) → IsShortest m member c from to left → 0 < left → IsShortest m member c from to (suc (left - 1))
+rest_is m member c from to left short some = let e : left ≡ suc (left - 1) = omega (arith, some) in subst (IsShortest m member c from to) e short
+
+pub unreachable-requires-in_default-first_near : goal.unreachable-requires-in_default-first_near
+unreachable-requires-in_default-first_near c =
+    let p : ClassParts = c.args.classes.now in
+    let m : Automata = p.compiled.model in
+    let member : Test = in_row p.rows in
+    let d : ℕ = c.args.leaving.now.component in
+    let from : ℕ = c.args.leaving.now.mode in
+    let w : WellFormed m = c.class.ensures.classes.compiled.accepted.well_formed in
+    let short = level_shortest m w member d c.args.paths.now.levels c.requires.paths.levels from c.args.to c.in-Some.left c.requires.from c.in-Some.ensures in
+    let some = apart_some m w member d from c.args.to c.in-Some.left short c.if-leaving-to.false in
+    let level : List ℕ = c.as_slice-level.result.now in
+    let is = level_is m w member d m refl c.args.paths.now.levels c.requires.paths.levels (c.in-Some.left - 1) c.get.result.now level c.get.ensures.value c.as_slice-level.ensures in
+    let leads = some_leads m w member d from c.args.to (c.in-Some.left - 1) (rest_is m member d from c.args.to c.in-Some.left short some) level is in
+    let there = near_place m w member d from c.args.leaving.now.numbers c.requires.leaving.numbers level c.args.to leads.0 leads.1 in
+    c.in_default-first_near.ensures there.0 (subst (λ l. there.0 < length l) (sym c.as_slice.ensures) there.1)
+    (subst (λ l. NearAt c.model-model.result.now l level c.args.to there.0) (sym c.as_slice.ensures)
+    (subst (λ (z : Automata). NearAt z c.args.leaving.now.numbers level c.args.to there.0) (sym (c.model-model.ensures.value ∙ ap (λ z. z.model) c.compiled.ensures.value)) there.2))
+
+pub get-requires-2 : goal.get-requires-2
+get-requires-2 c =
+    let p : ClassParts = c.args.classes.now in
+    let m : Automata = p.compiled.model in
+    let d : ℕ = c.args.leaving.now.component in
+    let numbers : List ℕ = c.args.leaving.now.numbers in
+    let place : ℕ = c.in-Some-first_near.place in
+    let number_is : slice_index numbers place ≡ c.get-number.result.now = get_or_from_slice_get numbers place c.get-number.result.now 0 c.get-number.ensures.value in
+    let w : WellFormed m = c.class.ensures.classes.compiled.accepted.well_formed in
+    let fits = leaving_within m w (in_row p.rows) d c.args.leaving.now.mode numbers c.requires.leaving.numbers place (slice_get_within numbers place c.get-number.result.now c.get-number.ensures.value) in
+    let moves_are = c.moves.ensures.value ∙ (ap (λ (z : Automata). z.moves) (c.model-model.ensures.value ∙ ap (λ z. z.model) c.compiled.ensures.value)) in
+    omega (arith, slice_get_within m.moves (slice_index numbers place) fits.0 fits.1, number_is, ap length moves_are)
+
+pub overflow_cast-result : goal.overflow_cast-result
+overflow_cast-result c =
     let p : ClassParts = c.args.classes.now in
     let first = c.in-Some.ensures in
-    let few : slice_index (mode_counts p.compiled.model) c.args.c ≤ 16 = modes_few p.compiled.model c.stands.ensures.classes.compiled.accepted.well_formed c.args.c c.requires.within in
-    omega (arith, slice_get_within c.args.levels.now c.in-Some.left first.level first.at, c.requires.levels.full, c.requires.levels.are.full, few)
-
-pub step-requires-clause-shortest : goal.step-requires-clause-shortest
-step-requires-clause-shortest c =
-    let p : ClassParts = c.args.classes.now in
-    let short : IsShortest p.compiled.model (in_row p.rows) c.args.c c.args.from c.args.to c.in-Some.left = level_shortest p.compiled.model c.stands.ensures.classes.compiled.accepted.well_formed (in_row p.rows) c.args.c
-    c.args.levels.now c.requires.levels c.args.from c.args.to c.in-Some.left c.requires.from c.in-Some.ensures in
-    subst (λ (b : CompiledParts). IsShortest b.model (in_row c.rows.result.now) c.args.c c.args.from c.args.to c.in-Some.left) (sym c.compiled-compiled.ensures.value)
-    (subst (λ l. IsShortest p.compiled.model (in_row l) c.args.c c.args.from c.args.to c.in-Some.left) (sym c.rows.ensures.value) short)
+    let few : slice_index (mode_counts p.compiled.model) c.args.leaving.now.component ≤ MAX_CHOICES = modes_few p.compiled.model c.class.ensures.classes.compiled.accepted.well_formed c.args.leaving.now.component c.requires.within in
+    omega (arith, slice_get_within c.args.paths.now.levels c.in-Some.left first.level first.at, c.requires.paths.levels.few, few)
 
 pub returns : goal.returns
 returns c =
     let p : ClassParts = c.args.classes.now in
-    let stands : MayStand p c.args.c c.args.from = c.stands.ensures.value.0 c.if-not-stands.false in
-    IfOk-weaker c.step.result (IsCell c.compiled-compiled.result.now (in_row c.rows.result.now) c.args.c c.args.from c.args.to) (IsRightCell p c.args.c c.args.from c.args.to)
-    (λ (x : Cell) is. record {
-      policy = λ here. subst (λ (b : CompiledParts). IsCell b (in_row p.rows) c.args.c c.args.from c.args.to x) c.compiled-compiled.ensures.value
-          (subst (λ l. IsCell c.compiled-compiled.result.now (in_row l) c.args.c c.args.from c.args.to x) c.rows.ensures.value is);
-      outside = λ none. absurd (none stands);
-    })
-    c.step.ensures
+    let m : Automata = p.compiled.model in
+    let member : Test = in_row p.rows in
+    let d : ℕ = c.args.leaving.now.component in
+    let from : ℕ = c.args.leaving.now.mode in
+    let w : WellFormed m = c.class.ensures.classes.compiled.accepted.well_formed in
+    let numbers : List ℕ = c.args.leaving.now.numbers in
+    let cubes : List (List Pair) = c.args.leaving.now.cubes in
+    let place : ℕ = c.in-Some-first_near.place in
+    let number : ℕ = c.get-number.result.now in
+    let short = level_shortest m w member d c.args.paths.now.levels c.requires.paths.levels from c.args.to c.in-Some.left c.requires.from c.in-Some.ensures in
+    let some = apart_some m w member d from c.args.to c.in-Some.left short c.if-leaving-to.false in
+    let left_is : suc (c.in-Some.left - 1) ≡ c.in-Some.left = omega (arith, some) in
+    let level : List ℕ = c.as_slice-level.result.now in
+    let is = level_is m w member d m refl c.args.paths.now.levels c.requires.paths.levels (c.in-Some.left - 1) c.get.result.now level c.get.ensures.value c.as_slice-level.ensures in
+    let found : IsFirstPlace m numbers level c.args.to place =
+    subst (λ (z : Automata). IsFirstPlace z numbers level c.args.to place) (c.model-model.ensures.value ∙ ap (λ z. z.model) c.compiled.ensures.value)
+    (subst (λ l. IsFirstPlace c.model-model.result.now l level c.args.to place) c.as_slice.ensures c.in-Some-first_near.ensures) in
+    let number_is : slice_index numbers place ≡ number = get_or_from_slice_get numbers place number 0 c.get-number.ensures.value in
+    let near = first_near m w member d from numbers c.requires.leaving.numbers level c.args.to place found in
+    let moves_are = c.moves.ensures.value ∙ (ap (λ (z : Automata). z.moves) (c.model-model.ensures.value ∙ ap (λ z. z.model) c.compiled.ensures.value)) in
+    let move_at : slice_get m.moves number ≡ Some c.get-2.result.now = subst (λ l. slice_get l number ≡ Some c.get-2.result.now) moves_are c.get-2.ensures.value in
+    let cube_is : slice_index_or cubes place [] ≡ c.in_ok-copy.field-0 = get_or_from_slice_get cubes place c.get-3.result.now [] c.get-3.ensures.value ∙ sym c.in_ok-copy.ensures in
+    let cube : IsCubeOf p.compiled member number c.in_ok-copy.field-0 =
+    subst (IsCubeOf p.compiled member number) cube_is (subst (λ i. IsCubeOf p.compiled member i (slice_index_or cubes place [])) number_is (c.requires.leaving.cubes.each place found.within)) in (
+      c.if-leaving-to.false,
+      subst (λ r. has r c.args.to ≡ true) c.class.ensures.value (sym c.has.ensures ∙ c.if-not-has.false),
+      subst (IsStep p.compiled member d from c.args.to number c.get-2.result.now.command c.in_ok-copy.field-0) left_is
+          (step_is p.compiled w member d from c.args.to (c.in-Some.left - 1) (rest_is m member d from c.args.to c.in-Some.left short some) level is number
+          (subst (IsFirstNear m member level d from c.args.to) number_is near) c.get-2.result.now move_at c.in_ok-copy.field-0 cube),
+    )

@@ -4,7 +4,7 @@ use Rattle.cca_base.specs.Automata.{Automata}
 use Rattle.cca_base.specs.Model.{HasMode, is_broken}
 use Rattle.reach_laws.proofs.Facts.{at_get}
 use Rattle.reversibility.specs.Parts.{in_row}
-use Rattle.reversibility.specs.Levels.{AreDone, IsHomeFrom, IsClassFrom}
+use Rattle.reversibility.specs.Homes.{AreDone, IsHomeFrom, IsClassFrom}
 use Rattle.reversibility.proofs.Taken.{order_at, take_none, take_some}
 use Rattle.reversibility.proofs.classes.take.Goals as goal
 

@@ -1,12 +1,33 @@
-use Rattle.std.proofs.Common.{◌+◌, sym, subst, arith}
-use Rattle.reversibility.specs.Levels.{IsExpandedTo}
+use Rattle.std.proofs.Common.{◌≡◌, ◌+◌, length, slice_get, slice_index, Some, sym, ap, subst, arith}
+use Rattle.std.proofs.lemmas.Option.{slice_get_within}
+use Rattle.reversibility.proofs.Near.{IsExpandedBy, move_within, expand_more}
 use Rattle.reversibility.proofs.OpenMoves.{row_at}
-use Rattle.reversibility.proofs.Near.{expand_more}
 use Rattle.reversibility.proofs.level.expand.Goals as goal
 
-pub loop-a-preserved : goal.loop-a-preserved
-loop-a-preserved c =
-    subst (λ l. IsExpandedTo c.args.edges.now c.args.level.now l (c.loop-a.a + 1)) (sym c.in_ok-push.ensures.ok)
-    (expand_more c.args.edges.now c.args.level.now c.loop-a.next c.loop-a.a c.index-level-a.result c.index-edges-a.result c.joined.result c.loop-a.invariant
-    (row_at c.args.level.now c.loop-a.a c.index-level-a.result (omega (arith, c.loop-a-test.true, c.requires.full)) c.index-level-a.is)
-    (row_at c.args.edges.now c.loop-a.a c.index-edges-a.result c.loop-a-test.true c.index-edges-a.is) c.joined.ensures)
+pub get-m-requires : goal.get-m-requires
+get-m-requires c =
+    let is = c.requires c.loop-k.k c.loop-k-test.true in
+    omega (arith, slice_get_within c.args.model.now.moves (slice_index c.args.numbers.now c.loop-k.k) is.0 is.1, ap length c.moves-moves.ensures.value)
+
+pub get-requires : goal.get-requires
+get-requires c =
+    let at = subst (λ l. slice_get l (slice_index c.args.numbers.now c.loop-k.k) ≡ Some c.get-m.result.now) c.moves-moves.ensures.value c.get-m.ensures.value in
+    omega (arith, (move_within c.args.model.now (length c.args.level.now) c.args.numbers.now c.requires c.loop-k.k c.loop-k-test.true c.get-m.result.now at).0, c.loop-k.invariant.full)
+
+pub bounds-level-m : goal.bounds-level-m
+bounds-level-m c =
+    let at = subst (λ l. slice_get l (slice_index c.args.numbers.now c.loop-k.k) ≡ Some c.get-m.result.now) c.moves-moves.ensures.value c.get-m.ensures.value in
+    (move_within c.args.model.now (length c.args.level.now) c.args.numbers.now c.requires c.loop-k.k c.loop-k-test.true c.get-m.result.now at).1
+
+pub set-requires : goal.set-requires
+set-requires c =
+    let at = subst (λ l. slice_get l (slice_index c.args.numbers.now c.loop-k.k) ≡ Some c.get-m.result.now) c.moves-moves.ensures.value c.get-m.ensures.value in
+    omega (arith, (move_within c.args.model.now (length c.args.level.now) c.args.numbers.now c.requires c.loop-k.k c.loop-k-test.true c.get-m.result.now at).0, c.loop-k.invariant.full)
+
+pub loop-k-preserved : goal.loop-k-preserved
+loop-k-preserved c =
+    let at = subst (λ l. slice_get l (slice_index c.args.numbers.now c.loop-k.k) ≡ Some c.get-m.result.now) c.moves-moves.ensures.value c.get-m.ensures.value in
+    let within = (move_within c.args.model.now (length c.args.level.now) c.args.numbers.now c.requires c.loop-k.k c.loop-k-test.true c.get-m.result.now at).1 in
+    subst (IsExpandedBy c.args.model.now c.args.numbers.now c.args.level.now (c.loop-k.k + 1)) (sym c.set.ensures)
+    (expand_more c.args.model.now c.args.numbers.now c.args.level.now c.loop-k.k c.loop-k.next c.loop-k.invariant c.get-m.result.now at
+    c.get.result.now c.index-level-m.result c.union-set.result c.get.ensures.value (row_at c.args.level.now c.get-m.result.now.target c.index-level-m.result within c.index-level-m.is) c.union-set.ensures.members)

@@ -1,5 +1,5 @@
-use Rattle.reversibility.specs.Levels.{IsExpandedTo}
+use Rattle.reversibility.proofs.Near.{IsExpandedBy}
 use Rattle.reversibility.proofs.level.expand.Given as goal
 
-abbrev pub invariant-loop-a : goal.invariant-loop-a
-invariant-loop-a l = IsExpandedTo l.edges l.level l.next l.a
+abbrev pub invariant-loop-k : goal.invariant-loop-k
+invariant-loop-k l = IsExpandedBy l.model l.numbers l.level l.k l.next

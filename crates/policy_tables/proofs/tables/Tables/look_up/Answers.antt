@@ -2,6 +2,7 @@ use Rattle.std.proofs.Common.{◌∙◌, ap, sym, subst}
 use Rattle.reach_laws.specs.Cells.{IsCell}
 use Rattle.reversibility.specs.Parts.{in_row}
 use Rattle.policy_tables.specs.Tables.{IsTables}
+use Rattle.policy_tables.proofs.Choices.{choice_from}
 use Rattle.policy_tables.proofs.Places.{place_of}
 use Rattle.policy_tables.proofs.tables.Tables.look_up.Goals as goal
 
@@ -19,3 +20,9 @@ returns-clause-cell g c =
     let is : IsTables t = subst IsTables c.self.view_is c.self.invariant in
     subst (IsCell t.classes.compiled (in_row t.classes.rows) c.args.c c.args.from c.args.to) (sym (returns-clause-place g c))
     (is.cells.policy c.args.c c.args.from c.args.to c.requires.from c.requires.to c.requires.stands)
+
+pub returns-clause-chosen : goal.returns-clause-chosen
+returns-clause-chosen g c =
+    let t = c.args.self.now in
+    let is : IsTables t = subst IsTables c.self.view_is c.self.invariant in
+    choice_from t.classes is.classes c.args.c c.args.from c.args.to c.requires.from c.get-2.result.now (returns-clause-cell g c)

@@ -1,8 +1,9 @@
 use Rattle.std.proofs.Common.{◌≡◌, ◌-◌, ◌∙◌, ℕ, List, drop, length, sym, ap, subst, arith}
 use Rattle.cca_base.specs.Accepted.{CompiledParts, IsCompiled}
-use Rattle.reversibility.specs.Parts.{IsClasses}
-use Rattle.reversibility.specs.Levels.{AreDone}
+use Rattle.reversibility.specs.Parts.{ClassParts, IsClasses, CoversState}
+use Rattle.reversibility.specs.Homes.{AreDone}
 use Rattle.reversibility.proofs.Taken.{all_done}
+use Rattle.reversibility.proofs.Promised.{base_covered}
 use Rattle.reversibility.proofs.classes.Classes.of.Goals as goal
 
 pub invariant_of-result : goal.invariant_of-result
@@ -18,3 +19,8 @@ invariant_of-result c =
     all_done b is s c.loop-i.taken.rows c.loop-i.taken.mendable c.requires done in
     subst (λ x. IsClasses (record { compiled = x; base = c.in_ok-copy.field-0.modes; rows = c.loop-i.taken.rows; mendable = c.loop-i.taken.mendable })) (sym c.in_ok-clone.ensures.cases)
     (subst (λ y. IsClasses (record { compiled = b; base = y; rows = c.loop-i.taken.rows; mendable = c.loop-i.taken.mendable })) (sym (ap (λ z. z.modes) c.in_ok-copy.ensures)) made)
+
+pub returns-clause-covered : goal.returns-clause-covered
+returns-clause-covered c =
+    let p : ClassParts = record { compiled = c.in_ok-clone.field-0.value; base = c.in_ok-copy.field-0.modes; rows = c.loop-i.taken.rows; mendable = c.loop-i.taken.mendable } in
+    subst (CoversState p) (ap (λ z. z.modes) c.in_ok-copy.ensures) (base_covered p (invariant_of-result c))

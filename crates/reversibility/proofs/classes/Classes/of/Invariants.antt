@@ -1,5 +1,5 @@
 use Rattle.std.proofs.Common.{◌-◌, drop, length}
-use Rattle.reversibility.specs.Levels.{AreDone}
+use Rattle.reversibility.specs.Homes.{AreDone}
 use Rattle.reversibility.proofs.classes.Classes.of.Given as goal
 
 abbrev pub invariant-loop-i : goal.invariant-loop-i

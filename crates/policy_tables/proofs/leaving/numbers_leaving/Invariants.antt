@@ -1,0 +1,7 @@
+use Rattle.cca_base.specs.Relations.{AreExactly}
+use Rattle.policy_tables.specs.Leaving.{LeavesMode}
+use Rattle.reversibility.proofs.Exactly.{IsAmong}
+use Rattle.policy_tables.proofs.leaving.numbers_leaving.Given as goal
+
+abbrev pub invariant-loop-k : goal.invariant-loop-k
+invariant-loop-k l = AreExactly (λ i. IsAmong l.numbers l.k i × LeavesMode l.model l.from i) l.leaving

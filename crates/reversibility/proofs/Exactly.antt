@@ -1,0 +1,112 @@
+-- Rising lists of exactly the numbers of a kind.
+use Rattle.std.proofs.Common.{◌≡◌, ◌<◌, ◌+◌, ℕ, List, [], ◌∷◌, ◌++◌, ◌⊎◌, length, get_or, slice_index, AllPairs, Contains, refl, sym, subst, ◌∙◌, inl, inr, arith}
+use Rattle.std.proofs.lemmas.Bool.{cases_order}
+use Rattle.std.proofs.lemmas.List.{get_or_default}
+use Rattle.std.proofs.lemmas.List.Elements.{Contains-append_left, Contains-push, Contains-push_cases}
+use Rattle.std.proofs.lemmas.List.Quantifiers.{all_pairs_push}
+use Rattle.cca_base.specs.Relations.{AreExactly}
+
+-- those of the kind that come before n
+abbrev pub AreBefore : (ℕ → Type 0) → ℕ → List ℕ → Type 0
+AreBefore P n = AreExactly (λ i. (i < n) × P i)
+
+module _ (P : ℕ → Type 0) where
+  pub before_no : (n : ℕ) (xs : List ℕ) → AreBefore P n xs → (P n → ⊥) → AreBefore P (n + 1) xs
+  before_no n xs h other = record {
+    rising = h.rising;
+    each = λ i. (
+      (λ among. let is = (h.each i).0 among in (omega (arith, is.0), is.1)),
+      (λ is. elim (cases_order i n) [
+        | inl e ↦ absurd (other (subst P e is.1))
+        | inr (inl lt) ↦ (h.each i).1 (lt, is.1)
+        | inr (inr gt) ↦ absurd (omega (arith, gt, is.0))
+      ]),
+    );
+  }
+
+  pub before_yes : (n : ℕ) (xs : List ℕ) → AreBefore P n xs → P n → AreBefore P (n + 1) (xs ++ n ∷ [])
+  before_yes n xs h here = record {
+    rising = all_pairs_push (λ u v. u < v) xs n h.rising (λ k d within. ((h.each (get_or xs k d)).0 (k, within, get_or_default xs k (get_or xs k d) d within)).0);
+    each = λ i. (
+      (λ among. elim (Contains-push_cases xs n i among) [
+        | inl before ↦ let is = (h.each i).0 before in (omega (arith, is.0), is.1)
+        | inr e ↦ subst (λ k. (k < n + 1) × P k) e (omega arith, here)
+      ]),
+      (λ is. elim (cases_order i n) [
+        | inl e ↦ subst (Contains (xs ++ n ∷ [])) (sym e) (Contains-push xs n)
+        | inr (inl lt) ↦ Contains-append_left xs (n ∷ []) i ((h.each i).1 (lt, is.1))
+        | inr (inr gt) ↦ absurd (omega (arith, gt, is.0))
+      ]),
+    );
+  }
+
+  pub before_all : (n : ℕ) (xs : List ℕ) → ((i : ℕ) → P i → i < n) → AreBefore P n xs → AreExactly P xs
+  before_all n xs past h = record {
+    rising = h.rising;
+    each = λ i. ((λ among. ((h.each i).0 among).1), (λ is. (h.each i).1 (past i is, is)));
+  }
+
+  module _ (xs : List ℕ) (h : AreExactly P xs) where
+    pub exactly_here : (k : ℕ) → k < length xs → P (slice_index xs k)
+    exactly_here k within = (h.each (slice_index xs k)).0 (k, within, get_or_default xs k (slice_index xs k) 0 within)
+
+    pub exactly_place : (i : ℕ) → P i → (k : ℕ) × (k < length xs) × (slice_index xs k ≡ i)
+    exactly_place i is = let among = (h.each i).1 is in (among.0, among.1, get_or_default xs among.0 0 i among.1 ∙ among.2)
+
+    -- what comes before an entry stands at an earlier place
+    pub exactly_earlier : (k i : ℕ) → k < length xs → P i → i < slice_index xs k → (j : ℕ) × (j < k) × (slice_index xs j ≡ i)
+    exactly_earlier k i within is lt =
+        let there = exactly_place i is in
+        elim (cases_order there.0 k) [
+          | inl e ↦ absurd (omega (arith, lt, sym there.2 ∙ subst (λ z. slice_index xs there.0 ≡ slice_index xs z) e refl))
+          | inr (inl before) ↦ (there.0, before, there.2)
+          | inr (inr after) ↦
+              let rise : slice_index xs k < slice_index xs there.0 = h.rising k there.0 0 after there.1 in
+              absurd (omega (arith, lt, rise, there.2))
+        ]
+
+-- the number stands at one of the first places
+abbrev pub IsAmong : List ℕ → ℕ → ℕ → Type 0
+IsAmong xs n i = (place : ℕ) × (place < n) × (slice_index xs place ≡ i)
+
+-- those at the first places that are of a kind
+module _ (Q : ℕ → Type 0) (xs : List ℕ) (rising : AllPairs (λ u v. u < v) xs) (k : ℕ) (ys : List ℕ) (h : AreExactly (λ i. IsAmong xs k i × Q i) ys) where
+  one_more : (i : ℕ) → IsAmong xs k i → IsAmong xs (k + 1) i
+  one_more i among = (among.0, omega (arith, among.1), among.2)
+
+  before_or : (i : ℕ) → IsAmong xs (k + 1) i → IsAmong xs k i ⊎ (slice_index xs k ≡ i)
+  before_or i among = elim (cases_order among.0 k) [
+    | inl e ↦ inr (subst (λ z. slice_index xs z ≡ i) e among.2)
+    | inr (inl lt) ↦ inl (among.0, lt, among.2)
+    | inr (inr gt) ↦ absurd (omega (arith, gt, among.1))
+  ]
+
+  pub some_no : (Q (slice_index xs k) → ⊥) → AreExactly (λ i. IsAmong xs (k + 1) i × Q i) ys
+  some_no other = record {
+    rising = h.rising;
+    each = λ i. (
+      (λ there. let is = (h.each i).0 there in (one_more i is.0, is.1)),
+      (λ is. elim (before_or i is.0) [
+        | inl before ↦ (h.each i).1 (before, is.1)
+        | inr here ↦ absurd (other (subst Q (sym here) is.1))
+      ]),
+    );
+  }
+
+  pub some_yes : k < length xs → Q (slice_index xs k) → AreExactly (λ i. IsAmong xs (k + 1) i × Q i) (ys ++ slice_index xs k ∷ [])
+  some_yes within here = record {
+    rising = all_pairs_push (λ u v. u < v) ys (slice_index xs k) h.rising (λ j d lt.
+        let is = (h.each (get_or ys j d)).0 (j, lt, get_or_default ys j (get_or ys j d) d lt) in
+        let less : slice_index xs is.0.0 < slice_index xs k = rising is.0.0 k 0 is.0.1 within in
+        subst (λ z. z < slice_index xs k) is.0.2 less);
+    each = λ i. (
+      (λ there. elim (Contains-push_cases ys (slice_index xs k) i there) [
+        | inl before ↦ let is = (h.each i).0 before in (one_more i is.0, is.1)
+        | inr e ↦ subst (λ z. IsAmong xs (k + 1) z × Q z) e ((k, omega arith, refl), here)
+      ]),
+      (λ is. elim (before_or i is.0) [
+        | inl before ↦ Contains-append_left ys (slice_index xs k ∷ []) i ((h.each i).1 (before, is.1))
+        | inr e ↦ subst (Contains (ys ++ slice_index xs k ∷ [])) e (Contains-push ys (slice_index xs k))
+      ]),
+    );
+  }

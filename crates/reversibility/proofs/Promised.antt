@@ -1,0 +1,60 @@
+-- What classes promise follows from the laws of classes and reach.
+use Rattle.std.proofs.Common.{◌↔◌, ◌<◌, ℕ, List, length, slice_index, refl, inl, inr}
+use Rattle.std.proofs.lemmas.Bool.{cases_Bool, both_ways, false_from_ne_true}
+use Rattle.cca_base.specs.Model.{is_broken}
+use Rattle.reach_laws.specs.Classes.{IsHome, InClass}
+use Rattle.reach_laws.specs.Laws.{Setting}
+use Rattle.reach_laws.proofs.Agree.{allowed_inside}
+use Rattle.reach_laws.proofs.Order.{repair_rules}
+use Rattle.reach_laws.proofs.Sound.{class_is_reach, repairs_lead_in, stays_covered_law}
+use Rattle.reach_laws.proofs.Stands.{stands_by_base}
+use Rattle.reach_laws.proofs.Walk.{home_member}
+use Rattle.reversibility.specs.Parts.{ClassParts, IsClasses, CoversState, in_row}
+use Rattle.reversibility.specs.Promises.{IsLost, IsEmptySet, IsReachOf, AllowsInside, MendsInside, StaysInside}
+
+module _ (p : ClassParts) (is : IsClasses p) where
+  -- the classes, their order and a covered state are what the laws speak of
+  pub setting : (s : List ℕ) → CoversState p s → Setting p.compiled.model p.compiled.order p.base (in_row p.rows) s
+  setting s c = record {
+    well_formed = is.compiled.accepted.well_formed;
+    ordered = is.compiled.order;
+    grounded = is.grounded;
+    classes = is.classes;
+    state = c.state;
+    covers = c.covers;
+  }
+
+  pub reach_of : (c : ℕ) → IsReachOf p c (slice_index p.rows c)
+  reach_of c s covered x = class_is_reach p.compiled.model p.compiled.order p.base (in_row p.rows) s (setting s covered) c x
+
+  pub empty_lost : (c : ℕ) → c < length p.compiled.model.components → IsEmptySet (slice_index p.rows c) ↔ IsLost p c
+  empty_lost c within = (
+    (λ empty.
+        let none : (a : ℕ) → IsHome p.compiled.model p.base (in_row p.rows) c a → ⊥ =
+        λ a home. both_ways (in_row p.rows c a) (empty a) (home_member p.compiled.model p.base (in_row p.rows) (repair_rules p.compiled.model is.compiled.accepted.well_formed) is.classes c a home) in
+        elim (cases_Bool (is_broken p.compiled.model.moves c (slice_index p.base c))) [
+          | inl broken ↦ (broken, none)
+          | inr sound ↦ absurd (none (slice_index p.base c) (record { within = within; sound = sound; count = 0; way = refl }))
+        ]),
+    (λ lost x. false_from_ne_true (in_row p.rows c x) (λ inside.
+        let k : InClass p.compiled.model p.base (in_row p.rows) c x = (is.classes.each c x).0 inside in
+        lost.1 k.home k.is_home)),
+  )
+
+  pub allows_inside : (s : List ℕ) → CoversState p s → AllowsInside p s
+  allows_inside s covered t k step plain = allowed_inside p.compiled.model p.compiled.order p.base (in_row p.rows) s (setting s covered) t k step plain
+
+  pub mends_inside : (s : List ℕ) → CoversState p s → MendsInside p s
+  mends_inside s covered t k step repair = repairs_lead_in p.compiled.model p.compiled.order p.base (in_row p.rows) s (setting s covered) t k step repair
+
+  pub stays_inside : (s : List ℕ) → CoversState p s → StaysInside p s
+  stays_inside s covered t ks plan =
+      let later : Setting p.compiled.model p.compiled.order p.base (in_row p.rows) t = stays_covered_law p.compiled.model p.compiled.order p.base (in_row p.rows) s (setting s covered) t ks plan in
+      record { state = later.state; covers = later.covers }
+
+  -- the base is covered
+  pub base_covered : CoversState p p.base
+  base_covered = record {
+    state = is.grounded;
+    covers = λ c within. (stands_by_base p.compiled.model p.base (in_row p.rows) is.compiled.accepted.well_formed is.classes c (slice_index p.base c) within).1 (inr refl);
+  }
