@@ -12,13 +12,13 @@ same_number : (m n : ℕ) → m / 64 ≡ n / 64 → m % 64 ≡ n % 64 → m ≡ 
 same_number m n d r = omega (arith, div-add-mod m 64, div-add-mod n 64, d, r)
 
 -- no bit stands in a word that is not there
-pub none_in : (k m : ℕ) → has (slice_index (replicate 8 0) k) m ≡ false
+pub none_in : (k m : ℕ) → has (slice_index (replicate 4 0) k) m ≡ false
 none_in k m =
-    let zero_at : slice_index (replicate 8 0) k ≡ 0 = elim (cases_lt k 8) [ inl l ↦ get_or-replicate 8 k 0 0 l | inr g ↦ get_or_past (replicate 8 0) k 0 (omega (arith, g, length-replicate {A = ℕ} 8 0)) ] in
+    let zero_at : slice_index (replicate 4 0) k ≡ 0 = elim (cases_lt k 4) [ inl l ↦ get_or-replicate 4 k 0 0 l | inr g ↦ get_or_past (replicate 4 0) k 0 (omega (arith, g, length-replicate {A = ℕ} 4 0)) ] in
     ap (λ (w : ℕ). has w m) zero_at ∙ has-empty m
 
-pub all_in : (k m : ℕ) → k < 8 → m < 64 → has (slice_index (replicate 8 (2 ^ 64 - 1)) k) m ≡ true
-all_in k m h n = ap (λ (w : ℕ). has w m) (get_or-replicate 8 k (2 ^ 64 - 1) 0 h) ∙ ap (λ (b : ℕ). eqb b 1) (bit_at_ones 64 m n)
+pub all_in : (k m : ℕ) → k < 4 → m < 64 → has (slice_index (replicate 4 (2 ^ 64 - 1)) k) m ≡ true
+all_in k m h n = ap (λ (w : ℕ). has w m) (get_or-replicate 4 k (2 ^ 64 - 1) 0 h) ∙ ap (λ (b : ℕ). eqb b 1) (bit_at_ones 64 m n)
 
 pub with_in : (words : List ℕ) (n : ℕ) → n / 64 < length words → (m : ℕ)
     → has (slice_index (set words (n / 64) (bit_or (slice_index words (n / 64)) (1 * 2 ^ (n % 64) % 2 ^ 64))) (m / 64)) (m % 64) ≡ (eqb m n || has (slice_index words (m / 64)) (m % 64))
@@ -57,13 +57,13 @@ module _ (words one other : List ℕ) (i : ℕ) (inside : i < length words)
   pub kept_more : (k : ℕ) → i + 1 ≤ k → slice_index more k ≡ slice_index one k
   kept_more k h = let ne : k ≢ i = omega arith in get_or-set_other words i k _ 0 ne ∙ kept k (omega arith)
 
-past : (words : List ℕ) (k m : ℕ) → length words ≡ 8 → 8 ≤ k → has (slice_index words k) m ≡ false
+past : (words : List ℕ) (k m : ℕ) → length words ≡ 4 → 4 ≤ k → has (slice_index words k) m ≡ false
 past words k m e h = ap (λ (w : ℕ). has w m) (get_or_past words k 0 (omega arith)) ∙ has-empty m
 
-pub joined_in : (words one other : List ℕ) (i : ℕ) → length words ≡ 8 → length one ≡ 8 → length other ≡ 8 → 8 ≤ i
+pub joined_in : (words one other : List ℕ) (i : ℕ) → length words ≡ 4 → length one ≡ 4 → length other ≡ 4 → 4 ≤ i
     → ((k : ℕ) → k < i → slice_index words k ≡ bit_or (slice_index one k) (slice_index other k))
     → (k m : ℕ) → has (slice_index words k) m ≡ (has (slice_index one k) m || has (slice_index other k) m)
 joined_in words one other i full full1 full2 end joined k m = elim (cases_lt k i) [
   | inl l ↦ ap (λ (w : ℕ). has w m) (joined k l) ∙ has-or (slice_index one k) (slice_index other k) m
-  | inr g ↦ (let g' : 8 ≤ k = omega arith in past words k m full g' ∙ (sym (past other k m full2 g') ∙ ap (λ (b : Bool). b || has (slice_index other k) m) (sym (past one k m full1 g'))))
+  | inr g ↦ (let g' : 4 ≤ k = omega arith in past words k m full g' ∙ (sym (past other k m full2 g') ∙ ap (λ (b : Bool). b || has (slice_index other k) m) (sym (past one k m full1 g'))))
 ]

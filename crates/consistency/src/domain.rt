@@ -1,3 +1,5 @@
+//! What a search knows of one subject.
+
 use crate::subjects::SubjectSet;
 use cca_base::ValueSet;
 

@@ -1,3 +1,5 @@
+//! The test of a whole list of values.
+
 ghost use Rattle.std.specs.Prelude.{◌≡◌, length, true, false};
 ghost use Rattle.clause_form.specs.Clauses.{is_met, AreBelow};
 ghost use Rattle.consistency.specs.Search.{IsSolution};

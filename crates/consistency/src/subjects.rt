@@ -1,20 +1,22 @@
+//! Sets of subjects, as words of bits.
+
 ghost use Rattle.std.specs.Prelude.{◌≡◌, ℕ, ◌==◌, ◌||◌, ◌<◌, true, false};
 ghost use Rattle.consistency.specs.Subjects.{is_in};
 
 /// A set of subjects, by their numbers below `MAX_SUBJECTS`.
 #[derive(Clone, Copy, Debug)]
 pub struct SubjectSet {
-    words: [u64; 8],
+    words: [u64; 4],
 }
 
 /// One more than the greatest number of a subject.
-pub const MAX_SUBJECTS: usize = 512;
+pub const MAX_SUBJECTS: usize = 256;
 
 /// The set with nothing in it.
 pub fn no_subject() -> SubjectSet
     ensures { (n : ℕ) → is_in result n ≡ false }
 {
-    SubjectSet { words: [0; 8] }
+    SubjectSet { words: [0; 4] }
 }
 
 /// The set with `n` in it besides.
@@ -33,7 +35,7 @@ pub fn all_subjects() -> SubjectSet
     ensures { (n : ℕ) → n < MAX_SUBJECTS → is_in result n ≡ true }
 {
     SubjectSet {
-        words: [u64::MAX; 8],
+        words: [u64::MAX; 4],
     }
 }
 
@@ -42,7 +44,7 @@ pub fn has_subject(set: &SubjectSet, n: u16) -> bool
     ensures { result ≡ is_in set.now n }
 {
     let word = n as usize / 64;
-    word < 8 && (set.words[word] >> (n % 64)) & 1 == 1
+    word < 4 && (set.words[word] >> (n % 64)) & 1 == 1
 }
 
 /// What is in one of the sets.
@@ -50,7 +52,7 @@ pub fn union(one: &SubjectSet, other: &SubjectSet) -> SubjectSet
     ensures { (n : ℕ) → is_in result n ≡ (is_in one.now n || is_in other.now n) }
 {
     let mut words = one.words;
-    for i in 0..8usize {
+    for i in 0..4usize {
         words[i] |= other.words[i];
     }
     SubjectSet { words }

@@ -1,3 +1,5 @@
+//! One step of unit propagation: a clause of which one literal can still be true narrows that literal's subject.
+
 ghost use Rattle.std.specs.Prelude.{◌≤◌, length, IfSome};
 ghost use Rattle.clause_form.specs.Clauses.{AreBelow};
 ghost use Rattle.consistency.specs.Search.{OthersFalse, HasReasons, Keeps, IsVisit};

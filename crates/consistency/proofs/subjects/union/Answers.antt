@@ -14,6 +14,6 @@ loop-i-preserved c =
 
 pub returns : goal.returns
 returns c n =
-    let one : length c.args.one.now.words ≡ 8 = omega arith in
-    let other : length c.args.other.now.words ≡ 8 = omega arith in
+    let one : length c.args.one.now.words ≡ 4 = omega arith in
+    let other : length c.args.other.now.words ≡ 4 = omega arith in
     joined_in c.loop-i.words c.args.one.now.words c.args.other.now.words c.loop-i.i c.loop-i.invariant.full one other (omega arith) c.loop-i.invariant.joined (n / 64) (n % 64)
