@@ -37,8 +37,11 @@ fn compiled_of(alloc: Global, text: &str) -> Result<Rc<Compiled>, Fail> {
 fn state_of(alloc: Global, model: &Model, modes: &[u8]) -> Result<State, Fail>
     ensures { IfOk result (λ s. IsState model.now s.modes) }
 {
-    for c in 0..modes.len() {
-        if !has_mode(model, c as u16, modes[c]) {
+    let Ok(n) = u16::try_from(modes.len()) else {
+        return Err(Fail::from("too many modes"));
+    };
+    for c in 0..n {
+        if !has_mode(model, c, modes[c as usize]) {
             return Err(Fail::from("no such mode"));
         }
     }
