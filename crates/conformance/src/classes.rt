@@ -118,6 +118,11 @@ fn cell_at<L: Ledger>(tables: &Tables, place: (u16, u8, u8), blank: Blank) -> Re
     Ok(tables.look_up(c, from, to, &mut steps))
 }
 
+/// The same for a caller that counts no steps.
+fn cell_of(tables: &Tables, place: (u16, u8, u8)) -> Result<&Cell, Fail> {
+    cell_at::<Brand>(tables, place, Blank::new(1))
+}
+
 /// Asserts that the cell is this step.
 fn assert_step(
     rt: &impl Abort,
@@ -126,7 +131,7 @@ fn assert_step(
     (number, name, distance): (u16, u16, u8),
     pairs: &[Pair],
 ) -> Result<(), Fail> {
-    match cell_at::<Brand>(tables, place, Blank::new(1))? {
+    match cell_of(tables, place)? {
         Cell::Step {
             move_number,
             command,

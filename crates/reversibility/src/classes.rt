@@ -5,7 +5,7 @@ ghost use Rattle.cca_base.specs.Flags.{is_set};
 ghost use Rattle.cca_base.specs.State.{IsState};
 ghost use Rattle.reach_laws.specs.Classes.{Covers, Stands};
 ghost use Rattle.reversibility.specs.Parts.{IsClasses, CoversState, in_row};
-ghost use Rattle.reversibility.specs.Promises.{IsMendable, IsLost, IsEmptySet, IsReachOf, AllowsInside, MendsInside, StaysInside};
+ghost use Rattle.reversibility.specs.Promises.{IsMendable, IsLost, IsEmptySet, IsReachOf, AllowsInside, MendsInside, StaysInside, StandsByBase};
 
 use crate::taking::{Taken, take};
 use cca_base::{Compiled, List, State, ValueSet};
@@ -131,6 +131,7 @@ impl Classes {
     pub fn covers(&self, state: &State) -> bool
         requires { IsState self.now.compiled.model state.now.modes }
         ensures value { IsTrue result ↔ Covers self.now.compiled.model self.now.base (in_row self.now.rows) state.now.modes }
+        ensures modes { IsTrue result ↔ StandsByBase self.now state.now.modes }
         ensures allowed { IsTrue result → AllowsInside self.now state.now.modes }
         ensures mended { IsTrue result → MendsInside self.now state.now.modes }
         ensures later { IsTrue result → StaysInside self.now state.now.modes }
