@@ -37,8 +37,11 @@ fn compiled_of(alloc: Global, text: &str) -> Result<Rc<Compiled>, Fail> {
 fn state_of(alloc: Global, model: &Model, modes: &[u8]) -> Result<State, Fail>
     ensures { IfOk result (λ s. IsState model.now s.modes) }
 {
-    for c in 0..modes.len() {
-        if !has_mode(model, c as u16, modes[c]) {
+    let Ok(n) = u16::try_from(modes.len()) else {
+        return Err(Fail::from("too many modes"));
+    };
+    for c in 0..n {
+        if !has_mode(model, c, modes[c as usize]) {
             return Err(Fail::from("no such mode"));
         }
     }
@@ -115,6 +118,11 @@ fn cell_at<L: Ledger>(tables: &Tables, place: (u16, u8, u8), blank: Blank) -> Re
     Ok(tables.look_up(c, from, to, &mut steps))
 }
 
+/// The same for a caller that counts no steps.
+fn cell_of(tables: &Tables, place: (u16, u8, u8)) -> Result<&Cell, Fail> {
+    cell_at::<Brand>(tables, place, Blank::new(1))
+}
+
 /// Asserts that the cell is this step.
 fn assert_step(
     rt: &impl Abort,
@@ -123,7 +131,7 @@ fn assert_step(
     (number, name, distance): (u16, u16, u8),
     pairs: &[Pair],
 ) -> Result<(), Fail> {
-    match cell_at::<Brand>(tables, place, Blank::new(1))? {
+    match cell_of(tables, place)? {
         Cell::Step {
             move_number,
             command,

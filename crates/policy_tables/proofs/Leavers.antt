@@ -15,9 +15,9 @@ use Rattle.reach_laws.specs.Classes.{Test}
 use Rattle.reach_laws.specs.Cells.{IsShortest, IsStep}
 use Rattle.reach_laws.proofs.Needed.{move_in}
 use Rattle.reversibility.specs.Parts.{in_row}
-use Rattle.reversibility.specs.Levels.{IsOpenNumber, AreOpenMoves, AreMovesWithin, IsLevel}
+use Rattle.reversibility.specs.Levels.{IsOpenNumber, AreOpenMoves, AreMovesWithin, IsLevel, IsAmong}
 use Rattle.reach_laws.specs.Classes.{OpenMove}
-use Rattle.reversibility.proofs.Exactly.{IsAmong, exactly_here, exactly_place, exactly_earlier}
+use Rattle.reversibility.proofs.Exactly.{exactly_here, exactly_place, exactly_earlier}
 use Rattle.policy_tables.specs.Distances.{NearAt, IsFirstPlace, LeadsNear, IsFirstNear}
 use Rattle.policy_tables.specs.Leaving.{LeavesMode, IsLeaving, AreLeaving, IsOpenAt, IsCubeOf, AreCubesTo}
 use Rattle.policy_tables.proofs.Approach.{approach_to, approach_from}

@@ -4,8 +4,7 @@
 ghost use Rattle.std.specs.Prelude.{◌≡◌, ◌<◌, ℕ, AllPairs, IfOk, length};
 ghost use Rattle.cca_base.specs.Relations.{AreExactly};
 ghost use Rattle.policy_tables.specs.Leaving.{LeavesMode, IsLeavingOf};
-ghost use Rattle.reversibility.proofs.Exactly.{IsAmong};
-ghost use Rattle.reversibility.specs.Levels.{AreMovesWithin};
+ghost use Rattle.reversibility.specs.Levels.{AreMovesWithin, IsAmong};
 ghost use Rattle.reversibility.specs.Parts.{in_row};
 ghost use Rattle.reversibility.specs.Paths.{ArePaths};
 

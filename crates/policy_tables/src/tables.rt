@@ -1,3 +1,5 @@
+//! The tables of all components, and what is read in them.
+
 ghost use Rattle.std.specs.Prelude.{◌≡◌, ◌+◌, ◌⊎◌, ◌↔◌, ◌<◌, IsTrue, IfOk, true, Some, length, slice_index, slice_get};
 ghost use Rattle.cca_base.specs.Model.{HasMode};
 ghost use Rattle.reach_laws.specs.Cells.{cell_at, IsCell};

@@ -5,6 +5,7 @@ use Rattle.std.proofs.lemmas.List.{get_or_default}
 use Rattle.std.proofs.lemmas.List.Elements.{Contains-append_left, Contains-push, Contains-push_cases}
 use Rattle.std.proofs.lemmas.List.Quantifiers.{all_pairs_push}
 use Rattle.cca_base.specs.Relations.{AreExactly}
+use Rattle.reversibility.specs.Levels.{IsAmong}
 
 -- those of the kind that come before n
 abbrev pub AreBefore : (ℕ → Type 0) → ℕ → List ℕ → Type 0
@@ -64,10 +65,6 @@ module _ (P : ℕ → Type 0) where
               let rise : slice_index xs k < slice_index xs there.0 = h.rising k there.0 0 after there.1 in
               absurd (omega (arith, lt, rise, there.2))
         ]
-
--- the number stands at one of the first places
-abbrev pub IsAmong : List ℕ → ℕ → ℕ → Type 0
-IsAmong xs n i = (place : ℕ) × (place < n) × (slice_index xs place ≡ i)
 
 -- those at the first places that are of a kind
 module _ (Q : ℕ → Type 0) (xs : List ℕ) (rising : AllPairs (λ u v. u < v) xs) (k : ℕ) (ys : List ℕ) (h : AreExactly (λ i. IsAmong xs k i × Q i) ys) where

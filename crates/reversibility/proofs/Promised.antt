@@ -2,7 +2,7 @@
 use Rattle.std.proofs.Common.{◌↔◌, ◌<◌, ℕ, List, length, slice_index, refl, inl, inr}
 use Rattle.std.proofs.lemmas.Bool.{cases_Bool, both_ways, false_from_ne_true}
 use Rattle.cca_base.specs.Model.{is_broken}
-use Rattle.reach_laws.specs.Classes.{IsHome, InClass}
+use Rattle.reach_laws.specs.Classes.{Covers, IsHome, InClass}
 use Rattle.reach_laws.specs.Laws.{Setting}
 use Rattle.reach_laws.proofs.Agree.{allowed_inside}
 use Rattle.reach_laws.proofs.Order.{repair_rules}
@@ -10,7 +10,7 @@ use Rattle.reach_laws.proofs.Sound.{class_is_reach, repairs_lead_in, stays_cover
 use Rattle.reach_laws.proofs.Stands.{stands_by_base}
 use Rattle.reach_laws.proofs.Walk.{home_member}
 use Rattle.reversibility.specs.Parts.{ClassParts, IsClasses, CoversState, in_row}
-use Rattle.reversibility.specs.Promises.{IsLost, IsEmptySet, IsReachOf, AllowsInside, MendsInside, StaysInside}
+use Rattle.reversibility.specs.Promises.{IsLost, IsEmptySet, IsReachOf, AllowsInside, MendsInside, StaysInside, StandsByBase}
 
 module _ (p : ClassParts) (is : IsClasses p) where
   -- the classes, their order and a covered state are what the laws speak of
@@ -58,3 +58,10 @@ module _ (p : ClassParts) (is : IsClasses p) where
     state = is.grounded;
     covers = λ c within. (stands_by_base p.compiled.model p.base (in_row p.rows) is.compiled.accepted.well_formed is.classes c (slice_index p.base c) within).1 (inr refl);
   }
+
+  -- covered is each component in its class or in its base mode
+  pub by_base : (s : List ℕ) → Covers p.compiled.model p.base (in_row p.rows) s ↔ StandsByBase p s
+  by_base s = (
+    (λ covers c within. (stands_by_base p.compiled.model p.base (in_row p.rows) is.compiled.accepted.well_formed is.classes c (slice_index s c) within).0 (covers c within)),
+    (λ by c within. (stands_by_base p.compiled.model p.base (in_row p.rows) is.compiled.accepted.well_formed is.classes c (slice_index s c) within).1 (by c within)),
+  )

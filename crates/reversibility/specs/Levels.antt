@@ -31,6 +31,10 @@ AreOpenMoves m member c = AreExactly (IsOpenNumber m member c)
 abbrev pub AreOpenBefore : Automata → Test → ℕ → ℕ → List ℕ → Type 0
 AreOpenBefore m member c n = AreExactly (λ i. (i < n) × IsOpenNumber m member c i)
 
+-- the number stands at one of the first places
+abbrev pub IsAmong : List ℕ → ℕ → ℕ → Type 0
+IsAmong xs n i = (place : ℕ) × (place < n) × (slice_index xs place ≡ i)
+
 -- each of the numbers names a move between modes below n
 abbrev pub AreMovesWithin : Automata → ℕ → List ℕ → Type 0
 AreMovesWithin m n numbers = (place : ℕ) → place < length numbers

@@ -1,5 +1,5 @@
 -- What classes promise of the states that they cover.
-use Rattle.std.specs.Prelude.{◌≡◌, ◌↔◌, ℕ, IsTrue, true, false, List, slice_index}
+use Rattle.std.specs.Prelude.{◌≡◌, ◌⊎◌, ◌↔◌, ◌<◌, ℕ, IsTrue, true, false, List, length, slice_index}
 use Rattle.cca_base.specs.Model.{is_broken}
 use Rattle.cca_base.specs.Sets.{has}
 use Rattle.cca_base.specs.Steps.{Step, Allowed, AllowedPlan, Reach}
@@ -36,3 +36,7 @@ MendsInside p s = (t : List ℕ) (k : ℕ) (step : Step p.compiled.model s k t) 
 -- what an allowed plan from the state ends in is covered
 abbrev pub StaysInside : ClassParts → List ℕ → Type 0
 StaysInside p s = (t ks : List ℕ) → AllowedPlan p.compiled.model s ks t → CoversState p t
+
+-- each component stands in its class or in its base mode
+abbrev pub StandsByBase : ClassParts → List ℕ → Type 0
+StandsByBase p s = (c : ℕ) → c < length p.compiled.model.components → (in_row p.rows c (slice_index s c) ≡ true) ⊎ (slice_index s c ≡ slice_index p.base c)

@@ -1,12 +1,13 @@
-ghost use Rattle.std.specs.Prelude.{◌≡◌, ◌↔◌, ◌+◌, ◌-◌, ◌<◌, IsTrue, IfOk, OnOk, drop, length, slice_index};
-ghost use Rattle.reversibility.specs.Homes.{AreDone};
+//! For each component the modes that have a way back around a state, and which components are mendable.
+
+ghost use Rattle.std.specs.Prelude.{◌≡◌, ◌↔◌, ◌<◌, IsTrue, IfOk, length, slice_index};
 ghost use Rattle.cca_base.specs.Flags.{is_set};
 ghost use Rattle.cca_base.specs.State.{IsState};
 ghost use Rattle.reach_laws.specs.Classes.{Covers, Stands};
 ghost use Rattle.reversibility.specs.Parts.{IsClasses, CoversState, in_row};
-ghost use Rattle.reversibility.specs.Promises.{IsMendable, IsLost, IsEmptySet, IsReachOf, AllowsInside, MendsInside, StaysInside};
+ghost use Rattle.reversibility.specs.Promises.{IsMendable, IsLost, IsEmptySet, IsReachOf, AllowsInside, MendsInside, StaysInside, StandsByBase};
 
-use crate::around::class_around;
+use crate::taking::{Taken, take};
 use cca_base::{Compiled, List, State, ValueSet};
 use std::alloc::{AllocError, Global};
 use std::rc::Rc;
@@ -45,39 +46,6 @@ impl std::marker::Model for Classes {
       rows = c.rows;
       mendable = c.mendable;
     }) };
-}
-
-/// The classes that are taken so far, causes first, and the flags of what can be mended.
-#[derive(Debug, Drop)]
-struct Taken {
-    rows: List<ValueSet>,
-    mendable: List<bool>,
-}
-
-/// The class of one component more, where the classes of so many from the order's end are there.
-fn take(
-    alloc: Global,
-    compiled: &Compiled,
-    base: &State,
-    taken: &mut Taken,
-    i: usize,
-) -> Result<(), AllocError>
-    requires state { IsState compiled.now.model base.now.modes }
-    requires within { i < length compiled.now.order }
-    requires done { AreDone compiled.now.model base.now.modes taken.old.rows taken.old.mendable
-        (drop (length compiled.now.order - i) compiled.now.order) }
-    ensures { OnOk result (AreDone compiled.now.model base.now.modes taken.new.rows taken.new.mendable
-        (drop (length compiled.now.order - (i + 1)) compiled.now.order)) }
-{
-    let order = compiled.order();
-    let c = *order.get(order.len() - 1 - i);
-    let mode = *base.modes.get(c as usize);
-    if let Some(class) = class_around(alloc, compiled, taken.rows.as_slice(), c, mode)? {
-        taken.rows.set(c as usize, class);
-        let broken = compiled.model().broken(c, mode);
-        taken.mendable.set(c as usize, broken);
-    }
-    Ok(())
 }
 
 impl Classes {
@@ -163,6 +131,7 @@ impl Classes {
     pub fn covers(&self, state: &State) -> bool
         requires { IsState self.now.compiled.model state.now.modes }
         ensures value { IsTrue result ↔ Covers self.now.compiled.model self.now.base (in_row self.now.rows) state.now.modes }
+        ensures modes { IsTrue result ↔ StandsByBase self.now state.now.modes }
         ensures allowed { IsTrue result → AllowsInside self.now state.now.modes }
         ensures mended { IsTrue result → MendsInside self.now state.now.modes }
         ensures later { IsTrue result → StaysInside self.now state.now.modes }

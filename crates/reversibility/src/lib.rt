@@ -6,6 +6,7 @@ mod classes;
 mod level;
 mod open;
 mod paths;
+mod taking;
 
 pub use classes::Classes;
 pub use open::is_inside;

@@ -5,7 +5,7 @@ use Rattle.cca_base.specs.Model.{WellFormed, mode_counts}
 use Rattle.cca_base.specs.Relations.{AreExactly}
 use Rattle.reversibility.specs.Levels.{AreOpenMoves, AreMovesWithin}
 use Rattle.reversibility.specs.Parts.{ClassParts, in_row}
-use Rattle.reversibility.proofs.Exactly.{IsAmong}
+use Rattle.reversibility.specs.Levels.{IsAmong}
 use Rattle.reversibility.proofs.OpenMoves.{within_modes}
 use Rattle.policy_tables.specs.Leaving.{LeavesMode, AreLeaving, IsOpenAt, AreCubesTo}
 use Rattle.policy_tables.proofs.Leavers.{leaving_from, leaving_open}

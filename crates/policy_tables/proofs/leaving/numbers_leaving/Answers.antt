@@ -3,7 +3,8 @@ use Rattle.std.proofs.lemmas.Option.{slice_get_within}
 use Rattle.cca_base.specs.declared.model.Move.{Move}
 use Rattle.cca_base.specs.Relations.{AreExactly}
 use Rattle.cca_base.proofs.Members.{some_inj}
-use Rattle.reversibility.proofs.Exactly.{IsAmong, some_no, some_yes}
+use Rattle.reversibility.specs.Levels.{IsAmong}
+use Rattle.reversibility.proofs.Exactly.{some_no, some_yes}
 use Rattle.policy_tables.specs.Leaving.{LeavesMode}
 use Rattle.policy_tables.proofs.leaving.numbers_leaving.Goals.{then-get-from+in_ok-push, else-get-from}
 use Rattle.policy_tables.proofs.leaving.numbers_leaving.Goals as goal

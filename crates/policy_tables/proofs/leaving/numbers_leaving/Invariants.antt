@@ -1,6 +1,6 @@
 use Rattle.cca_base.specs.Relations.{AreExactly}
 use Rattle.policy_tables.specs.Leaving.{LeavesMode}
-use Rattle.reversibility.proofs.Exactly.{IsAmong}
+use Rattle.reversibility.specs.Levels.{IsAmong}
 use Rattle.policy_tables.proofs.leaving.numbers_leaving.Given as goal
 
 abbrev pub invariant-loop-k : goal.invariant-loop-k

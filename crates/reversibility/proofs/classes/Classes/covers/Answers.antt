@@ -1,10 +1,10 @@
-use Rattle.std.proofs.Common.{◌≡◌, ◌<◌, ◌≤◌, ◌∙◌, sym, ap, subst, ◌+◌, slice_index, length, arith, ℕ, List}
+use Rattle.std.proofs.Common.{◌≡◌, ◌<◌, ◌≤◌, ◌∙◌, refl, sym, ap, subst, ◌+◌, slice_index, length, arith, ℕ, List}
 use Rattle.std.proofs.lemmas.Bool.{false≢true}
 use Rattle.cca_base.specs.State.{IsState}
 use Rattle.reach_laws.specs.Classes.{Covers, Stands}
 use Rattle.reversibility.specs.Parts.{ClassParts, IsClasses, CoversState, in_row}
 use Rattle.reversibility.proofs.Standing.{below_next, inside_here, base_here, not_covered}
-use Rattle.reversibility.proofs.Promised.{allows_inside, mends_inside, stays_inside}
+use Rattle.reversibility.proofs.Promised.{allows_inside, mends_inside, stays_inside, by_base}
 use Rattle.reversibility.proofs.classes.Classes.covers.Goals.{else-not-has-via-then-not-has+else-mode-get, else-not-has-via-else-not-has}
 use Rattle.reversibility.proofs.classes.Classes.covers.Goals as goal
 
@@ -16,6 +16,12 @@ returns-then-mode-get-clause-value c =
           c.get-then-not-has.result.now c.get-then-not-has.ensures.value (sym c.has.ensures ∙ c.if-not-has.true) c.if-mode-get.true
           (subst (λ (z : ClassParts). Covers z.compiled.model z.base (in_row z.rows) c.args.state.now.modes) (sym c.self.view_is) covers)),
     )
+
+pub returns-then-mode-get-clause-modes : goal.returns-then-mode-get-clause-modes
+returns-then-mode-get-clause-modes c = (
+  λ f. absurd (false≢true f),
+  λ by. (returns-then-mode-get-clause-value c).1 ((by_base c.args.self.now (subst IsClasses c.self.view_is c.self.invariant) c.args.state.now.modes).1 by),
+)
 
 pub loop-c-preserved : goal.loop-c-preserved
 loop-c-preserved c =
@@ -58,3 +64,11 @@ returns-clause-later c _ =
     let past : length c.self.inside.rows ≤ c.loop-c.c = omega (arith, c.loop-c-test.false, c.len-c-end.ensures) in
     let done = covered (record { compiled = c.self.inside.compiled.value; base = c.self.inside.base.modes; rows = c.self.inside.rows; mendable = c.self.inside.mendable }) c.args.self.now c.self.invariant c.self.view_is c.args.state.now.modes c.requires c.loop-c.c past c.loop-c.invariant in
     stays_inside c.args.self.now done.0 c.args.state.now.modes done.1
+
+pub returns-clause-modes : goal.returns-clause-modes
+returns-clause-modes c =
+    let past : length c.self.inside.rows ≤ c.loop-c.c = omega (arith, c.loop-c-test.false, c.len-c-end.ensures) in
+    let done = covered (record { compiled = c.self.inside.compiled.value; base = c.self.inside.base.modes; rows = c.self.inside.rows; mendable = c.self.inside.mendable }) c.args.self.now c.self.invariant c.self.view_is c.args.state.now.modes c.requires c.loop-c.c past c.loop-c.invariant in (
+      λ _. (by_base c.args.self.now done.0 c.args.state.now.modes).0 done.1.covers,
+      λ _. refl,
+    )

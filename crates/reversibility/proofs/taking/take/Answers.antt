@@ -6,7 +6,7 @@ use Rattle.reach_laws.proofs.Facts.{at_get}
 use Rattle.reversibility.specs.Parts.{in_row}
 use Rattle.reversibility.specs.Homes.{AreDone, IsHomeFrom, IsClassFrom}
 use Rattle.reversibility.proofs.Taken.{order_at, take_none, take_some}
-use Rattle.reversibility.proofs.classes.take.Goals as goal
+use Rattle.reversibility.proofs.taking.take.Goals as goal
 
 -- where the component stands in the order
 place : (o order : List ℕ) (n i c : ℕ) → n ≡ length o → o ≡ order → slice_get o (n - 1 - i) ≡ Some c → slice_get order (length order - 1 - i) ≡ Some c
