@@ -41,7 +41,7 @@ pub fn valve_model(alloc: Global) -> Result<Model, Fail> {
     )
 }
 
-fn has_mode(model: &Model, c: u16, mode: u8) -> bool
+pub fn has_mode(model: &Model, c: u16, mode: u8) -> bool
     ensures { IsTrue result → HasMode model.now c mode }
 {
     let components = model.components();
