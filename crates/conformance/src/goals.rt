@@ -28,7 +28,7 @@ fn compiled_valve(alloc: Global) -> Result<Compiled, Fail> {
 }
 
 /// Modes of different components of the model.
-fn pairs_of(alloc: Global, compiled: &Compiled, pairs: &[(u16, u8)]) -> Result<List<Pair>, Fail>
+pub fn pairs_of(alloc: Global, compiled: &Compiled, pairs: &[(u16, u8)]) -> Result<List<Pair>, Fail>
     ensures once { IfOk result IsCube }
     ensures within { IfOk result (All (λ p. p.item < length compiled.now.model.components)) }
 {

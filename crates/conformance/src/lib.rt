@@ -35,6 +35,8 @@ mod not_accepted;
 #[cfg(test)]
 mod parts;
 #[cfg(test)]
+mod plans;
+#[cfg(test)]
 mod primes;
 #[cfg(test)]
 mod refusals;
@@ -42,6 +44,8 @@ mod refusals;
 mod row;
 #[cfg(test)]
 mod shown;
+#[cfg(test)]
+mod tabled;
 #[cfg(test)]
 mod too_deep;
 #[cfg(test)]

@@ -1,0 +1,208 @@
+//! Whole plans, ways back, and the first commands of a plan that is too long to be written down.
+
+ghost use Rattle.std.specs.Prelude.{◌≡◌, ◌≤◌, ◌+◌, ◌<◌, IfOk, length};
+ghost use Rattle.cca_base.specs.Model.{IsComplete};
+ghost use Rattle.planner_step.specs.Planning.{IsGoal};
+ghost use Rattle.reversibility.specs.Parts.{CoversState};
+
+use crate::parts::model_of;
+use crate::tabled::*;
+use cca_base::*;
+use model_syntax::ModelReader;
+use plan_runner::{route_of, way_back, whole_plan};
+use planner_step::{Answer, next_command};
+use policy_tables::Tables;
+use std::alloc::{AllocError, Global};
+use std::marker::Brand;
+use std::process::Abort;
+use std::sync::ledger::{Blank, Ledger};
+use std::test::*;
+
+/// The whole plan from the state of these modes to the goal of these pairs.
+fn planned(
+    alloc: Global,
+    tables: &Tables,
+    modes: &[u8],
+    pairs: &[(u16, u8)],
+) -> Result<Vec<u8>, Fail> {
+    let state = covered(alloc, tables, modes)?;
+    let goal = goal_of(alloc, tables, pairs)?;
+    if !is_reached(tables, &state, &goal) {
+        return Err(Fail::from("unreachable"));
+    }
+    plan_text(alloc, tables, whole_plan(alloc, tables, &state, &goal)?)
+}
+
+/// The way back from the state of these modes to the other's.
+fn returned(alloc: Global, tables: &Tables, from: &[u8], to: &[u8]) -> Result<Vec<u8>, Fail> {
+    let from = covered(alloc, tables, from)?;
+    let to = covered(alloc, tables, to)?;
+    plan_text(alloc, tables, way_back(alloc, tables, &from, &to)?)
+}
+
+#[test]
+fn a_valve_opens_and_its_driver_goes_off(rt: HostRuntime) -> Result<(), Fail> {
+    let alloc = rt.alloc();
+    let model = model_of(
+        alloc,
+        &[
+            "titan 1",
+            "component drv = off, on start off",
+            "component valve = closed, open, stuck start closed",
+            "var flow = none, some sensed",
+            "rule flow = some iff valve = open",
+            "move drv off -> on by drv_on when true",
+            "move drv on -> off by drv_off when true",
+            "move valve closed -> open by v_open when drv = on",
+            "move valve open -> closed by v_close when drv = on",
+            "repair valve stuck -> closed by v_reset when drv = on",
+            "fail valve closed -> stuck cost 4",
+            "fail valve open -> stuck cost 6",
+        ],
+    )?;
+    let tables = tables_around(alloc, model, &[0, 0])?;
+    let plan = planned(alloc, &tables, &[0, 0], &[(0, 0), (1, 1)])?;
+    assert_eq!(rt; plan.as_slice(), b"drv_on v_open drv_off ".as_slice());
+    let back = returned(alloc, &tables, &[0, 1], &[0, 0])?;
+    assert_eq!(rt; back.as_slice(), b"drv_on v_close drv_off ".as_slice());
+    Ok(())
+}
+
+#[test]
+fn a_way_back_mends_what_it_needs(rt: HostRuntime) -> Result<(), Fail> {
+    let alloc = rt.alloc();
+    let model = model_of(
+        alloc,
+        &[
+            "titan 1",
+            "component c = m, ok, z start m",
+            "component b = x, y start x",
+            "repair c m -> ok by c_reset when true",
+            "move c ok -> z by c_z when true",
+            "move c z -> ok by c_ok when true",
+            "move b x -> y by b_go when true",
+            "move b y -> x by b_back when c = z",
+        ],
+    )?;
+    let tables = tables_around(alloc, model, &[0, 0])?;
+    let state = covered(alloc, &tables, &[0, 0])?;
+    let goal = goal_of(alloc, &tables, &[(1, 1)])?;
+    if !is_reached(&tables, &state, &goal) {
+        return Err(Fail::from("unreachable"));
+    }
+    let route = route_of(alloc, &tables, &state, &goal)?;
+    let plan = plan_text(alloc, &tables, route.plan)?;
+    assert_eq!(rt; plan.as_slice(), b"b_go ".as_slice());
+    let back = plan_text(alloc, &tables, route.back)?;
+    assert_eq!(rt; back.as_slice(), b"c_reset c_z b_back c_ok ".as_slice());
+    Ok(())
+}
+
+/// The guard of a lamp's moves: the lamp before it is on, and all those before are off.
+fn guard(alloc: Global, lamp: u64) -> Result<String, AllocError> {
+    if lamp <= 1 {
+        return String::from_str(alloc, "true");
+    }
+    let mut text = format!(in alloc; "c{} = on", lamp - 1)?;
+    for c in 2..lamp {
+        text.push_str(&format!(in alloc; " and c{} = off", lamp - c)?)?;
+    }
+    Ok(text)
+}
+
+/// The lines of a lamp's moves.
+fn read_moves(alloc: Global, reader: &mut ModelReader, lamp: u64) -> Result<bool, Fail> {
+    let guard = guard(alloc, lamp)?;
+    let on = format!(in alloc; "move c{lamp} off -> on by c{lamp}_on when {guard}")?;
+    let off = format!(in alloc; "move c{lamp} on -> off by c{lamp}_off when {guard}")?;
+    Ok(reader.line(on.as_bytes()).is_ok() && reader.line(off.as_bytes()).is_ok())
+}
+
+/// Forty lamps in a row, which count in Gray's code: no plan turns the last one on with fewer than 2^39 commands.
+fn forty_lamps(alloc: Global) -> Result<Model, Fail>
+    ensures { IfOk result IsComplete }
+{
+    let mut reader = ModelReader::open(alloc)?;
+    let mut sound = reader.line(b"titan 1".as_slice()).is_ok();
+    for c in 1..41u64 {
+        let line = format!(in alloc; "component c{c} = off, on start off")?;
+        sound = reader.line(line.as_bytes()).is_ok() && sound;
+    }
+    for c in 1..41u64 {
+        sound = read_moves(alloc, &mut reader, c)? && sound;
+    }
+    let model = reader.finish();
+    if !sound {
+        return Err(Fail::from("a line is refused"));
+    }
+    Ok(model)
+}
+
+/// The answer for forty components, which takes 80 steps at most.
+fn answer_of_forty<L: Ledger>(
+    tables: &Tables,
+    state: &State,
+    goal: &Goal,
+    steps: &mut Steps<L>,
+) -> Answer
+    requires covers { CoversState tables.now.classes state.now.modes }
+    requires goal { IsGoal tables.now.classes.compiled goal.now.pairs }
+    requires forty { length tables.now.classes.compiled.model.components ≡ 40 }
+    ensures { steps.new ≤ steps.old + 80 }
+{
+    next_command(tables, state, goal, steps)
+}
+
+/// What is sent for the last of forty lamps where the first three stand so, and all others are off.
+fn sent_by<L: Ledger>(
+    alloc: Global,
+    tables: &Tables,
+    lamps: [u8; 3],
+    blank: Blank,
+) -> Result<Vec<u8>, Fail>
+    requires name { blank.name ≡ L.name }
+    requires parts { blank.parts ≡ L.parts }
+    requires some { 0 < blank.parts }
+{
+    let mut modes = [0u8; 40];
+    modes[0] = lamps[0];
+    modes[1] = lamps[1];
+    modes[2] = lamps[2];
+    let state = covered(alloc, tables, modes.as_slice())?;
+    let goal = goal_of(alloc, tables, &[(39, 1)])?;
+    let model = tables.classes().compiled().model();
+    if model.components().len() != 40 {
+        return Err(Fail::from("not forty components"));
+    }
+    let mut text = Vec::new(alloc);
+    let mut steps = Steps::<L>::of(blank);
+    if let Answer::Send(command) = answer_of_forty(tables, &state, &goal, &mut steps) {
+        push_command(model, &mut text, command)?;
+    }
+    Ok(text)
+}
+
+fn sent(alloc: Global, tables: &Tables, lamps: [u8; 3]) -> Result<Vec<u8>, Fail> {
+    sent_by::<Brand>(alloc, tables, lamps, Blank::new(1))
+}
+
+#[test]
+fn no_plan_is_searched(rt: HostRuntime) -> Result<(), Fail> {
+    let alloc = rt.alloc();
+    let off = [0u8; 40];
+    let tables = tables_around(alloc, forty_lamps(alloc)?, off.as_slice())?;
+    let rows = [
+        ([0u8, 0, 0], "c1_on "),
+        ([1, 0, 0], "c2_on "),
+        ([1, 1, 0], "c1_off "),
+        ([0, 1, 0], "c3_on "),
+        ([0, 1, 1], "c1_on "),
+    ];
+    for row in rows {
+        let text = sent(alloc, &tables, row.0)?;
+        assert_eq!(rt; text.as_slice(), row.1.as_bytes());
+    }
+    let plan = planned(alloc, &tables, off.as_slice(), &[(39, 1)])?;
+    assert_eq!(rt; plan.as_slice(), b"long".as_slice());
+    Ok(())
+}
