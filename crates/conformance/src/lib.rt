@@ -1,56 +1,28 @@
-//! Worked rows of the program, run on the top call, and calls of the layers below it, with enough memory. This crate has
-//! no code of its own: a caller gets its tests alone.
+//! Calls of single layers that no run of the program shows, with enough memory. This crate has no code of its own: a caller
+//! gets its tests alone. What goes from a text to a text is a row of the crate `rows`.
 #![tactic(auto)]
 
 #[cfg(test)]
-mod answers;
-#[cfg(test)]
 mod backbones;
 #[cfg(test)]
-mod calls;
+mod base;
 #[cfg(test)]
 mod classes;
 #[cfg(test)]
-mod compiled;
+mod compile;
 #[cfg(test)]
 mod conflicts;
 #[cfg(test)]
-mod documented;
-#[cfg(test)]
 mod estimates;
-#[cfg(test)]
-mod first_path;
-#[cfg(test)]
-mod goals;
-#[cfg(test)]
-mod graph;
-#[cfg(test)]
-mod hostile;
-#[cfg(test)]
-mod limits;
-#[cfg(test)]
-mod model_lines;
-#[cfg(test)]
-mod not_accepted;
 #[cfg(test)]
 mod parts;
 #[cfg(test)]
 mod plans;
 #[cfg(test)]
-mod primes;
-#[cfg(test)]
-mod refusals;
-#[cfg(test)]
-mod row;
-#[cfg(test)]
-mod shown;
-#[cfg(test)]
 mod tabled;
 #[cfg(test)]
-mod too_deep;
+mod text;
 #[cfg(test)]
-mod too_many_ways;
-#[cfg(test)]
-mod valve;
+mod wire;
 #[cfg(test)]
 mod worlds;

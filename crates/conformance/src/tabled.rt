@@ -6,7 +6,7 @@ ghost use Rattle.cca_base.specs.State.{IsState};
 ghost use Rattle.planner_step.specs.Planning.{AreReached, IsGoal};
 ghost use Rattle.reversibility.specs.Parts.{CoversState};
 
-use crate::goals::pairs_of;
+use crate::compile::pairs_of;
 use crate::parts::has_mode;
 use acceptance::accept;
 use causal_graph::sort_goal;

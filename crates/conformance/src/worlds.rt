@@ -1,24 +1,11 @@
+//! Worlds and counterexamples: the first of each, or none.
 use crate::parts::*;
-use acceptance::first_worldless;
 use cca_base::*;
 use clause_form::clauses_of;
 use consistency::{Found, find_counter, find_world};
-use guard_compiler::rules_of;
 use std::alloc::Global;
 use std::process::Abort;
 use std::test::*;
-
-fn assert_found(
-    rt: &impl Abort,
-    found: Option<Found>,
-    modes: &[u8],
-    values: &[u8],
-) -> Result<(), Fail> {
-    let found = found.ok_or("none found")?;
-    assert_eq!(rt; found.state.modes.as_slice(), modes, "its state");
-    assert_eq!(rt; found.world.values.as_slice(), values, "its world");
-    Ok(())
-}
 
 /// The first state and world of these modes, with what is seen.
 fn world_of(
@@ -30,40 +17,6 @@ fn world_of(
     let modes = modes_of(alloc, model, modes)?;
     let observed = seen(alloc, model, observed)?;
     Ok(find_world(alloc, model, &modes, &observed)?)
-}
-
-/// Asserts the first state and world of these modes, with what is seen.
-fn assert_world(
-    rt: &impl Abort,
-    model: &Model,
-    alloc: Global,
-    question: (&[(u16, u8)], &[(u16, u8)]),
-    answer: (&[u8], &[u8]),
-) -> Result<(), Fail> {
-    let found = world_of(alloc, model, question.0, question.1)?;
-    assert_found(rt, found, answer.0, answer.1)
-}
-
-/// Whether these modes have a world with what is seen.
-fn has_world(
-    alloc: Global,
-    model: &Model,
-    modes: &[(u16, u8)],
-    observed: &[(u16, u8)],
-) -> Result<bool, Fail> {
-    Ok(world_of(alloc, model, modes, observed)?.is_some())
-}
-
-/// Asserts that these modes have no world with what is seen.
-fn assert_none(
-    rt: &impl Abort,
-    model: &Model,
-    alloc: Global,
-    modes: &[(u16, u8)],
-    observed: &[(u16, u8)],
-) -> Result<(), Fail> {
-    assert!(rt; !has_world(alloc, model, modes, observed)?);
-    Ok(())
 }
 
 /// The first state of these modes, with a world of it, in which the subject has another value.
@@ -79,15 +32,71 @@ fn counter(
     Ok(find_counter(alloc, model, &modes, &formula)?)
 }
 
-/// Whether the value follows from these modes.
-fn follows(
+/// Modes of components and values of variables, by their numbers.
+type Pairs<'a> = &'a [(u16, u8)];
+
+/// The numbers of a state's modes and of a world's values.
+type Answer<'a> = (&'a [u8], &'a [u8]);
+
+fn assert_found(
+    rt: &impl Abort,
+    found: Option<Found>,
+    answer: Option<Answer<'_>>,
+) -> Result<(), Fail> {
+    match (found, answer) {
+        (Some(found), Some((modes, values))) => {
+            assert_eq!(rt; found.state.modes.as_slice(), modes, "its state");
+            assert_eq!(rt; found.world.values.as_slice(), values, "its world");
+            Ok(())
+        }
+        (None, None) => Ok(()),
+        _ => Err(Fail::from("found or not")),
+    }
+}
+
+/// Asserts the first state and world of some modes, with what is seen, or that there is none.
+fn assert_worlds(
+    rt: &impl Abort,
     alloc: Global,
     model: &Model,
-    modes: &[(u16, u8)],
-    subject: Subject,
-    value: u8,
-) -> Result<bool, Fail> {
-    Ok(counter(alloc, model, modes, subject, value)?.is_none())
+    rows: &[(Pairs<'_>, Pairs<'_>, Option<Answer<'_>>)],
+) -> Result<(), Fail> {
+    for row in rows {
+        assert_found(rt, world_of(alloc, model, row.0, row.1)?, row.2)?;
+    }
+    Ok(())
+}
+
+#[test]
+fn clauses_say_what_rules_say(rt: HostRuntime) -> Result<(), Fail> {
+    let alloc = rt.alloc();
+    let model = valve_model(alloc)?;
+    let clauses = clauses_of(alloc, &model, None, None)?;
+    assert!(rt; all_true(&clauses, &[0, 1, 1]));
+    assert!(rt; !all_true(&clauses, &[0, 1, 0]));
+    Ok(())
+}
+
+#[test]
+fn worlds_of_the_valve(rt: HostRuntime) -> Result<(), Fail> {
+    let model = valve_model(rt.alloc())?;
+    let rows: [(Pairs<'_>, Pairs<'_>, Option<Answer<'_>>); 5] = [
+        (&[(1, 1)], &[], Some((&[0, 1], &[1]))),
+        (&[], &[], Some((&[0, 0], &[0]))),
+        (&[], &[(0, 1)], Some((&[0, 1], &[1]))),
+        (&[(1, 0)], &[(0, 1)], None),
+        (&[], &[(0, 1), (0, 0)], None),
+    ];
+    assert_worlds(&rt, rt.alloc(), &model, &rows)
+}
+
+#[test]
+fn counterexamples_of_the_valve(rt: HostRuntime) -> Result<(), Fail> {
+    let model = valve_model(rt.alloc())?;
+    let found = counter(rt.alloc(), &model, &[(0, 1)], Subject::Component(1), 1)?;
+    assert_found(&rt, found, Some((&[1, 0], &[0])))?;
+    let none = counter(rt.alloc(), &model, &[(1, 1)], Subject::Variable(0), 1)?;
+    assert_found(&rt, none, None)
 }
 
 /// Two components and two variables; `a=x b=x` has no world, and no world has neither `v=y` nor `w=z`.
@@ -106,119 +115,43 @@ pub fn tied_model(alloc: Global) -> Result<Model, Fail> {
     )
 }
 
-/// Whether each state of the model has a world.
-fn all_have_worlds(alloc: Global, model: &Model) -> Result<bool, Fail> {
-    let rules = rules_of(alloc, model)?;
-    Ok(first_worldless(alloc, model, &rules)?.is_none())
-}
-
-#[test]
-fn clauses_say_what_rules_say(rt: HostRuntime) -> Result<(), Fail> {
-    let alloc = rt.alloc();
-    let model = valve_model(alloc)?;
-    let clauses = clauses_of(alloc, &model, None, None)?;
-    assert!(rt; all_true(&clauses, &[0, 1, 1]));
-    assert!(rt; !all_true(&clauses, &[0, 1, 0]));
-    Ok(())
-}
-
-#[test]
-fn an_open_valve_lets_flow(rt: HostRuntime) -> Result<(), Fail> {
-    let model = valve_model(rt.alloc())?;
-    assert_world(&rt, &model, rt.alloc(), (&[(1, 1)], &[]), (&[0, 1], &[1]))
-}
-
-#[test]
-fn what_is_seen_excludes_the_first_world(rt: HostRuntime) -> Result<(), Fail> {
-    let model = valve_model(rt.alloc())?;
-    assert_world(&rt, &model, rt.alloc(), (&[], &[]), (&[0, 0], &[0]))?;
-    assert_world(&rt, &model, rt.alloc(), (&[], &[(0, 1)]), (&[0, 1], &[1]))
-}
-
-#[test]
-fn what_is_seen_may_exclude_each_world(rt: HostRuntime) -> Result<(), Fail> {
-    let model = valve_model(rt.alloc())?;
-    assert_none(&rt, &model, rt.alloc(), &[(1, 0)], &[(0, 1)])?;
-    assert_none(&rt, &model, rt.alloc(), &[], &[(0, 1), (0, 0)])
-}
-
-#[test]
-fn a_counterexample_is_the_first_one(rt: HostRuntime) -> Result<(), Fail> {
-    let model = valve_model(rt.alloc())?;
-    let found = counter(rt.alloc(), &model, &[(0, 1)], Subject::Component(1), 1)?;
-    assert_found(&rt, found, &[1, 0], &[0])
-}
-
-#[test]
-fn what_follows_has_no_counterexample(rt: HostRuntime) -> Result<(), Fail> {
-    let model = valve_model(rt.alloc())?;
-    assert!(rt; follows(rt.alloc(), &model, &[(1, 1)], Subject::Variable(0), 1)?);
-    Ok(())
-}
-
 #[test]
 fn ties_are_broken_in_both_orders(rt: HostRuntime) -> Result<(), Fail> {
     let model = tied_model(rt.alloc())?;
-    assert_world(&rt, &model, rt.alloc(), (&[], &[]), (&[0, 1], &[0, 2]))?;
-    assert_world(
-        &rt,
-        &model,
-        rt.alloc(),
-        (&[], &[(1, 1)]),
-        (&[0, 1], &[1, 1]),
-    )?;
-    assert_world(
-        &rt,
-        &model,
-        rt.alloc(),
-        (&[(1, 0)], &[]),
-        (&[1, 0], &[0, 2]),
-    )
+    let rows: [(Pairs<'_>, Pairs<'_>, Option<Answer<'_>>); 4] = [
+        (&[], &[], Some((&[0, 1], &[0, 2]))),
+        (&[], &[(1, 1)], Some((&[0, 1], &[1, 1]))),
+        (&[(1, 0)], &[], Some((&[1, 0], &[0, 2]))),
+        (&[(0, 0), (1, 0)], &[], None),
+    ];
+    assert_worlds(&rt, rt.alloc(), &model, &rows)
+}
+
+/// Asserts the first state and world of these modes, with the same values seen, of the model of these lines.
+fn assert_world_of(
+    rt: &impl Abort,
+    alloc: Global,
+    lines: &[&str],
+    pairs: Pairs<'_>,
+    answer: Answer<'_>,
+) -> Result<(), Fail> {
+    let model = model_of(alloc, lines)?;
+    assert_found(rt, world_of(alloc, &model, pairs, pairs)?, Some(answer))
 }
 
 #[test]
-fn a_state_may_have_no_world(rt: HostRuntime) -> Result<(), Fail> {
-    let model = tied_model(rt.alloc())?;
-    assert_none(&rt, &model, rt.alloc(), &[(0, 0), (1, 0)], &[])?;
-    let rules = rules_of(rt.alloc(), &model)?;
-    let first = first_worldless(rt.alloc(), &model, &rules)?.ok_or("each state has a world")?;
-    assert_eq!(rt; first.modes.as_slice(), [0, 0].as_slice());
-    Ok(())
+fn worlds_of_a_model_without_variables(rt: HostRuntime) -> Result<(), Fail> {
+    let lines = ["titan 1", "component a = x, y start x", "rule a = y"];
+    assert_world_of(&rt, rt.alloc(), &lines, &[], (&[1], &[]))
 }
 
 #[test]
-fn each_state_of_the_valve_has_a_world(rt: HostRuntime) -> Result<(), Fail> {
-    let model = valve_model(rt.alloc())?;
-    assert!(rt; all_have_worlds(rt.alloc(), &model)?);
-    Ok(())
+fn worlds_of_a_model_without_rules(rt: HostRuntime) -> Result<(), Fail> {
+    let lines = ["titan 1", "component a = x, y start x", "var v = x, y"];
+    assert_world_of(&rt, rt.alloc(), &lines, &[(0, 1)], (&[1], &[1]))
 }
 
 #[test]
-fn a_rule_without_variables(rt: HostRuntime) -> Result<(), Fail> {
-    let model = model_of(
-        rt.alloc(),
-        &["titan 1", "component a = x, y start x", "rule a = y"],
-    )?;
-    assert_world(&rt, &model, rt.alloc(), (&[], &[]), (&[1], &[]))
-}
-
-#[test]
-fn a_variable_without_rules(rt: HostRuntime) -> Result<(), Fail> {
-    let model = model_of(
-        rt.alloc(),
-        &["titan 1", "component a = x, y start x", "var v = x, y"],
-    )?;
-    assert_world(
-        &rt,
-        &model,
-        rt.alloc(),
-        (&[(0, 1)], &[(0, 1)]),
-        (&[1], &[1]),
-    )
-}
-
-#[test]
-fn a_model_without_parts(rt: HostRuntime) -> Result<(), Fail> {
-    let model = model_of(rt.alloc(), &["titan 1"])?;
-    assert_world(&rt, &model, rt.alloc(), (&[], &[]), (&[], &[]))
+fn worlds_of_a_model_without_anything(rt: HostRuntime) -> Result<(), Fail> {
+    assert_world_of(&rt, rt.alloc(), &["titan 1"], &[], (&[], &[]))
 }

@@ -1,0 +1,46 @@
+//! The tokens of a line, and a reader of model lines that goes on after refusals.
+use cca_base::Stop;
+use model_syntax::{LineEnd, ModelReader};
+use std::test::*;
+use text_base::tokens;
+
+#[test]
+fn a_line_has_three_tokens(rt: HostRuntime) -> Result<(), Fail> {
+    let line = b"a=b";
+    let read = tokens(rt.alloc(), line.as_slice()).ok().ok_or("no tokens")?;
+    assert_eq!(rt; read.len(), 3);
+    for (token, place) in read.iter().zip([(0, 1), (1, 2), (2, 3)]) {
+        assert_eq!(rt; (token.start, token.end), place);
+    }
+    Ok(())
+}
+
+/// What a line is answered: its code, 0 where it is taken, 100 where it ends the model.
+fn answer(reader: &mut ModelReader, line: &str) -> u8 {
+    match reader.line(line.as_bytes()) {
+        Ok(LineEnd::Going) => 0,
+        Ok(LineEnd::Script) => 100,
+        Err(Stop::Refused(refusal)) => refusal.code,
+        Err(Stop::Memory) => 98,
+    }
+}
+
+#[test]
+fn a_reader_goes_on_after_a_refusal(rt: HostRuntime) -> Result<(), Fail> {
+    let mut reader = ModelReader::open(rt.alloc())?;
+    let rows = [
+        ("script", 1),
+        ("titan 1", 0),
+        ("component x = a, a start a", 3),
+        ("component x = a, b start a", 0),
+        ("fail x a -> c cost 1", 2),
+        ("fail x a -> b cost 1", 0),
+        ("script x", 1),
+        ("script", 100),
+    ];
+    for (line, code) in rows {
+        assert_eq!(rt; answer(&mut reader, line), code, "{line}");
+    }
+    assert_eq!(rt; reader.finish().failures().len(), 1);
+    Ok(())
+}
