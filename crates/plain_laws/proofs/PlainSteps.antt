@@ -1,5 +1,5 @@
 -- Steps, runs and plans of plain models, and the walks that they are made of.
-use Rattle.std.proofs.Common.{◌≡◌, ◌≢◌, ℕ, ◌<◌, inl, inr, Bool, true, false, ◌&&◌, ◌==◌, List, [], ◌∷◌, ◌++◌, length, slice_get, slice_index, slice_set, get_or, Some, All, Contains, refl, sym, ap, subst, ◌∙◌, arith, get_or-set_same, get_or-set_other, length-set}
+use Rattle.std.proofs.Common.{◌≡◌, ◌≢◌, ℕ, zero, suc, ◌<◌, inl, inr, Bool, true, false, ◌&&◌, ◌==◌, List, [], ◌∷◌, ◌++◌, length, slice_get, slice_index, slice_set, get_or, Some, All, Contains, refl, sym, ap, subst, ◌∙◌, arith, get_or-set_same, get_or-set_other, length-set}
 use Rattle.std.proofs.lemmas.Bool.{cases_eq, and_parts, both_ways}
 use Rattle.std.proofs.lemmas.Option.{slice_get_within, get_or_from_slice_get, slice_get-get_or}
 use Rattle.std.proofs.lemmas.List.{get_or_past, get_or-map, length-map}
@@ -13,7 +13,7 @@ use Rattle.cca_base.specs.declared.formula.Formula.TheOpen.{Formula-F}
 use Rattle.cca_base.specs.declared.formula.Formula.TheFolds.{fold-roll-Formula}
 use Rattle.cca_base.specs.Automata.{Automata}
 use Rattle.cca_base.specs.Formula.{truth_step}
-use Rattle.cca_base.specs.Model.{WellFormed, HasMode, mode_counts}
+use Rattle.cca_base.specs.Model.{WellFormed, HasMode, IsMended, RepairChain, is_broken, mode_counts}
 use Rattle.cca_base.specs.Cube.{IsCube}
 use Rattle.cca_base.specs.State.{IsState, Follows}
 use Rattle.cca_base.specs.Repairs.{Mending}
@@ -171,6 +171,14 @@ module _ (m : Automata) (plain : IsPlain m) where
   no_repair : (x : Move) → Contains m.moves x → x.repair ≡ true → ⊥
   no_repair x among h = both_ways x.repair (All-contains (λ y. y.repair ≡ false) m.moves x plain.no_repairs among) h
 
+  -- no mode has a mended one
+  not_mended : (c a b : ℕ) → IsMended m.moves c a b → ⊥
+  not_mended c a b h = along h.count h.chain
+    where
+      along : (n : ℕ) → RepairChain m.moves c a b n → ⊥
+      along zero e = both_ways (is_broken m.moves c b) h.sound (subst (λ x. is_broken m.moves c x ≡ true) e h.broken)
+      along (suc n) p = no_repair p.1.repair p.1.of_model (and_parts p.1.repair.repair (p.1.repair.component == c && p.1.repair.source == a) p.1.mends).0
+
   run_along : (c b : ℕ) (xs : List Move) (a : ℕ) (s : List ℕ) → c < length s → a ≡ slice_index s c → IsWalk m.moves c a xs b → RunTo m s c b
   run_along c b [] a s within at walk = record { ks = []; last = s; run = refl; moved = unmoved s c b (sym at ∙ walk) }
   run_along c b (x ∷ xs) a s within at walk =
@@ -250,8 +258,7 @@ module _ (m : Automata) (plain : IsPlain m) where
         let end : List ℕ = back.1 in
         join m.moves c (slice_index t c) (slice_index end c) (slice_index s c) (run_walk m c back.0 t end back.2) (elim (back.3.each c within) [
           | inl same ↦ stay m.moves c (slice_index end c) (slice_index s c) same
-          | inr mended ↦ absurd (no_repair mended.repair mended.of_model
-              (and_parts mended.repair.repair (mended.repair.component == c && mended.repair.source == slice_index s c) mended.mends).0)
+          | inr mended ↦ absurd (not_mended c (slice_index s c) (slice_index end c) mended)
         ])
   ]
 
