@@ -40,9 +40,44 @@ fn returned(alloc: Global, tables: &Tables, from: &[u8], to: &[u8]) -> Result<Ve
     plan_text(alloc, tables, way_back(alloc, tables, &from, &to)?)
 }
 
-#[test]
-fn a_valve_opens_and_its_driver_goes_off(rt: HostRuntime) -> Result<(), Fail> {
-    let alloc = rt.alloc();
+/// The whole plan from the state of these modes to the goal of these pairs, and the way back from its end.
+fn routed(
+    alloc: Global,
+    tables: &Tables,
+    modes: &[u8],
+    pairs: &[(u16, u8)],
+) -> Result<(Vec<u8>, Vec<u8>), Fail> {
+    let state = covered(alloc, tables, modes)?;
+    let goal = goal_of(alloc, tables, pairs)?;
+    if !is_reached(tables, &state, &goal) {
+        return Err(Fail::from("unreachable"));
+    }
+    let route = route_of(alloc, tables, &state, &goal)?;
+    let plan = plan_text(alloc, tables, route.plan)?;
+    let back = plan_text(alloc, tables, route.back)?;
+    Ok((plan, back))
+}
+
+/// Tables around the start of a model in which b's way back asks for a mode of c that only a repair leads to.
+fn mending_tables(alloc: Global) -> Result<Tables, Fail> {
+    let model = model_of(
+        alloc,
+        &[
+            "titan 1",
+            "component c = m, ok, z start m",
+            "component b = x, y start x",
+            "repair c m -> ok by c_reset when true",
+            "move c ok -> z by c_z when true",
+            "move c z -> ok by c_ok when true",
+            "move b x -> y by b_go when true",
+            "move b y -> x by b_back when c = z",
+        ],
+    )?;
+    tables_around(alloc, model, &[0, 0])
+}
+
+/// Tables around the start of the valve with its driver.
+fn valve_tables(alloc: Global) -> Result<Tables, Fail> {
     let model = model_of(
         alloc,
         &[
@@ -60,7 +95,13 @@ fn a_valve_opens_and_its_driver_goes_off(rt: HostRuntime) -> Result<(), Fail> {
             "fail valve open -> stuck cost 6",
         ],
     )?;
-    let tables = tables_around(alloc, model, &[0, 0])?;
+    tables_around(alloc, model, &[0, 0])
+}
+
+#[test]
+fn a_valve_opens_and_its_driver_goes_off(rt: HostRuntime) -> Result<(), Fail> {
+    let alloc = rt.alloc();
+    let tables = valve_tables(alloc)?;
     let plan = planned(alloc, &tables, &[0, 0], &[(0, 0), (1, 1)])?;
     assert_eq!(rt; plan.as_slice(), b"drv_on v_open drv_off ".as_slice());
     let back = returned(alloc, &tables, &[0, 1], &[0, 0])?;
@@ -71,29 +112,9 @@ fn a_valve_opens_and_its_driver_goes_off(rt: HostRuntime) -> Result<(), Fail> {
 #[test]
 fn a_way_back_mends_what_it_needs(rt: HostRuntime) -> Result<(), Fail> {
     let alloc = rt.alloc();
-    let model = model_of(
-        alloc,
-        &[
-            "titan 1",
-            "component c = m, ok, z start m",
-            "component b = x, y start x",
-            "repair c m -> ok by c_reset when true",
-            "move c ok -> z by c_z when true",
-            "move c z -> ok by c_ok when true",
-            "move b x -> y by b_go when true",
-            "move b y -> x by b_back when c = z",
-        ],
-    )?;
-    let tables = tables_around(alloc, model, &[0, 0])?;
-    let state = covered(alloc, &tables, &[0, 0])?;
-    let goal = goal_of(alloc, &tables, &[(1, 1)])?;
-    if !is_reached(&tables, &state, &goal) {
-        return Err(Fail::from("unreachable"));
-    }
-    let route = route_of(alloc, &tables, &state, &goal)?;
-    let plan = plan_text(alloc, &tables, route.plan)?;
+    let tables = mending_tables(alloc)?;
+    let (plan, back) = routed(alloc, &tables, &[0, 0], &[(1, 1)])?;
     assert_eq!(rt; plan.as_slice(), b"b_go ".as_slice());
-    let back = plan_text(alloc, &tables, route.back)?;
     assert_eq!(rt; back.as_slice(), b"c_reset c_z b_back c_ok ".as_slice());
     Ok(())
 }
