@@ -22,7 +22,7 @@ use Rattle.policy_tables.specs.Tables.{TableParts, IsTables}
 use Rattle.planner_step.specs.Planning.{member_of, IsGoal}
 use Rattle.planner_step.proofs.Covered.{setting, inside_mode}
 use Rattle.plan_runner.specs.WaysBack.{GoesBackTo, GoesOnlyTo, GoesNowhere, AreBackPairs}
-use Rattle.plan_runner.proofs.Stuck.{mendable_exactly, some_mended}
+use Rattle.planner_step.proofs.Stuck.{mendable_exactly, some_mended}
 use Rattle.cca_base.proofs.NextModes.{one_mended}
 
 pub take_next : (xs : List ℕ) (i x : ℕ) → slice_get xs i ≡ Some x → take (i + 1) xs ≡ take i xs ++ x ∷ []

@@ -15,7 +15,7 @@ use Rattle.planner_step.proofs.Covered.{setting}
 use Rattle.planner_step.proofs.Replies.{inside_reached}
 use Rattle.plan_runner.specs.Plans.{IsWholePlan}
 use Rattle.plan_runner.specs.WaysBack.{AreBackPairs, IsWayBack, IsThereAndBack}
-use Rattle.plan_runner.proofs.Along.{plan_of, some_plan}
+use Rattle.planner_step.proofs.Along.{plan_of, some_plan}
 use Rattle.plan_runner.proofs.GoingBack.{some_goal, names_all, back_goal_is, back_is_goal}
 
 module _ (t : TableParts) (is : IsTables t) where
@@ -40,7 +40,7 @@ module _ (t : TableParts) (is : IsTables t) where
           is_goal = is_goal;
           names = names_all t is to cov goal pairs;
           plan = plan;
-          mends = (reach.way_back b t.classes.base (member_of t) from to (setting t is to cov) cov_from.state cov_from.covers goal is_goal).1 plan.commands plan.last plan.whole;
+          mends = (reach.way_back b t.classes.base (member_of t) from to (setting t is to cov) cov_from.state cov_from.covers goal is_goal).1 plan.commands plan.last plan.plan.whole;
         }
 
     some_way : (from : List ℕ) → CoversState t.classes from → (ks last : List ℕ) × Whole b goal from ks last
@@ -61,16 +61,15 @@ module _ (t : TableParts) (is : IsTables t) where
       whole = whole;
       back = back.plan.commands;
       last = back.plan.last;
-      way_back = record { goal = back.goal; is_goal = back.is_goal; whole = back.plan.whole };
+      way_back = record { goal = back.goal; is_goal = back.is_goal; whole = back.plan.plan.whole };
       shows_plan = (refl, short);
       shows_back = back.plan.shows;
     }
 
     pub ended_back : (ks last : List ℕ) (shown : PlanEnd) → Whole b goal s ks last → length ks ≤ MAX_PLAN → IsWayBack t last s shown
         → IsThereAndBack t s goal (record { plan = Plan ks; back = shown })
-    unfolding plan_of
     ended_back ks last shown whole short back = record {
-      plan = plan_of t is s cov goal g.in_order inside (Plan ks) ks last whole (refl, short);
+      plan = record { commands = ks; last = last; plan = plan_of t is s cov goal g.in_order inside ks last whole; shows = (refl, short) };
       back = back;
     }
 
@@ -91,4 +90,7 @@ module _ (t : TableParts) (is : IsTables t) where
         }
 
     pub endless_back : (ks last : List ℕ) → Whole b goal s ks last → MAX_PLAN < length ks → IsThereAndBack t s goal (record { plan = Long; back = Long })
-    endless_back ks last whole long = record { plan = plan_of t is s cov goal g.in_order inside Long ks last whole long; back = refl }
+    endless_back ks last whole long = record {
+      plan = record { commands = ks; last = last; plan = plan_of t is s cov goal g.in_order inside ks last whole; shows = long };
+      back = refl;
+    }

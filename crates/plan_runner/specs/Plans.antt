@@ -1,55 +1,14 @@
--- What whole plans keep.
-use Rattle.std.specs.Prelude.{◌≡◌, ◌≢◌, ◌<◌, ◌≤◌, ℕ, true, false, List, ◌++◌, length, slice_index, Contains}
+-- Whole plans, as they are shown.
+use Rattle.std.specs.Prelude.{ℕ, List}
 use Rattle.cca_base.specs.declared.cube.Pair.{Pair}
 use Rattle.cca_base.specs.declared.events.PlanEnd.{PlanEnd}
-use Rattle.cca_base.specs.Automata.{Automata}
-use Rattle.cca_base.specs.Bounds.{stated_number}
-use Rattle.cca_base.specs.Flags.{is_set}
-use Rattle.cca_base.specs.Implicants.{Ancestor}
-use Rattle.cca_base.specs.Model.{is_broken}
-use Rattle.cca_base.specs.State.{Extends}
-use Rattle.cca_base.specs.Steps.{Run, AllowedPlan}
-use Rattle.cca_base.specs.Plans.{Whole, ShowsPlan}
-use Rattle.reversibility.specs.Parts.{ClassParts, CoversState}
+use Rattle.cca_base.specs.Plans.{ShowsPlan}
 use Rattle.policy_tables.specs.Tables.{TableParts}
+use Rattle.planner_step.specs.Served.{IsPlanTo}
 
--- the first commands lead from the state to mid, and the rest of the commands are left
-pub record Passes (m : Automata) (s ks mid rest : List ℕ) : Type 0 where
-  pub first : List ℕ
-  pub split : ks ≡ first ++ rest
-  pub run : Run m s first mid
-
--- where the first pairs of the goal stand at some place of the plan, they stand from there to its end
-abbrev pub KeepsStanding : Automata → List Pair → List ℕ → List ℕ → Type 0
-KeepsStanding m goal s ks = (before after : List Pair) → goal ≡ before ++ after
-    → (early left : List ℕ) → Passes m s ks early left → Extends early before
-    → (late rest : List ℕ) → Passes m early left late rest → Extends late before
-
--- the component stands all along the plan where it stood at first
-abbrev pub StaysAlong : Automata → List ℕ → List ℕ → ℕ → Type 0
-StaysAlong m s ks d = (mid rest : List ℕ) → Passes m s ks mid rest → slice_index mid d ≡ slice_index s d
-
--- the component is none of the goal's, and no ancestor of one
-abbrev pub IsApart : Automata → List Pair → ℕ → Type 0
-IsApart m goal d = (p : Pair) → Contains goal p → (d ≢ p.item) × (Ancestor m p.item d → ⊥)
-
--- the component is broken in the state, and not mendable
-pub record IsStuck (c : ClassParts) (s : List ℕ) (d : ℕ) : Type 0 where
-  pub within : d < length c.compiled.model.components
-  pub broken : is_broken c.compiled.model.moves d (slice_index s d) ≡ true
-  pub unmendable : is_set c.mendable d ≡ false
-
--- the shown plan is of the picked commands, each applied as its step, until the goal stands; it is allowed, has no more commands than the goal's number,
--- keeps what stands of the goal, and moves neither what the goal has no need of nor what is stuck
+-- the shown plan is that of the picked commands to the goal
 pub record IsWholePlan (t : TableParts) (s : List ℕ) (goal : List Pair) (shown : PlanEnd) : Type 0 where
   pub commands : List ℕ
   pub last : List ℕ
-  pub whole : Whole t.classes.compiled goal s commands last
+  pub plan : IsPlanTo t s goal commands last
   pub shows : ShowsPlan shown commands
-  pub allowed : AllowedPlan t.classes.compiled.model s commands last
-  pub few : length commands ≤ stated_number t.classes.compiled.bounds goal
-  pub stands : Extends last goal
-  pub covers : CoversState t.classes last
-  pub keeps : KeepsStanding t.classes.compiled.model goal s commands
-  pub apart : (d : ℕ) → IsApart t.classes.compiled.model goal d → StaysAlong t.classes.compiled.model s commands d
-  pub stuck : (d : ℕ) → IsStuck t.classes s d → StaysAlong t.classes.compiled.model s commands d

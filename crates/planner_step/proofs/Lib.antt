@@ -2,3 +2,5 @@ pub mod Later
 pub mod Covered
 pub mod Stepping
 pub mod Replies
+pub mod Stuck
+pub mod Along

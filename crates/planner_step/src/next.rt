@@ -1,6 +1,6 @@
 //! The answer for a goal.
 
-ghost use Rattle.std.specs.Prelude.{◌≡◌, ◌↔◌, ◌+◌, ◌*◌, ◌≤◌, false, length, Some};
+ghost use Rattle.std.specs.Prelude.{◌≡◌, ◌↔◌, ◌+◌, ◌*◌, ◌≤◌, ℕ, List, false, length, Some};
 ghost use Rattle.cca_base.specs.declared.cube.Pair.{Pair};
 ghost use Rattle.cca_base.specs.Goals.{IsFirstUnreached};
 ghost use Rattle.cca_base.specs.Plans.{Promising};
@@ -10,6 +10,7 @@ ghost use Rattle.reach_laws.specs.Plans.{IsAnswer};
 ghost use Rattle.reversibility.specs.Parts.{CoversState};
 ghost use Rattle.planner_step.specs.declared.answer.Answer.TheVariants.{Achieved, Unreachable};
 ghost use Rattle.planner_step.specs.Planning.{cells_of, member_of, reply_of, AreReached, IsGoal};
+ghost use Rattle.planner_step.specs.Served.{IsPlanTo};
 
 use crate::answer::Answer;
 use crate::missing::first_missing;
@@ -61,6 +62,8 @@ pub fn next_command<L: Ledger>(
     ensures reached { (is_unreachable (Some (reply_of result)) ≡ false)
         ↔ AreReached tables.now.classes.compiled.model state.now.modes goal.now.pairs }
     ensures promises { Promising tables.now.classes.compiled state.now.modes goal.now.pairs (reply_of result) }
+    ensures plan { AreReached tables.now.classes.compiled.model state.now.modes goal.now.pairs
+        → (ks last : List ℕ) × IsPlanTo tables.now state.now.modes goal.now.pairs ks last }
     ensures rule { IsAnswer (member_of tables.now) (cells_of tables.now) state.now.modes goal.now.pairs (reply_of result) }
     ensures steps { steps.new ≤ steps.old + 2 * length tables.now.classes.compiled.model.components }
 {

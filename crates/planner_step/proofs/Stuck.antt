@@ -15,7 +15,7 @@ use Rattle.reversibility.specs.Parts.{CoversState}
 use Rattle.policy_tables.specs.Tables.{TableParts, IsTables}
 use Rattle.planner_step.specs.Planning.{member_of}
 use Rattle.planner_step.proofs.Covered.{setting, stands_in}
-use Rattle.plan_runner.specs.Plans.{IsStuck}
+use Rattle.planner_step.specs.Served.{IsStuck}
 use Rattle.cca_base.proofs.NextModes.{one_mended}
 
 module _ (t : TableParts) (is : IsTables t) (s : List ℕ) (cov : CoversState t.classes s) where

@@ -1,14 +1,13 @@
 -- What holds all along a whole plan.
 use Rattle.std.proofs.Common.{◌≡◌, ◌≤◌, ℕ, true, List, [], ◌∷◌, ◌++◌, length, sym, subst, ◌∙◌}
 use Rattle.cca_base.specs.declared.cube.Pair.{Pair}
-use Rattle.cca_base.specs.declared.events.PlanEnd.{PlanEnd}
 use Rattle.cca_base.specs.Accepted.{CompiledParts, IsCompiled}
 use Rattle.cca_base.specs.Bounds.{stated_number}
 use Rattle.cca_base.specs.Model.{WellFormed}
 use Rattle.cca_base.specs.Orders.{AreInOrder}
 use Rattle.cca_base.specs.State.{Extends}
 use Rattle.cca_base.specs.Steps.{Run, AllowedPlan}
-use Rattle.cca_base.specs.Plans.{Whole, ShowsPlan}
+use Rattle.cca_base.specs.Plans.{Whole}
 use Rattle.reach_laws.specs.Classes.{Test, AreInside}
 use Rattle.reach_laws.specs.Laws.{Setting}
 use Rattle.reach_laws.proofs.Commands.{one_step}
@@ -21,8 +20,8 @@ use Rattle.reversibility.specs.Parts.{CoversState}
 use Rattle.policy_tables.specs.Tables.{TableParts, IsTables}
 use Rattle.planner_step.specs.Planning.{cells_of, member_of}
 use Rattle.planner_step.proofs.Covered.{setting}
-use Rattle.plan_runner.specs.Plans.{Passes, KeepsStanding, StaysAlong, IsApart, IsWholePlan}
-use Rattle.plan_runner.proofs.Stuck.{stuck_empty}
+use Rattle.planner_step.specs.Served.{Passes, KeepsStanding, StaysAlong, IsApart, IsPlanTo}
+use Rattle.planner_step.proofs.Stuck.{stuck_empty}
 
 module _ (b : CompiledParts) (compiled : IsCompiled b) where
   -- commands lead to one state
@@ -74,18 +73,15 @@ module _ (b : CompiledParts) (compiled : IsCompiled b) where
 
 module _ (t : TableParts) (is : IsTables t) (s : List ℕ) (cov : CoversState t.classes s) (goal : List Pair) (in_order : AreInOrder t.classes.compiled.order goal)
     (inside : AreInside (member_of t) goal) where
-  unfoldable pub plan_of : (shown : PlanEnd) (ks last : List ℕ) → Whole t.classes.compiled goal s ks last → ShowsPlan shown ks → IsWholePlan t s goal shown
-  plan_of shown ks last whole shows =
+  pub plan_of : (ks last : List ℕ) → Whole t.classes.compiled goal s ks last → IsPlanTo t s goal ks last
+  plan_of ks last whole =
       let b : CompiledParts = t.classes.compiled in
       let g : Setting b.model b.order t.classes.base (member_of t) s = setting t is s cov in
       let made = whole_is_allowed b t.classes.base (member_of t) s g goal ks last inside whole in
       let some = serialisation b t.classes.base (member_of t) (cells_of t) is.classes.compiled is.cells.policy s g goal in_order inside in
       let same : ks ≡ some.0 = (one_whole b goal s ks last some.0 some.1 is.classes.compiled whole some.2).0 in
       record {
-        commands = ks;
-        last = last;
         whole = whole;
-        shows = shows;
         allowed = made.0;
         few = subst (λ l. length l ≤ stated_number b.bounds goal) (sym same) some.4;
         stands = made.1;
