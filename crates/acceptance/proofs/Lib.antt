@@ -1,8 +1,8 @@
-pub mod DepthLemmas
-pub mod FalsifiedLemmas
-pub mod LayoutLemmas
-pub mod MarkLemmas
+pub mod BoundsCausesFirst
+pub mod FirstFalsified
+pub mod CausesFirstOrders
+pub mod NeededMarks
 pub mod OneRefusal
-pub mod RefusalLemmas
-pub mod WaysLemmas
-pub mod WorldLemmas
+pub mod RefusalSteps
+pub mod AllWaysFound
+pub mod FirstWorldless

@@ -4,5 +4,5 @@ pub mod Depths
 pub mod Falsified
 pub mod Laws
 pub mod Marks
-pub mod Parts
+pub mod Pieces
 pub mod Refusals

@@ -1,7 +1,7 @@
 -- Which components occur in cubes.
 use Rattle.std.specs.Prelude.{◌≡◌, ℕ, ◌⊎◌, ◌↔◌, Bool, List, length, map, Contains}
 use Rattle.cca_base.specs.declared.cube.Pair.{Pair}
-use Rattle.cca_base.specs.Automata.{Automata}
+use Rattle.cca_base.specs.PlantModel.{PlantModel}
 use Rattle.cca_base.specs.Implicants.{Needs}
 use Rattle.cca_base.specs.Flags.{IsSet}
 
@@ -19,6 +19,6 @@ pub record AddsMarks (P : ℕ → Type 0) (old new : List Bool) : Type 0 where
   pub each : (u : ℕ) → IsSet new u ↔ (IsSet old u ⊎ P u)
 
 -- a mark for each component, and exactly those are set that c needs
-pub record AreNeedsMarked (m : Automata) (c : ℕ) (marks : List Bool) : Type 0 where
+pub record AreNeedsMarked (m : PlantModel) (c : ℕ) (marks : List Bool) : Type 0 where
   pub full : length marks ≡ length m.components
   pub each : (u : ℕ) → IsSet marks u ↔ Needs m c u

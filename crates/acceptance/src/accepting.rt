@@ -1,8 +1,10 @@
+//! A model is compiled, or refused with the least code that applies.
+
 ghost use Rattle.std.specs.Prelude.{◌≡◌, [], ◌∷◌, IfErr, IfOk};
 ghost use Rattle.cca_base.specs.Accepted.{Accepted, IsCompiled};
 ghost use Rattle.cca_base.specs.Model.{IsComplete};
 ghost use Rattle.acceptance.specs.Refusals.{HandsBack, IsMemory};
-ghost use Rattle.acceptance.specs.Parts.{AreParts, IsStop};
+ghost use Rattle.acceptance.specs.Pieces.{ArePieces, IsStop};
 ghost use Rattle.guard_compiler.specs.Rules.{AreRulesOf};
 
 use crate::all_ways::all_ways;
@@ -10,18 +12,10 @@ use crate::bounds::{Bounds, bounds_of};
 use crate::clash::clash;
 use crate::needs::needs_of;
 use causal_graph::{Order, order};
+use cca_base::codes::{CLASH, CYCLE, DEEP};
 use cca_base::{Compiled, Cube, Detail, List, Model, Refusal, Stop};
 use guard_compiler::{RuleClause, rules_of};
 use std::alloc::{AllocError, Global};
-
-/// The code of a model with a state that has no world.
-const CLASH: u8 = 9;
-
-/// The code of a model whose needs have a cycle.
-const CYCLE: u8 = 11;
-
-/// The code of a model whose bounds add up to too much.
-const DEEP: u8 = 12;
 
 /// Why a model is not compiled.
 #[derive(Debug, Drop)]
@@ -34,7 +28,7 @@ pub enum NotAccepted {
 
 /// What is compiled from a model.
 #[derive(Drop)]
-struct Parts {
+struct Pieces {
     ways: List<List<Cube>>,
     order: List<u16>,
     bounds: List<u64>,
@@ -48,19 +42,19 @@ fn refused(code: u8, detail: Detail) -> Stop
 }
 
 /// The list of one number. The error is want of memory.
-fn one(alloc: Global, c: u16) -> Result<List<u16>, AllocError>
-    ensures { IfOk result (λ list. list ≡ c ∷ []) }
+fn one(alloc: Global, component: u16) -> Result<List<u16>, AllocError>
+    ensures { IfOk result (λ list. list ≡ component ∷ []) }
 {
     let mut list = List::new(alloc);
-    list.push(c)?;
+    list.push(component)?;
     Ok(list)
 }
 
 /// What is compiled from the model by the clauses of its rules, or the first refusal that applies, or want of memory.
-fn parts_by(alloc: Global, model: &Model, rules: &List<RuleClause>) -> Result<Parts, Stop>
+fn parts_by(alloc: Global, model: &Model, rules: &List<RuleClause>) -> Result<Pieces, Stop>
     requires complete { IsComplete model.now }
     requires rules { AreRulesOf model.now rules.now }
-    ensures compiled { IfOk result (AreParts model.now) }
+    ensures compiled { IfOk result (ArePieces model.now) }
     ensures refused { IfErr result (IsStop model.now) }
 {
     if let Some(cube) = clash(alloc, model, rules)? {
@@ -72,7 +66,7 @@ fn parts_by(alloc: Global, model: &Model, rules: &List<RuleClause>) -> Result<Pa
         Order::Cycle(list) => Err(refused(CYCLE, Detail::Components(list))),
         Order::Effects(order) => match bounds_of(alloc, model, &needs, &order)? {
             Bounds::PassAt(c) => Err(refused(DEEP, Detail::Components(one(alloc, c)?))),
-            Bounds::Fit(bounds) => Ok(Parts {
+            Bounds::Fit(bounds) => Ok(Pieces {
                 ways,
                 order,
                 bounds,
@@ -82,9 +76,9 @@ fn parts_by(alloc: Global, model: &Model, rules: &List<RuleClause>) -> Result<Pa
 }
 
 /// The same, from the model alone.
-fn parts_of(alloc: Global, model: &Model) -> Result<Parts, Stop>
+fn parts_of(alloc: Global, model: &Model) -> Result<Pieces, Stop>
     requires complete { IsComplete model.now }
-    ensures compiled { IfOk result (AreParts model.now) }
+    ensures compiled { IfOk result (ArePieces model.now) }
     ensures refused { IfErr result (IsStop model.now) }
 {
     let rules = rules_of(alloc, model)?;

@@ -1,3 +1,5 @@
+//! The prime implicants of all moves, one move after the other, up to the first that has too many.
+
 ghost use Rattle.std.specs.Prelude.{IfErr, IfOk};
 ghost use Rattle.cca_base.specs.State.{HasWorlds};
 ghost use Rattle.acceptance.specs.AllWays.{AreAllWays, IsFirstStop};

@@ -1,5 +1,7 @@
+//! The bounds of all components, causes first, up to the first with which their sum is too great.
+
 ghost use Rattle.std.specs.Prelude.{◌≡◌, ◌+◌, ◌-◌, ◌*◌, ◌<◌, ◌≤◌, All, IfOk, length, slice_index, sum_by};
-ghost use Rattle.cca_base.specs.declared.limits.TheConstants.{MAX_CHOICES};
+ghost use Rattle.cca_base.specs.declared.limits.TheConstants.{MAX_CHOICES, MAX_ROWS};
 ghost use Rattle.cca_base.specs.Orders.{IsEffectsFirst};
 ghost use Rattle.causal_graph.specs.Laws.{AreNeedsOf};
 ghost use Rattle.acceptance.specs.Depths.{AreBoundsOrDeep};
@@ -19,7 +21,7 @@ pub enum Bounds {
 fn bound_of(modes: usize, needs: &[u16], bounds: &[u64]) -> u128
     requires some { 1 ≤ modes }
     requires few { modes ≤ MAX_CHOICES }
-    requires short { length needs.now ≤ 65536 }
+    requires short { length needs.now ≤ MAX_ROWS }
     requires within { All (λ u. u < length bounds.now) needs.now }
     ensures { result ≡ (modes - 1) * (1 + sum_by (slice_index bounds.now) needs.now) }
 {

@@ -1,3 +1,5 @@
+//! The shown clash: of the first state without a world, the pairs that are needed for it, by deletion.
+
 ghost use Rattle.std.specs.Prelude.{IfOk};
 ghost use Rattle.acceptance.specs.Clashes.{IsClashOrNone};
 ghost use Rattle.guard_compiler.specs.Rules.{AreRulesOf};

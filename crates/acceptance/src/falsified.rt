@@ -1,3 +1,5 @@
+//! The first values in order that make some clause false.
+
 ghost use Rattle.std.specs.Prelude.{◌≡◌, ◌≤◌, ◌<◌, ℕ, List, length, true, false, All, IfOk, IfSome, IfNone, OnOk, IsTrue, MatchOption};
 ghost use Rattle.std.specs.Option.{option_map};
 ghost use Rattle.cca_base.specs.Estimates.{IsEarlier};

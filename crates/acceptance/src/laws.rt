@@ -1,3 +1,5 @@
+//! A model is refused in one way.
+
 ghost use Rattle.acceptance.specs.Laws.{AcceptedAreNotRefused, ThereIsOneRefusal};
 
 /// A model is refused in one way at most, and an accepted one in none.

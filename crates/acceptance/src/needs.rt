@@ -1,4 +1,7 @@
+//! Which components each component needs: those that its moves' prime implicants name.
+
 ghost use Rattle.std.specs.Prelude.{◌<◌, ◌≤◌, All, IfOk, length};
+ghost use Rattle.cca_base.specs.declared.limits.TheConstants.{MAX_ROWS};
 ghost use Rattle.cca_base.specs.Model.{WellFormed};
 ghost use Rattle.cca_base.specs.Relations.{AreExactly};
 ghost use Rattle.causal_graph.specs.Laws.{AreNeedsOf};
@@ -35,14 +38,14 @@ fn marks_of(
     alloc: Global,
     model: &Model,
     ways: &List<List<Cube>>,
-    c: usize,
+    component: usize,
 ) -> Result<Vec<bool>, AllocError>
     requires { AreAllWays model.now ways.now }
-    ensures { IfOk result (λ v. AreNeedsMarked model.now c v.items) }
+    ensures { IfOk result (λ v. AreNeedsMarked model.now component v.items) }
 {
     let mut marks = vec![in alloc; false; model.components().len()]?;
     for (i, the_move) in model.moves().as_slice().iter().enumerate() {
-        if the_move.component as usize == c {
+        if the_move.component as usize == component {
             mark_cubes(ways.get(i).as_slice(), marks.as_mut_slice());
         }
     }
@@ -51,7 +54,7 @@ fn marks_of(
 
 /// The numbers whose marks are set, rising.
 fn listed(alloc: Global, marks: &[bool]) -> Result<List<u16>, AllocError>
-    requires { length marks.now ≤ 65536 }
+    requires { length marks.now ≤ MAX_ROWS }
     ensures { IfOk result (AreExactly (IsSet marks.now)) }
 {
     let mut list = List::new(alloc);

@@ -1,3 +1,5 @@
+//! The first state in mode order without a world.
+
 ghost use Rattle.std.specs.Prelude.{IfOk};
 ghost use Rattle.std.specs.Option.{option_map};
 ghost use Rattle.acceptance.specs.Clashes.{IsFirstWorldlessOrNone};

@@ -1,6 +1,6 @@
 -- What is answered about the rows of a model.
 use Rattle.std.specs.Prelude.{◌≡◌, ◌<◌, ℕ, List, [], length, slice_index_or}
-use Rattle.cca_base.specs.Automata.{Automata}
+use Rattle.cca_base.specs.PlantModel.{PlantModel}
 use Rattle.cca_base.specs.Bounds.{AreNeeds}
 use Rattle.cca_base.specs.Implicants.{Ancestor, IsAcyclic}
 use Rattle.cca_base.specs.Model.{WellFormed}
@@ -12,22 +12,22 @@ use Rattle.causal_graph.specs.Needs.{AreRows, AreAncestors}
 use Rattle.causal_graph.specs.Answers.{IsOrder}
 
 -- each component has a row, which lists exactly what it needs
-pub record AreNeedsOf (m : Automata) (rows : List (List ℕ)) : Type 0 where
+pub record AreNeedsOf (m : PlantModel) (rows : List (List ℕ)) : Type 0 where
   pub full : length rows ≡ length m.components
   pub each : (c : ℕ) → c < length rows → AreNeeds m c (slice_index_or rows c [])
 
 -- the rows of a model may be asked about
 abbrev pub ModelsHaveRows : Type 0
-ModelsHaveRows = (m : Automata) (rows : List (List ℕ)) → AreNeedsOf m rows → AreRows rows
+ModelsHaveRows = (m : PlantModel) (rows : List (List ℕ)) → AreNeedsOf m rows → AreRows rows
 
 -- where an order is answered, the model has no cycle, and the order is its own
 abbrev pub OrdersAreOfModels : Type 0
-OrdersAreOfModels = (m : Automata) (rows : List (List ℕ)) (list : List ℕ) → WellFormed m → AreNeedsOf m rows → IsOrder rows (Effects list) → IsAcyclic m × IsEffectsFirst m list
+OrdersAreOfModels = (m : PlantModel) (rows : List (List ℕ)) (list : List ℕ) → WellFormed m → AreNeedsOf m rows → IsOrder rows (Effects list) → IsAcyclic m × IsEffectsFirst m list
 
 -- where a cycle is answered, it is the model's shown cycle
 abbrev pub CyclesAreOfModels : Type 0
-CyclesAreOfModels = (m : Automata) (rows : List (List ℕ)) (list : List ℕ) → WellFormed m → AreNeedsOf m rows → IsOrder rows (Cycle list) → IsShownCycle m list
+CyclesAreOfModels = (m : PlantModel) (rows : List (List ℕ)) (list : List ℕ) → WellFormed m → AreNeedsOf m rows → IsOrder rows (Cycle list) → IsShownCycle m list
 
 -- the ancestors that are answered are the model's
 abbrev pub AncestorsAreOfModels : Type 0
-AncestorsAreOfModels = (m : Automata) (rows : List (List ℕ)) (c : ℕ) (list : List ℕ) → WellFormed m → AreNeedsOf m rows → AreAncestors rows c list → AreExactly (Ancestor m c) list
+AncestorsAreOfModels = (m : PlantModel) (rows : List (List ℕ)) (c : ℕ) (list : List ℕ) → WellFormed m → AreNeedsOf m rows → AreAncestors rows c list → AreExactly (Ancestor m c) list

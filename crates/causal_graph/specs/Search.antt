@@ -1,5 +1,6 @@
 -- What the steps of the searches find.
 use Rattle.std.specs.Prelude.{◌≡◌, ℕ, ◌+◌, ◌<◌, ◌≤◌, ◌==◌, ◌⊎◌, ◌↔◌, Bool, List, length, slice_index, Contains, count_by}
+use Rattle.cca_base.specs.declared.limits.TheConstants.{MAX_ROWS}
 use Rattle.cca_base.specs.Estimates.{IsEarlier}
 use Rattle.cca_base.specs.Flags.{IsSet}
 use Rattle.cca_base.specs.Relations.{PathBy, AncestorBy, IsCycleBy}
@@ -7,7 +8,7 @@ use Rattle.causal_graph.specs.Needs.{RowNeeds}
 
 -- flags are set only at places that a u16 numbers
 abbrev pub AreNarrow : List Bool → Type 0
-AreNarrow flags = (u : ℕ) → IsSet flags u → u < 65536
+AreNarrow flags = (u : ℕ) → IsSet flags u → u < MAX_ROWS
 
 -- exactly the flags of the row's numbers are set besides those that were
 pub record Marks (row : List ℕ) (old new : List Bool) : Type 0 where

@@ -1,3 +1,5 @@
+//! An order of the components, or why there is none.
+
 use cca_base::List;
 
 /// All components in order, or what stands against it.

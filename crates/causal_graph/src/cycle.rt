@@ -1,4 +1,7 @@
+//! The shown cycle: a shortest way back, found by distances.
+
 ghost use Rattle.std.specs.Prelude.{◌≡◌, ◌<◌, ◌≤◌, ◌^◌, ℕ, All, Contains, IfOk, MatchOption, length, slice_index};
+ghost use Rattle.cca_base.specs.declared.limits.TheConstants.{MAX_ROWS};
 ghost use Rattle.cca_base.specs.Relations.{IsShownCycleBy};
 ghost use Rattle.causal_graph.specs.Needs.{AreRows, RowNeeds};
 ghost use Rattle.causal_graph.specs.Search.{AreDistances, HasStuck, IsFirstCycle, IsNearest};
@@ -31,17 +34,17 @@ fn shortest(
     alloc: Global,
     needs: &List<List<u16>>,
     distances: &[u32],
-    t: u16,
+    target: u16,
 ) -> Result<List<u16>, AllocError>
     requires rows { AreRows needs.now }
-    requires distances { AreDistances needs.now t distances.now }
-    requires cycle { 0 < slice_index distances.now t }
-    ensures { IfOk result (IsFirstCycle needs.now t) }
+    requires distances { AreDistances needs.now target distances.now }
+    requires cycle { 0 < slice_index distances.now target }
+    ensures { IfOk result (IsFirstCycle needs.now target) }
 {
     let mut cycle = List::new(alloc);
-    cycle.push(t)?;
-    let mut at = t;
-    let mut left = distances[t as usize];
+    cycle.push(target)?;
+    let mut at = target;
+    let mut left = distances[target as usize];
     'steps: while left > 1 {
         left -= 1;
         let Some(next) = nearest(needs.get(at as usize).as_slice(), distances, left) else {
@@ -50,13 +53,13 @@ fn shortest(
         at = next;
         cycle.push(at)?;
     }
-    cycle.push(t)?;
+    cycle.push(target)?;
     Ok(cycle)
 }
 
 /// The shown cycle of needs of which some each are needed by one of them.
 pub(crate) fn shown_cycle(alloc: Global, needs: &List<List<u16>>) -> Result<List<u16>, AllocError>
-    requires few { length needs.now ≤ 65536 }
+    requires few { length needs.now ≤ MAX_ROWS }
     requires rows { AreRows needs.now }
     requires stuck { HasStuck needs.now }
     ensures { IfOk result (IsShownCycleBy (RowNeeds needs.now)) }

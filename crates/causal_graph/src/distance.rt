@@ -1,4 +1,7 @@
+//! Distances to a component, by rounds of breadth-first search backwards.
+
 ghost use Rattle.std.specs.Prelude.{◌≡◌, ◌+◌, ◌<◌, ◌≤◌, ◌↔◌, ℕ, All, Contains, IfOk, IsTrue, MatchBool, length, slice_index};
+ghost use Rattle.cca_base.specs.declared.limits.TheConstants.{MAX_ROWS};
 ghost use Rattle.causal_graph.specs.Needs.{AreRows};
 ghost use Rattle.causal_graph.specs.Search.{AreDirect, AreDistances, IsFarther, unreached};
 
@@ -6,12 +9,12 @@ use cca_base::List;
 use std::alloc::{AllocError, Global};
 
 /// 1 for each component that needs `t`, and 0 for the others.
-fn direct(alloc: Global, needs: &List<List<u16>>, t: u16) -> Result<Vec<u32>, AllocError>
-    ensures { IfOk result (λ v. AreDirect needs.now t v.items) }
+fn direct(alloc: Global, needs: &List<List<u16>>, target: u16) -> Result<Vec<u32>, AllocError>
+    ensures { IfOk result (λ v. AreDirect needs.now target v.items) }
 {
     let mut distances = Vec::new(alloc);
     for row in needs.as_slice() {
-        let needs_it = row.as_slice().contains(&t);
+        let needs_it = row.as_slice().contains(&target);
         distances.push(if needs_it { 1 } else { 0 })?;
     }
     Ok(distances)
@@ -28,7 +31,7 @@ fn leads_to(row: &[u16], distances: &[u32], distance: u32) -> bool
 /// Gives the distance behind `level` to those that need one at `level` and are at no distance yet, and says whether there
 /// is one.
 fn farther(needs: &List<List<u16>>, distances: &mut [u32], level: u32) -> bool
-    requires few { length needs.now ≤ 65536 }
+    requires few { length needs.now ≤ MAX_ROWS }
     requires rows { AreRows needs.now }
     requires full { length distances.old ≡ length needs.now }
     requires positive { 0 < level }
@@ -51,13 +54,13 @@ fn farther(needs: &List<List<u16>>, distances: &mut [u32], level: u32) -> bool
 pub(crate) fn distances(
     alloc: Global,
     needs: &List<List<u16>>,
-    t: u16,
+    target: u16,
 ) -> Result<Vec<u32>, AllocError>
-    requires few { length needs.now ≤ 65536 }
+    requires few { length needs.now ≤ MAX_ROWS }
     requires rows { AreRows needs.now }
-    ensures { IfOk result (λ v. AreDistances needs.now t v.items) }
+    ensures { IfOk result (λ v. AreDistances needs.now target v.items) }
 {
-    let mut distances = direct(alloc, needs, t)?;
+    let mut distances = direct(alloc, needs, target)?;
     let mut level = 1;
     'levels: while farther(needs, distances.as_mut_slice(), level) {
         level += 1;

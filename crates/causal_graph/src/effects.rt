@@ -1,4 +1,7 @@
+//! Components effects first: a topological sort that takes the greatest number that nothing left needs.
+
 ghost use Rattle.std.specs.Prelude.{◌≡◌, ◌<◌, ◌≤◌, All, IfOk, MatchOption, length};
+ghost use Rattle.cca_base.specs.declared.limits.TheConstants.{MAX_ROWS};
 ghost use Rattle.cca_base.specs.Relations.{IsEffectsFirstBy, numbers_below};
 ghost use Rattle.causal_graph.specs.Needs.{AreRows, RowNeeds};
 ghost use Rattle.causal_graph.specs.Search.{AreNeeded, HasStuck, IsFirstUnset};
@@ -10,7 +13,7 @@ use std::alloc::{AllocError, Global};
 
 /// The numbers below `n`, rising.
 fn numbers(alloc: Global, n: usize) -> Result<Vec<u16>, AllocError>
-    requires { n ≤ 65536 }
+    requires { n ≤ MAX_ROWS }
     ensures { IfOk result (λ v. v.items ≡ numbers_below n) }
 {
     let mut all = Vec::new(alloc);
@@ -55,7 +58,7 @@ pub(crate) fn effects_first(
     alloc: Global,
     needs: &List<List<u16>>,
 ) -> Result<Option<List<u16>>, AllocError>
-    requires few { length needs.now ≤ 65536 }
+    requires few { length needs.now ≤ MAX_ROWS }
     requires rows { AreRows needs.now }
     ensures { IfOk result
         (λ o. MatchOption o (HasStuck needs.now) (IsEffectsFirstBy (RowNeeds needs.now) (length needs.now))) }

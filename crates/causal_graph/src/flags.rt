@@ -1,3 +1,5 @@
+//! Flags of components, set one by one.
+
 ghost use Rattle.std.specs.Prelude.{◌≡◌, ◌<◌, All, MatchBool, length};
 ghost use Rattle.causal_graph.specs.Search.{AreNarrow, Marks};
 ghost use Rattle.cca_base.specs.Flags.{unset};

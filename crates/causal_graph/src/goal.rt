@@ -1,3 +1,5 @@
+//! A goal's pairs in effects-first order.
+
 ghost use Rattle.std.specs.Prelude.{◌≡◌, ◌<◌, All, Contains, IfOk, MatchOption, length};
 ghost use Rattle.cca_base.specs.Cube.{IsCube, Lacks};
 ghost use Rattle.cca_base.specs.Orders.{IsSorted};
@@ -6,11 +8,11 @@ use cca_base::{Compiled, Goal, List, Pair};
 use std::alloc::{AllocError, Global};
 
 /// The pair of the component.
-fn pair_of(pairs: &[Pair], c: u16) -> Option<Pair>
-    ensures { MatchOption result (Lacks c pairs.now) (λ p. Contains pairs.now p × (p.item ≡ c)) }
+fn pair_of(pairs: &[Pair], component: u16) -> Option<Pair>
+    ensures { MatchOption result (Lacks component pairs.now) (λ p. Contains pairs.now p × (p.item ≡ component)) }
 {
     for pair in pairs {
-        if pair.item == c {
+        if pair.item == component {
             return Some(*pair);
         }
     }

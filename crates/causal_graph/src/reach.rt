@@ -1,3 +1,5 @@
+//! The ancestors of a component, by rounds of breadth-first search.
+
 ghost use Rattle.std.specs.Prelude.{◌≡◌, ◌<◌, IfOk, MatchBool, length};
 ghost use Rattle.causal_graph.specs.Needs.{AreAncestors, AreRows};
 ghost use Rattle.causal_graph.specs.Search.{AreNarrow, AreReached, Spreads};
@@ -25,14 +27,17 @@ fn spread(needs: &List<List<u16>>, flags: &mut [bool]) -> bool
 }
 
 /// For each component, whether `c` reaches it by one or more needs.
-fn reached(alloc: Global, needs: &List<List<u16>>, c: u16) -> Result<Vec<bool>, AllocError>
+fn reached(alloc: Global, needs: &List<List<u16>>, component: u16) -> Result<Vec<bool>, AllocError>
     requires rows { AreRows needs.now }
-    requires within { c < length needs.now }
-    ensures reached { IfOk result (λ v. AreReached needs.now c v.items) }
+    requires within { component < length needs.now }
+    ensures reached { IfOk result (λ v. AreReached needs.now component v.items) }
     ensures narrow { IfOk result (λ v. AreNarrow v.items) }
 {
     let mut flags = vec![in alloc; false; needs.len()]?;
-    mark(needs.get(c as usize).as_slice(), flags.as_mut_slice());
+    mark(
+        needs.get(component as usize).as_slice(),
+        flags.as_mut_slice(),
+    );
     'rounds: while spread(needs, flags.as_mut_slice()) {}
     Ok(flags)
 }

@@ -4,7 +4,7 @@ use Rattle.std.specs.Prelude.{nat_le, nat_lt}
 use Rattle.std.specs.List.{list_all}
 use Rattle.std.proofs.lemmas.Bool.{ltb-true, and_parts, and_from}
 use Rattle.std.proofs.lemmas.List.Elements.{All-weaker}
-use Rattle.cca_base.specs.Automata.{Automata}
+use Rattle.cca_base.specs.PlantModel.{PlantModel}
 use Rattle.cca_base.specs.Formula.{fits, fits_step, is_choice_of, subject_value}
 use Rattle.cca_base.specs.Model.{HasMode, IsFormula, IsMove, IsFailure, mode_counts, value_counts}
 use Rattle.cca_base.specs.declared.formula.Subject.{Subject}
@@ -96,21 +96,21 @@ module _ (s w t u : List ℕ) (modes : KeepsCounts s t) (values : KeepsCounts w 
       fold-roll-Formula Bool (fits_step t u) x ∙ subst LayerKept is (step y) (sym (fold-roll-Formula Bool (fits_step s w) x) ∙ h))
 
 -- the second model has the choices and the commands of the first, and maybe more
-pub record Extends (m n : Automata) : Type 0 where
+pub record Extends (m n : PlantModel) : Type 0 where
   pub modes : KeepsCounts (mode_counts m) (mode_counts n)
   pub values : KeepsCounts (value_counts m) (value_counts n)
   pub commands : length m.commands ≤ length n.commands
 
-pub HasMode-kept : (m n : Automata) → Extends m n → (c mode : ℕ) → HasMode m c mode → HasMode n c mode
+pub HasMode-kept : (m n : PlantModel) → Extends m n → (c mode : ℕ) → HasMode m c mode → HasMode n c mode
 HasMode-kept m n e c mode h = rw (e.modes c (omega arith)) h
 
-pub IsFormula-kept : (m n : Automata) → Extends m n → (f : Formula) → IsFormula m f → IsFormula n f
+pub IsFormula-kept : (m n : PlantModel) → Extends m n → (f : Formula) → IsFormula m f → IsFormula n f
 IsFormula-kept m n e f h = record {
   fits = fits_kept (mode_counts m) (value_counts m) (mode_counts n) (value_counts n) e.modes e.values f h.fits;
   shallow = h.shallow;
 }
 
-pub IsMove-kept : (m n : Automata) → Extends m n → (move : Move) → IsMove m move → IsMove n move
+pub IsMove-kept : (m n : PlantModel) → Extends m n → (move : Move) → IsMove m move → IsMove n move
 IsMove-kept m n e move h = record {
   source = HasMode-kept m n e move.component move.source h.source;
   target = HasMode-kept m n e move.component move.target h.target;
@@ -118,7 +118,7 @@ IsMove-kept m n e move h = record {
   guard = IsFormula-kept m n e move.guard h.guard;
 }
 
-pub IsFailure-kept : (m n : Automata) → Extends m n → (failure : Failure) → IsFailure m failure → IsFailure n failure
+pub IsFailure-kept : (m n : PlantModel) → Extends m n → (failure : Failure) → IsFailure m failure → IsFailure n failure
 IsFailure-kept m n e failure h = record {
   source = HasMode-kept m n e failure.component failure.source h.source;
   target = HasMode-kept m n e failure.component failure.target h.target;
@@ -126,11 +126,11 @@ IsFailure-kept m n e failure h = record {
   cheap = h.cheap;
 }
 
-pub All-IsFormula-kept : (m n : Automata) → Extends m n → (xs : List Formula) → All (IsFormula m) xs → All (IsFormula n) xs
+pub All-IsFormula-kept : (m n : PlantModel) → Extends m n → (xs : List Formula) → All (IsFormula m) xs → All (IsFormula n) xs
 All-IsFormula-kept m n e = All-weaker (IsFormula m) (IsFormula n) (IsFormula-kept m n e)
 
-pub All-IsMove-kept : (m n : Automata) → Extends m n → (xs : List Move) → All (IsMove m) xs → All (IsMove n) xs
+pub All-IsMove-kept : (m n : PlantModel) → Extends m n → (xs : List Move) → All (IsMove m) xs → All (IsMove n) xs
 All-IsMove-kept m n e = All-weaker (IsMove m) (IsMove n) (IsMove-kept m n e)
 
-pub All-IsFailure-kept : (m n : Automata) → Extends m n → (xs : List Failure) → All (IsFailure m) xs → All (IsFailure n) xs
+pub All-IsFailure-kept : (m n : PlantModel) → Extends m n → (xs : List Failure) → All (IsFailure m) xs → All (IsFailure n) xs
 All-IsFailure-kept m n e = All-weaker (IsFailure m) (IsFailure n) (IsFailure-kept m n e)

@@ -15,7 +15,7 @@ use Rattle.cca_base.specs.declared.model.Variable.{Variable}
 use Rattle.cca_base.specs.declared.model.Move.{Move}
 use Rattle.cca_base.specs.declared.model.Failure.{Failure}
 use Rattle.cca_base.specs.declared.limits.TheConstants.{MAX_COMPONENTS, MAX_VARIABLES, MAX_RULES, MAX_MOVES, MAX_FAILURES}
-use Rattle.cca_base.specs.Automata.{Automata}
+use Rattle.cca_base.specs.PlantModel.{PlantModel}
 use Rattle.cca_base.specs.Names.{is_name, AreNames, AreDifferent}
 use Rattle.cca_base.specs.Model.{WellFormed, mode_counts, value_counts, AreChoices, IsComponent, IsFormula, IsMove, IsFailure, RepairsFit, IsNext, AreInOrderOfFirstUse, is_broken, is_repair_of, is_used, names_of, with_component, with_variable, with_rule, with_command, with_move, with_failure}
 
@@ -51,7 +51,7 @@ AreNames-push xs x named new h = record {
 -- ---- components, variables, rules, commands and failures
 
 -- a new component has a new name
-pub component_kept : (m : Automata) (x : Component) → WellFormed m → length m.components < MAX_COMPONENTS → IsComponent x → IsTrue (is_name x.name) → All (λ name. name ≢ x.name) (names_of m) → WellFormed (with_component m x)
+pub component_kept : (m : PlantModel) (x : Component) → WellFormed m → length m.components < MAX_COMPONENTS → IsComponent x → IsTrue (is_name x.name) → All (λ name. name ≢ x.name) (names_of m) → WellFormed (with_component m x)
 component_kept m x h few good named new =
     let e : Extends m (with_component m x) = record { modes = counts_push (λ c. length c.modes) m.components x; values = counts_same (value_counts m); commands = omega arith } in
     record {
@@ -71,7 +71,7 @@ component_kept m x h few good named new =
       first_use = h.first_use;
     }
 
-pub variable_kept : (m : Automata) (x : Variable) → WellFormed m → length m.variables < MAX_VARIABLES → AreChoices x.values → IsTrue (is_name x.name) → All (λ name. name ≢ x.name) (names_of m) → WellFormed (with_variable m x)
+pub variable_kept : (m : PlantModel) (x : Variable) → WellFormed m → length m.variables < MAX_VARIABLES → AreChoices x.values → IsTrue (is_name x.name) → All (λ name. name ≢ x.name) (names_of m) → WellFormed (with_variable m x)
 variable_kept m x h few good named new =
     let e : Extends m (with_variable m x) = record { modes = counts_same (mode_counts m); values = counts_push (λ v. length v.values) m.variables x; commands = omega arith } in
     record {
@@ -92,7 +92,7 @@ variable_kept m x h few good named new =
       first_use = h.first_use;
     }
 
-pub rule_kept : (m : Automata) (x : Formula) → WellFormed m → length m.rules < MAX_RULES → IsFormula m x → WellFormed (with_rule m x)
+pub rule_kept : (m : PlantModel) (x : Formula) → WellFormed m → length m.rules < MAX_RULES → IsFormula m x → WellFormed (with_rule m x)
 rule_kept m x h few good =
     let e : Extends m (with_rule m x) = record { modes = counts_same (mode_counts m); values = counts_same (value_counts m); commands = omega arith } in
     record {
@@ -109,7 +109,7 @@ rule_kept m x h few good =
       first_use = h.first_use;
     }
 
-pub command_kept : (m : Automata) (x : List ℕ) → WellFormed m → IsTrue (is_name x) → All (λ name. name ≢ x) m.commands → WellFormed (with_command m x)
+pub command_kept : (m : PlantModel) (x : List ℕ) → WellFormed m → IsTrue (is_name x) → All (λ name. name ≢ x) m.commands → WellFormed (with_command m x)
 command_kept m x h named new =
     let e : Extends m (with_command m x) = record { modes = counts_same (mode_counts m); values = counts_same (value_counts m); commands = omega (arith, length_push m.commands x) } in
     record {
@@ -126,7 +126,7 @@ command_kept m x h named new =
       first_use = h.first_use;
     }
 
-pub failure_kept : (m : Automata) (x : Failure) → WellFormed m → length m.failures < MAX_FAILURES → IsFailure m x → WellFormed (with_failure m x)
+pub failure_kept : (m : PlantModel) (x : Failure) → WellFormed m → length m.failures < MAX_FAILURES → IsFailure m x → WellFormed (with_failure m x)
 failure_kept m x h few good =
     let e : Extends m (with_failure m x) = record { modes = counts_same (mode_counts m); values = counts_same (value_counts m); commands = omega arith } in
     record {
@@ -152,7 +152,7 @@ slice_get_front (z ∷ xs) y zero x h = h
 slice_get_front (z ∷ xs) y (suc i) x h = slice_get_front xs y i x h
 
 -- an element of the longer list is one of the shorter, or the last
-slice_get_cases : {X : Type 0} (xs : List X) (y : X) (i : ℕ) (x : X) → slice_get (xs ++ y ∷ []) i ≡ Some x → (slice_get xs i ≡ Some x) ⊎ ((i ≡ length xs) × (y ≡ x))
+pub slice_get_cases : {X : Type 0} (xs : List X) (y : X) (i : ℕ) (x : X) → slice_get (xs ++ y ∷ []) i ≡ Some x → (slice_get xs i ≡ Some x) ⊎ ((i ≡ length xs) × (y ≡ x))
 slice_get_cases [] y zero x h = inr (refl, same_Some y x h)
 slice_get_cases [] y (suc i) x h = absurd cc
 slice_get_cases (z ∷ xs) y zero x h = inl h
@@ -177,7 +177,7 @@ first_use_push moves x h used i command move is before =
     ]
 
 -- no move with its command is of another component, or leaves the same mode; every command before its own is used
-pub move_kept : (m : Automata) (x : Move) → WellFormed m → length m.moves < MAX_MOVES → IsMove m x → RepairsFit (m.moves ++ x ∷ [])
+pub move_kept : (m : PlantModel) (x : Move) → WellFormed m → length m.moves < MAX_MOVES → IsMove m x → RepairsFit (m.moves ++ x ∷ [])
     → All (λ y. y.command ≡ x.command → (y.component ≡ x.component) × (y.source ≢ x.source)) m.moves
     → ((command : ℕ) → command < x.command → IsTrue (is_used m.moves command)) → WellFormed (with_move m x)
 move_kept m x h few good repairs fit used =

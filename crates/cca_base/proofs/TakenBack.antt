@@ -6,7 +6,7 @@ use Rattle.std.proofs.lemmas.List.Elements.{All-take}
 use Rattle.std.proofs.lemmas.List.Folds.{list_any_at}
 use Rattle.cca_base.proofs.Pairwise.{AllPairs-take}
 use Rattle.cca_base.specs.declared.model.Move.{Move}
-use Rattle.cca_base.specs.Automata.{Automata}
+use Rattle.cca_base.specs.PlantModel.{PlantModel}
 use Rattle.cca_base.specs.Names.{is_name}
 use Rattle.cca_base.specs.Model.{WellFormed, IsMove, is_used, without_last_command}
 
@@ -16,14 +16,14 @@ unused moves command h k d within e =
     false≢true (sym h ∙ list_any_at (λ move. move.command == command) moves k d within (eq-eqb (get_or moves k d).command command e))
 
 -- so each move keeps its command
-kept : (m : Automata) → 0 < length m.commands → is_used m.moves (length m.commands - 1) ≡ false → All (IsMove m) m.moves → All (IsMove (without_last_command m)) m.moves
+kept : (m : PlantModel) → 0 < length m.commands → is_used m.moves (length m.commands - 1) ≡ false → All (IsMove m) m.moves → All (IsMove (without_last_command m)) m.moves
 kept m some free moves k d within =
     let move = moves k d within in
     let other = unused m.moves (length m.commands - 1) free k d within in
     let left : length (take (length m.commands - 1) m.commands) ≡ length m.commands - 1 = length-take-le (length m.commands - 1) m.commands (omega arith) in
     record { source = move.source; target = move.target; command = omega (arith, move.command, other, left, some); guard = record { fits = move.guard.fits; shallow = move.guard.shallow } }
 
-pub taken_back : (m : Automata) → 0 < length m.commands → is_used m.moves (length m.commands - 1) ≡ false → WellFormed m → WellFormed (without_last_command m)
+pub taken_back : (m : PlantModel) → 0 < length m.commands → is_used m.moves (length m.commands - 1) ≡ false → WellFormed m → WellFormed (without_last_command m)
 taken_back m some free h = record {
   limits = record { components = h.limits.components; variables = h.limits.variables; rules = h.limits.rules; moves = h.limits.moves; failures = h.limits.failures };
   names = h.names;

@@ -4,7 +4,7 @@ use Rattle.std.specs.Prelude.{nat_le, nat_lt, ◌^◌}
 use Rattle.std.specs.List.{list_all}
 use Rattle.std.proofs.lemmas.Bool.{ltb-true, lt-ltb, and_parts, and_from}
 use Rattle.std.proofs.lemmas.List.{length-map}
-use Rattle.cca_base.specs.Automata.{Automata}
+use Rattle.cca_base.specs.PlantModel.{PlantModel}
 use Rattle.cca_base.specs.Formula.{fits, fits_step, is_within, within_step, is_choice_of, subject_value, subject_within}
 use Rattle.cca_base.specs.Model.{IsFormula, HasMode, mode_counts, value_counts}
 use Rattle.cca_base.specs.State.{IsState, IsWorld, HasValue}
@@ -21,14 +21,14 @@ place_within (x ∷ xs) zero h = omega arith
 place_within (x ∷ xs) (suc k) h = omega (arith, place_within xs k h)
 
 -- what has a mode is a component, and what has a value a variable
-pub mode_within : (m : Automata) (c mode : ℕ) → HasMode m c mode → c < length m.components
+pub mode_within : (m : PlantModel) (c mode : ℕ) → HasMode m c mode → c < length m.components
 mode_within m c mode h = omega (arith, place_within (mode_counts m) c (omega (arith, h)), length-map m.components (λ component. length component.modes))
 
-pub value_within : (m : Automata) (v value : ℕ) → HasValue m v value → v < length m.variables
+pub value_within : (m : PlantModel) (v value : ℕ) → HasValue m v value → v < length m.variables
 value_within m v value h = omega (arith, place_within (value_counts m) v (omega (arith, h)), length-map m.variables (λ variable. length variable.values))
 
 -- a choice of none holds nothing
-choice_positive : (n set : ℕ) → is_choice_of n set ≡ true → 0 < n
+pub choice_positive : (n set : ℕ) → is_choice_of n set ≡ true → 0 < n
 choice_positive zero set h = let parts = and_parts (nat_lt 0 set) (nat_lt set (2 ^ 0)) h in absurd (omega (arith, ltb-true 0 set parts.0, ltb-true set (2 ^ 0) parts.1))
 choice_positive (suc n) set h = omega arith
 
@@ -82,7 +82,7 @@ module _ (modes values : List ℕ) where
       ∙ subst LayerWithin is (step y) (sym (fold-roll-Formula Bool (fits_step modes values) x) ∙ h))
 
 -- so a formula of a model can be tried at each of its states and worlds
-pub formula_within : (m : Automata) (s w : List ℕ) (f : Formula) → IsFormula m f → IsState m s → IsWorld m s w → IsTrue (is_within (length s) (length w) f)
+pub formula_within : (m : PlantModel) (s w : List ℕ) (f : Formula) → IsFormula m f → IsState m s → IsWorld m s w → IsTrue (is_within (length s) (length w) f)
 formula_within m s w f h state world =
     let modes : length (mode_counts m) ≡ length s = length-map m.components (λ c. length c.modes) ∙ sym state.full in
     let values : length (value_counts m) ≡ length w = length-map m.variables (λ v. length v.values) ∙ sym world.full in

@@ -4,7 +4,7 @@ use Rattle.std.specs.Ordering.{nat_cmp, on, then_cmp}
 use Rattle.std.specs.declared.cmp.Ordering.{Ordering}
 use Rattle.std.specs.declared.cmp.Ordering.TheVariants.{Less}
 use Rattle.cca_base.specs.declared.choice.Choice.{Choice}
-use Rattle.cca_base.specs.declared.limits.TheConstants.{MAX_COST}
+use Rattle.cca_base.specs.declared.limits.TheConstants.{MAX_COST, MAX_ROWS}
 
 -- choices by cost, and then by mode
 abbrev pub choice_cmp : Choice → Choice → Ordering
@@ -18,5 +18,5 @@ pub record IsRow (row : List Choice) : Type 0 where
 
 -- as many rows at most as there are numbers of components
 pub record AreRows (rows : List (List Choice)) : Type 0 where
-  pub few : length rows ≤ 65536
+  pub few : length rows ≤ MAX_ROWS
   pub each : All IsRow rows

@@ -69,12 +69,12 @@ fits modes values = fold-Formula Bool (fits_step modes values)
 
 -- a formula's text: how loosely its outermost word binds (0 for none and `not`, 1 for `and`, 2 for `or`, 3 for the others), and its depth
 pub record Printed : Type 0 where
-  pub loose : ℕ
+  pub precedence : ℕ
   pub depth : ℕ
 
 -- a part's depth, with parentheses where it binds more loosely than is allowed
 abbrev pub part_depth : ℕ → Printed → ℕ
-part_depth allowed part = if nat_le part.loose allowed then part.depth else part.depth + 1
+part_depth allowed part = if nat_le part.precedence allowed then part.depth else part.depth + 1
 
 -- the greatest depth of a part
 abbrev pub deepest : ℕ → List Printed → ℕ
@@ -83,14 +83,14 @@ deepest allowed (part ∷ parts) = max (part_depth allowed part) (deepest allowe
 
 -- one layer of a formula, with each part's text in its place
 abbrev pub printed_step : Formula-F Printed → Printed
-printed_step Formula-F.True = record { loose = 0; depth = 1 }
-printed_step Formula-F.False = record { loose = 0; depth = 1 }
-printed_step (Formula-F.Among subject set) = record { loose = 0; depth = 1 }
-printed_step (Formula-F.Not part) = record { loose = 0; depth = 1 + part_depth 0 part }
-printed_step (Formula-F.All parts) = record { loose = 1; depth = 1 + deepest 0 parts }
-printed_step (Formula-F.Any parts) = record { loose = 2; depth = 1 + deepest 1 parts }
-printed_step (Formula-F.Implies a b) = record { loose = 3; depth = 1 + max (part_depth 2 a) (part_depth 2 b) }
-printed_step (Formula-F.Iff a b) = record { loose = 3; depth = 1 + max (part_depth 2 a) (part_depth 2 b) }
+printed_step Formula-F.True = record { precedence = 0; depth = 1 }
+printed_step Formula-F.False = record { precedence = 0; depth = 1 }
+printed_step (Formula-F.Among subject set) = record { precedence = 0; depth = 1 }
+printed_step (Formula-F.Not part) = record { precedence = 0; depth = 1 + part_depth 0 part }
+printed_step (Formula-F.All parts) = record { precedence = 1; depth = 1 + deepest 0 parts }
+printed_step (Formula-F.Any parts) = record { precedence = 2; depth = 1 + deepest 1 parts }
+printed_step (Formula-F.Implies a b) = record { precedence = 3; depth = 1 + max (part_depth 2 a) (part_depth 2 b) }
+printed_step (Formula-F.Iff a b) = record { precedence = 3; depth = 1 + max (part_depth 2 a) (part_depth 2 b) }
 
 -- the depth of the formula's printed text
 abbrev pub depth : Formula → ℕ

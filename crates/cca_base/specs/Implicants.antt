@@ -2,7 +2,7 @@
 use Rattle.std.specs.Prelude.{◌≡◌, ℕ, List, ◌∷◌, All, Contains}
 use Rattle.cca_base.specs.declared.cube.Pair.{Pair}
 use Rattle.cca_base.specs.declared.model.Move.{Move}
-use Rattle.cca_base.specs.Automata.{Automata}
+use Rattle.cca_base.specs.PlantModel.{PlantModel}
 use Rattle.cca_base.specs.Model.{HasMode}
 use Rattle.cca_base.specs.Cube.{Lacks, IsPart, IsRising}
 use Rattle.cca_base.specs.State.{Follows}
@@ -13,11 +13,11 @@ abbrev pub source_pair : Move → Pair
 source_pair move = record { item = move.component; value = move.source }
 
 -- the move's guard follows from its source together with the pairs
-abbrev pub Suffices : Automata → Move → List Pair → Type 0
+abbrev pub Suffices : PlantModel → Move → List Pair → Type 0
 Suffices m move pairs = Follows m (source_pair move ∷ pairs) move.guard
 
 -- a cube without the move's component that suffices, while no proper part of it does; its pairs are of the model, and rise
-pub record PrimeImplicant (m : Automata) (move : Move) (cube : List Pair) : Type 0 where
+pub record PrimeImplicant (m : PlantModel) (move : Move) (cube : List Pair) : Type 0 where
   pub rising : IsRising cube
   pub modes : All (λ p. HasMode m p.item p.value) cube
   pub others : Lacks move.component cube
@@ -25,7 +25,7 @@ pub record PrimeImplicant (m : Automata) (move : Move) (cube : List Pair) : Type
   pub minimal : (part : List Pair) → IsPart part cube → Suffices m move part → IsPart cube part
 
 -- component u occurs in a prime implicant of a move of component c
-pub record Needs (m : Automata) (c u : ℕ) : Type 0 where
+pub record Needs (m : PlantModel) (c u : ℕ) : Type 0 where
   pub move : Move
   pub of_model : Contains m.moves move
   pub own : move.component ≡ c
@@ -35,13 +35,13 @@ pub record Needs (m : Automata) (c u : ℕ) : Type 0 where
   pub occurs : Contains cube (record { item = u; value = mode })
 
 -- component c needs the first of those between, each of them needs the next, and the last needs u
-abbrev pub Path : Automata → ℕ → List ℕ → ℕ → Type 0
+abbrev pub Path : PlantModel → ℕ → List ℕ → ℕ → Type 0
 Path m = PathBy (Needs m)
 
 -- component u is reached from c by one or more needs
-abbrev pub Ancestor : Automata → ℕ → ℕ → Type 0
+abbrev pub Ancestor : PlantModel → ℕ → ℕ → Type 0
 Ancestor m = AncestorBy (Needs m)
 
 -- no component is its own ancestor
-abbrev pub IsAcyclic : Automata → Type 0
+abbrev pub IsAcyclic : PlantModel → Type 0
 IsAcyclic m = IsAcyclicBy (Needs m)

@@ -1,6 +1,6 @@
 pub mod formers
 pub mod Accepted
-pub mod Automata
+pub mod PlantModel
 pub mod Bounds
 pub mod Choice
 pub mod Choices
@@ -16,6 +16,7 @@ pub mod Names
 pub mod Orders
 pub mod Padded
 pub mod Plans
+pub mod Refusals
 pub mod Relations
 pub mod Repairs
 pub mod Runs

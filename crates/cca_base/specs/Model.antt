@@ -7,7 +7,7 @@ use Rattle.cca_base.specs.declared.model.Variable.{Variable}
 use Rattle.cca_base.specs.declared.model.Move.{Move}
 use Rattle.cca_base.specs.declared.model.Failure.{Failure}
 use Rattle.cca_base.specs.declared.limits.TheConstants.{MAX_COMPONENTS, MAX_CHOICES, MAX_VARIABLES, MAX_RULES, MAX_MOVES, MAX_FAILURES, MAX_DEPTH, MAX_COST}
-use Rattle.cca_base.specs.Automata.{Automata}
+use Rattle.cca_base.specs.PlantModel.{PlantModel}
 use Rattle.cca_base.specs.Names.{AreNames}
 use Rattle.cca_base.specs.Formula.{fits, depth}
 
@@ -23,31 +23,31 @@ pub record IsComponent (component : Component) : Type 0 where
   pub start : component.start < length component.modes
 
 -- how many modes each component has
-abbrev pub mode_counts : Automata → List ℕ
+abbrev pub mode_counts : PlantModel → List ℕ
 mode_counts m = map (λ c. length c.modes) m.components
 
 -- how many values each variable has
-abbrev pub value_counts : Automata → List ℕ
+abbrev pub value_counts : PlantModel → List ℕ
 value_counts m = map (λ v. length v.values) m.variables
 
 -- the component has the mode
-abbrev pub HasMode : Automata → ℕ → ℕ → Type 0
+abbrev pub HasMode : PlantModel → ℕ → ℕ → Type 0
 HasMode m c mode = mode < slice_index (mode_counts m) c
 
 -- the formula speaks of the model's modes and values, and its text is not too deep
-pub record IsFormula (m : Automata) (f : Formula) : Type 0 where
+pub record IsFormula (m : PlantModel) (f : Formula) : Type 0 where
   pub fits : IsTrue (fits (mode_counts m) (value_counts m) f)
   pub shallow : depth f ≤ MAX_DEPTH
 
 -- the move leads from one mode of its component to another, or back to it, by one of the model's commands
-pub record IsMove (m : Automata) (move : Move) : Type 0 where
+pub record IsMove (m : PlantModel) (move : Move) : Type 0 where
   pub source : HasMode m move.component move.source
   pub target : HasMode m move.component move.target
   pub command : move.command < length m.commands
   pub guard : IsFormula m move.guard
 
 -- the failure leads between modes of its component, at a cost
-pub record IsFailure (m : Automata) (failure : Failure) : Type 0 where
+pub record IsFailure (m : PlantModel) (failure : Failure) : Type 0 where
   pub source : HasMode m failure.component failure.source
   pub target : HasMode m failure.component failure.target
   pub costs : 0 < failure.cost
@@ -100,7 +100,7 @@ AreInOrderOfFirstUse moves = (i command : ℕ) (move : Move) → slice_get moves
     → (j : ℕ) × (earlier : Move) × (j < i) × (slice_get moves j ≡ Some earlier) × (earlier.command ≡ command)
 
 -- not more of anything than there may be
-pub record KeepsLimits (m : Automata) : Type 0 where
+pub record KeepsLimits (m : PlantModel) : Type 0 where
   pub components : length m.components ≤ MAX_COMPONENTS
   pub variables : length m.variables ≤ MAX_VARIABLES
   pub rules : length m.rules ≤ MAX_RULES
@@ -108,11 +108,11 @@ pub record KeepsLimits (m : Automata) : Type 0 where
   pub failures : length m.failures ≤ MAX_FAILURES
 
 -- the names of the components and the variables, which share one space
-abbrev pub names_of : Automata → List (List ℕ)
+abbrev pub names_of : PlantModel → List (List ℕ)
 names_of m = map (λ c. c.name) m.components ++ map (λ v. v.name) m.variables
 
 -- the parts of the model fit one another; it may have commands that no move uses yet
-pub record WellFormed (m : Automata) : Type 0 where
+pub record WellFormed (m : PlantModel) : Type 0 where
   pub limits : KeepsLimits m
   pub names : AreNames (names_of m)
   pub command_names : AreNames m.commands
@@ -126,37 +126,37 @@ pub record WellFormed (m : Automata) : Type 0 where
   pub first_use : AreInOrderOfFirstUse m.moves
 
 -- each command is used by a move
-abbrev pub IsComplete : Automata → Type 0
+abbrev pub IsComplete : PlantModel → Type 0
 IsComplete m = (command : ℕ) → command < length m.commands → IsTrue (is_used m.moves command)
 
 -- the model without any part
-abbrev pub empty_model : Automata
+abbrev pub empty_model : PlantModel
 empty_model = record { components = []; variables = []; rules = []; commands = []; moves = []; failures = [] }
 
 -- the model with one more component
-abbrev pub with_component : Automata → Component → Automata
+abbrev pub with_component : PlantModel → Component → PlantModel
 with_component m x = record m { components = m.components ++ x ∷ [] }
 
 -- the model with one more variable
-abbrev pub with_variable : Automata → Variable → Automata
+abbrev pub with_variable : PlantModel → Variable → PlantModel
 with_variable m x = record m { variables = m.variables ++ x ∷ [] }
 
 -- the model with one more rule
-abbrev pub with_rule : Automata → Formula → Automata
+abbrev pub with_rule : PlantModel → Formula → PlantModel
 with_rule m x = record m { rules = m.rules ++ x ∷ [] }
 
 -- the model with one more command
-abbrev pub with_command : Automata → List ℕ → Automata
+abbrev pub with_command : PlantModel → List ℕ → PlantModel
 with_command m x = record m { commands = m.commands ++ x ∷ [] }
 
 -- the model without its last command
-abbrev pub without_last_command : Automata → Automata
+abbrev pub without_last_command : PlantModel → PlantModel
 without_last_command m = record m { commands = take (length m.commands - 1) m.commands }
 
 -- the model with one more move
-abbrev pub with_move : Automata → Move → Automata
+abbrev pub with_move : PlantModel → Move → PlantModel
 with_move m x = record m { moves = m.moves ++ x ∷ [] }
 
 -- the model with one more failure
-abbrev pub with_failure : Automata → Failure → Automata
+abbrev pub with_failure : PlantModel → Failure → PlantModel
 with_failure m x = record m { failures = m.failures ++ x ∷ [] }

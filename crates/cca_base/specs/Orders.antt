@@ -2,22 +2,22 @@
 use Rattle.std.specs.Prelude.{◌≡◌, ◌≢◌, ℕ, ◌⊎◌, List, [], ◌∷◌, ◌++◌, length, slice_get, Some}
 use Rattle.std.specs.List.Sorted.{IsPermutation}
 use Rattle.cca_base.specs.declared.cube.Pair.{Pair}
-use Rattle.cca_base.specs.Automata.{Automata}
+use Rattle.cca_base.specs.PlantModel.{PlantModel}
 use Rattle.cca_base.specs.Implicants.{Needs}
 use Rattle.cca_base.specs.Relations.{IsFreeBy, TakesEffectsFirstBy, IsEffectsFirstBy}
 pub use Rattle.cca_base.specs.Relations.{numbers_below}
 use Rattle.cca_base.specs.State.{Extends}
 
 -- no remaining component needs c
-abbrev pub IsFree : Automata → List ℕ → ℕ → Type 0
+abbrev pub IsFree : PlantModel → List ℕ → ℕ → Type 0
 IsFree m = IsFreeBy (Needs m)
 
 -- repeatedly the least remaining component that no remaining component needs
-abbrev pub TakesEffectsFirst : Automata → List ℕ → List ℕ → Type 0
+abbrev pub TakesEffectsFirst : PlantModel → List ℕ → List ℕ → Type 0
 TakesEffectsFirst m = TakesEffectsFirstBy (Needs m)
 
 -- all components, effects before their causes
-abbrev pub IsEffectsFirst : Automata → List ℕ → Type 0
+abbrev pub IsEffectsFirst : PlantModel → List ℕ → Type 0
 IsEffectsFirst m = IsEffectsFirstBy (Needs m) (length m.components)
 
 -- the pairs' components come in this order, each at most once

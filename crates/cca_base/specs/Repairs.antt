@@ -1,7 +1,7 @@
 -- The sound part of a state, and its mendings.
 use Rattle.std.specs.Prelude.{◌≡◌, ℕ, ◌<◌, ◌+◌, ◌⊎◌, not, List, [], ◌∷◌, length, slice_index, filter}
 use Rattle.cca_base.specs.declared.cube.Pair.{Pair}
-use Rattle.cca_base.specs.Automata.{Automata}
+use Rattle.cca_base.specs.PlantModel.{PlantModel}
 use Rattle.cca_base.specs.Model.{is_broken, IsMended}
 
 -- the pairs of some modes, the first of which is that of component c
@@ -14,10 +14,10 @@ abbrev pub pairs_of : List ℕ → List Pair
 pairs_of s = pairs_from 0 s
 
 -- the pairs of the state whose modes are not broken
-abbrev pub sound_pairs : Automata → List ℕ → List Pair
+abbrev pub sound_pairs : PlantModel → List ℕ → List Pair
 sound_pairs m s = filter (λ p. not (is_broken m.moves p.item p.value)) (pairs_of s)
 
 -- each component stands as it did, or was broken and stands in its mended mode
-pub record Mending (m : Automata) (s s2 : List ℕ) : Type 0 where
+pub record Mending (m : PlantModel) (s s2 : List ℕ) : Type 0 where
   pub full : length s2 ≡ length s
   pub each : (c : ℕ) → c < length s → (slice_index s2 c ≡ slice_index s c) ⊎ IsMended m.moves c (slice_index s c) (slice_index s2 c)

@@ -8,7 +8,7 @@ use Rattle.cca_base.specs.declared.events.Reply.{Reply}
 use Rattle.cca_base.specs.declared.events.Reply.TheVariants.{Idle, Send, Achieved, Unreachable}
 use Rattle.cca_base.specs.declared.events.Shown.{Shown}
 use Rattle.cca_base.specs.declared.events.Shown.TheVariants.{Estimated, Unexplained, Holding}
-use Rattle.cca_base.specs.Automata.{Automata}
+use Rattle.cca_base.specs.PlantModel.{PlantModel}
 use Rattle.cca_base.specs.Model.{HasMode, is_broken}
 use Rattle.cca_base.specs.Sets.{has, with_number}
 use Rattle.cca_base.specs.Cube.{IsCube, Lacks, IsUnion}
@@ -17,7 +17,7 @@ use Rattle.cca_base.specs.Successors.{Nominal}
 use Rattle.cca_base.specs.Estimates as estimates
 
 -- where an executive stands
-pub record Situation : Type 0 where
+pub record ExecutiveState : Type 0 where
   pub estimate : List ℕ
   pub command : Option ℕ
   pub plant : List ℕ
@@ -28,7 +28,7 @@ pub record Situation : Type 0 where
   pub ticks : ℕ
 
 -- the start, with so many ticks made
-abbrev pub start : Automata → ℕ → Situation
+abbrev pub start : PlantModel → ℕ → ExecutiveState
 start m ticks = record {
   estimate = start_modes m;
   command = None;
@@ -43,7 +43,7 @@ start m ticks = record {
 -- ---- events
 
 -- the variable is sensed, not mirrored, and without a pending observation
-pub record MayBeSeen (m : Automata) (pending : List Pair) (mirrored v : ℕ) : Type 0 where
+pub record MayBeSeen (m : PlantModel) (pending : List Pair) (mirrored v : ℕ) : Type 0 where
   pub variable : Variable
   pub of_model : slice_get m.variables v ≡ Some variable
   pub sensed : IsTrue variable.sensed
@@ -51,21 +51,21 @@ pub record MayBeSeen (m : Automata) (pending : List Pair) (mirrored v : ℕ) : T
   pub new : Lacks v pending
 
 -- at least one pair, no name twice, and of each component a mode that is not broken
-pub record MayBeGoal (m : Automata) (pairs : List Pair) : Type 0 where
+pub record MayBeGoal (m : PlantModel) (pairs : List Pair) : Type 0 where
   pub some : 0 < length pairs
   pub cube : IsCube pairs
   pub modes : All (λ p. HasMode m p.item p.value) pairs
   pub sound : All (λ p. is_broken m.moves p.item p.value ≡ false) pairs
 
 -- at least one pair, no name twice, and a value of each variable, which may be seen
-pub record MayBeObserved (m : Automata) (pending : List Pair) (mirrored : ℕ) (pairs : List Pair) : Type 0 where
+pub record MayBeObserved (m : PlantModel) (pending : List Pair) (mirrored : ℕ) (pairs : List Pair) : Type 0 where
   pub some : 0 < length pairs
   pub cube : IsCube pairs
   pub values : All (λ p. HasValue m p.item p.value) pairs
   pub seen : All (λ p. MayBeSeen m pending mirrored p.item) pairs
 
 -- the event may come, with these pending observations and these mirrored variables
-abbrev pub MayCome : Automata → List Pair → ℕ → Event → Type 0
+abbrev pub MayCome : PlantModel → List Pair → ℕ → Event → Type 0
 MayCome m pending mirrored (event.Goal pairs) = MayBeGoal m pairs
 MayCome m pending mirrored event.Clear = Unit {0}
 MayCome m pending mirrored (event.Observe pairs) = MayBeObserved m pending mirrored pairs
@@ -75,34 +75,34 @@ MayCome m pending mirrored event.Reset = Unit {0}
 MayCome m pending mirrored event.Tick = Unit {0}
 
 -- how a goal is kept: as which list of the given pairs
-abbrev pub Keeping : Type 1
-Keeping = List Pair → List Pair → Type 0
+abbrev pub GoalOrder : Type 1
+GoalOrder = List Pair → List Pair → Type 0
 
 -- an event that is not a tick changes its one part; a reset gives the start again, with the ticks that were made
-abbrev pub Changes : Automata → Keeping → Situation → Event → Situation → Type 0
-Changes m keeping x (event.Goal pairs) y = (goal : List Pair) × keeping pairs goal × (y ≡ record x { goal = Some goal })
-Changes m keeping x event.Clear y = y ≡ record x { goal = None }
-Changes m keeping x (event.Observe pairs) y = (both : List Pair) × IsUnion (Contains x.pending) (Contains pairs) both × (y ≡ record x { pending = both })
-Changes m keeping x (event.Fault p) y = y ≡ record x { plant = slice_set x.plant p.item p.value }
-Changes m keeping x (event.Mirror v) y = y ≡ record x { mirrored = with_number x.mirrored v }
-Changes m keeping x event.Reset y = y ≡ start m x.ticks
-Changes m keeping x event.Tick y = ⊥
+abbrev pub Changes : PlantModel → GoalOrder → ExecutiveState → Event → ExecutiveState → Type 0
+Changes m ordering x (event.Goal pairs) y = (goal : List Pair) × ordering pairs goal × (y ≡ record x { goal = Some goal })
+Changes m ordering x event.Clear y = y ≡ record x { goal = None }
+Changes m ordering x (event.Observe pairs) y = (both : List Pair) × IsUnion (Contains x.pending) (Contains pairs) both × (y ≡ record x { pending = both })
+Changes m ordering x (event.Fault p) y = y ≡ record x { plant = slice_set x.plant p.item p.value }
+Changes m ordering x (event.Mirror v) y = y ≡ record x { mirrored = with_number x.mirrored v }
+Changes m ordering x event.Reset y = y ≡ start m x.ticks
+Changes m ordering x event.Tick y = ⊥
 
 -- the events may come one after the other; a tick leaves no pending observations
-abbrev pub AllMayCome : Automata → Keeping → Situation → List Event → Type 0
-AllMayCome m keeping x [] = Unit {0}
-AllMayCome m keeping x (event.Tick ∷ events) = AllMayCome m keeping (record x { pending = [] }) events
-AllMayCome m keeping x (e ∷ events) =
-    MayCome m x.pending x.mirrored e × (y : Situation) × Changes m keeping x e y × AllMayCome m keeping y events
+abbrev pub AllMayCome : PlantModel → GoalOrder → ExecutiveState → List Event → Type 0
+AllMayCome m ordering x [] = Unit {0}
+AllMayCome m ordering x (event.Tick ∷ events) = AllMayCome m ordering (record x { pending = [] }) events
+AllMayCome m ordering x (e ∷ events) =
+    MayCome m x.pending x.mirrored e × (y : ExecutiveState) × Changes m ordering x e y × AllMayCome m ordering y events
 
 -- ---- ticks
 
 -- the variable has the value in every world of the plant's state
-abbrev pub HasOneValue : Automata → List ℕ → Pair → Type 0
+abbrev pub HasOneValue : PlantModel → List ℕ → Pair → Type 0
 HasOneValue m plant p = (w : List ℕ) → IsWorld m plant w → slice_get w p.item ≡ Some p.value
 
 -- what a tick observes: what is pending, and the mirrored variables that have one value
-abbrev pub Observed : Automata → Situation → List Pair → Type 0
+abbrev pub Observed : PlantModel → ExecutiveState → List Pair → Type 0
 Observed m x seen = IsUnion (Contains x.pending) (λ p. IsTrue (has x.mirrored p.item) × HasOneValue m x.plant p) seen
 
 -- the command that a reply sends
@@ -113,16 +113,16 @@ command_of Achieved = None
 command_of (Unreachable c mode) = None
 
 -- which replies a state and a goal may get
-abbrev pub Answers : Type 1
-Answers = List ℕ → List Pair → Reply → Type 0
+abbrev pub ReplyRule : Type 1
+ReplyRule = List ℕ → List Pair → Reply → Type 0
 
 -- the reply is idle without a goal, and with a goal it is one that may be given
-abbrev pub IsReply : Answers → List ℕ → Option (List Pair) → Reply → Type 0
+abbrev pub IsReply : ReplyRule → List ℕ → Option (List Pair) → Reply → Type 0
 IsReply answers s None reply = reply ≡ Idle
 IsReply answers s (Some goal) reply = answers s goal reply
 
 -- a tick with an estimate, from x to y: the estimate is that of what is observed, and a command that is sent moves the plant
-pub record ShowsEstimate (m : Automata) (answers : Answers) (x : Situation) (cost : ℕ) (state : List ℕ) (reply : Reply) (y : Situation) : Type 0 where
+pub record ShowsEstimate (m : PlantModel) (answers : ReplyRule) (x : ExecutiveState) (cost : ℕ) (state : List ℕ) (reply : Reply) (y : ExecutiveState) : Type 0 where
   pub going : x.holding ≡ false
   pub seen : List Pair
   pub observed : Observed m x seen
@@ -133,7 +133,7 @@ pub record ShowsEstimate (m : Automata) (answers : Answers) (x : Situation) (cos
   pub after : y ≡ record x { estimate = state; command = command_of reply; plant = plant; pending = []; ticks = x.ticks + 1 }
 
 -- a tick without an estimate, from x to y: no state explains what is observed, and from then on the executive is holding
-pub record ShowsUnexplained (m : Automata) (x y : Situation) : Type 0 where
+pub record ShowsUnexplained (m : PlantModel) (x y : ExecutiveState) : Type 0 where
   pub going : x.holding ≡ false
   pub seen : List Pair
   pub observed : Observed m x seen
@@ -141,7 +141,7 @@ pub record ShowsUnexplained (m : Automata) (x y : Situation) : Type 0 where
   pub after : y ≡ record x { command = None; pending = []; holding = true; ticks = x.ticks + 1 }
 
 -- what a tick shows, from x to y; while holding it shows that alone
-abbrev pub TickShows : Automata → Answers → Situation → Shown → Situation → Type 0
+abbrev pub TickShows : PlantModel → ReplyRule → ExecutiveState → Shown → ExecutiveState → Type 0
 TickShows m answers x (Estimated cost state reply) y = ShowsEstimate m answers x cost state.modes reply y
 TickShows m answers x Unexplained y = ShowsUnexplained m x y
 TickShows m answers x Holding y = IsTrue x.holding × (y ≡ record x { pending = []; ticks = x.ticks + 1 })

@@ -1,3 +1,5 @@
+//! A value behind a pointer, for parts of formulas.
+
 ghost use Rattle.std.specs.Prelude.{◌≡◌, IfOk};
 
 use std::alloc::{AllocError, Global};

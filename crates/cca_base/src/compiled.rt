@@ -1,3 +1,5 @@
+//! What is compiled from an accepted model.
+
 ghost use Rattle.std.specs.Prelude.{◌≡◌, ◌<◌, All, length, slice_index};
 ghost use Rattle.cca_base.specs.Accepted.{IsCompiled};
 ghost use Rattle.cca_base.specs.Bounds.{stated_number};
@@ -18,9 +20,9 @@ pub struct Compiled {
 }
 
 impl std::marker::Model for Compiled {
-    ghost use Rattle.cca_base.specs.Accepted.{CompiledParts};
+    ghost use Rattle.cca_base.specs.Accepted.{CompiledModel};
 
-    ghost Value = { CompiledParts };
+    ghost Value = { CompiledModel };
 
     ghost use Rattle.cca_base.specs.contracts.formula.Formula as formula;
     ghost use Rattle.std.specs.Coded.{codes};

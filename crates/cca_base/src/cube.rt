@@ -1,3 +1,5 @@
+//! Pairs of a component or variable with a value, and sets of them that name each once.
+
 ghost use Rattle.std.specs.Prelude.{◌≡◌, [], ◌∷◌, ◌++◌, ◌<◌, ◌↔◌, IsTrue, length, slice_get, Some, IfOk, OnOk, OnErr};
 ghost use Rattle.cca_base.specs.Cube.{IsCube, Lacks};
 ghost use Rattle.cca_base.specs.State.{Extends};

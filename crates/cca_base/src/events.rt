@@ -1,4 +1,8 @@
+//! What a script says, what a tick shows, and why an input is refused.
+
 ghost use Rattle.std.specs.Prelude.{◌≡◌};
+ghost use Rattle.cca_base.specs.declared.events.Stop.TheVariants.{Refused};
+ghost use Rattle.cca_base.specs.Refusals.{bare, stop_code};
 
 use crate::cube::{Cube, Pair};
 use crate::list::List;
@@ -96,12 +100,43 @@ pub struct Refusal {
     pub detail: Detail,
 }
 
+impl Refusal {
+    /// A refusal that names nothing besides its code.
+    pub fn bare(code: u8) -> Refusal
+        ensures { result ≡ bare code }
+    {
+        Refusal {
+            code,
+            detail: Detail::Nothing,
+        }
+    }
+}
+
 /// Why reading ends before the input does.
 #[derive(Debug, Drop)]
 pub enum Stop {
     Refused(Refusal),
     /// Memory ran out.
     Memory,
+}
+
+impl Stop {
+    /// A refusal that names nothing besides its code.
+    pub fn refused(code: u8) -> Stop
+        ensures { result ≡ Refused (bare code) }
+    {
+        Stop::Refused(Refusal::bare(code))
+    }
+
+    /// The code of the refusal, if it is one.
+    pub fn code(&self) -> Option<u8>
+        ensures { result ≡ stop_code self.now }
+    {
+        match self {
+            Stop::Refused(refusal) => Some(refusal.code),
+            Stop::Memory => None,
+        }
+    }
 }
 
 impl From<AllocError> for Stop {

@@ -1,3 +1,5 @@
+//! Formulas over modes and values, and their truth at a state and a world.
+
 ghost use Rattle.std.specs.Prelude.{◌≡◌, ◌<◌, length, IsTrue, IfOk};
 ghost use Rattle.cca_base.specs.Formula.{truth, is_within, subject_within, subject_value};
 

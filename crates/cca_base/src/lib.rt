@@ -4,6 +4,7 @@
 
 mod boxed;
 mod choice;
+pub mod codes;
 mod compiled;
 mod cube;
 mod events;
@@ -26,7 +27,7 @@ pub use formula::{Formula, Subject, holds_at};
 pub use laws::formulas_are_within;
 pub use limits::{
     MAX_BOUND, MAX_CHOICES, MAX_COMPONENTS, MAX_COST, MAX_DEPTH, MAX_FAILURES, MAX_MOVES, MAX_NAME,
-    MAX_PLAN, MAX_RULES, MAX_VARIABLES, MAX_WAYS,
+    MAX_PLAN, MAX_ROWS, MAX_RULES, MAX_SUBJECTS, MAX_VARIABLES, MAX_WAYS,
 };
 pub use list::List;
 pub use model::{Component, Failure, Model, Move, Variable};

@@ -1,22 +1,22 @@
 //! How large a model may be.
 
 /// The most components of a model.
-pub const MAX_COMPONENTS: usize = 64;
+pub const MAX_COMPONENTS: usize = 256;
 
 /// The most modes of a component, and the most values of a variable.
-pub const MAX_CHOICES: usize = 16;
+pub const MAX_CHOICES: usize = 64;
 
 /// The most variables of a model.
-pub const MAX_VARIABLES: usize = 128;
+pub const MAX_VARIABLES: usize = 256;
 
 /// The most rules of a model.
 pub const MAX_RULES: usize = 512;
 
 /// The most moves of a model, repairs among them.
-pub const MAX_MOVES: usize = 1024;
+pub const MAX_MOVES: usize = 4096;
 
 /// The most failures of a model.
-pub const MAX_FAILURES: usize = 1024;
+pub const MAX_FAILURES: usize = 4096;
 
 /// The greatest depth of a formula's text.
 pub const MAX_DEPTH: usize = 32;
@@ -35,3 +35,9 @@ pub const MAX_BOUND: u64 = 9_223_372_036_854_775_807;
 
 /// The most commands of a plan that is written down.
 pub const MAX_PLAN: usize = 10_000;
+
+/// The most rows, edges or components of a graph, which are numbered from 0 by 16 bits.
+pub const MAX_ROWS: usize = 65_536;
+
+/// The most subjects that clauses speak of, whose count fits in 16 bits.
+pub const MAX_SUBJECTS: usize = 65_535;

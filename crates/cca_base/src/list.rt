@@ -1,3 +1,5 @@
+//! A list of values over a vector, which contracts see as a list.
+
 ghost use Rattle.std.specs.Prelude.{◌≡◌, [], ◌∷◌, ◌++◌, ◌-◌, ◌<◌, length, take, slice_get, slice_index_or, slice_set, Some, IfOk, OnOk, OnErr, MatchOption};
 
 use std::alloc::{AllocError, Global};

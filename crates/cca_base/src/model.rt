@@ -1,3 +1,5 @@
+//! Models of concurrent components: modes, variables, rules, moves and failures.
+
 ghost use Rattle.std.specs.Prelude.{◌≡◌, ◌↔◌, [], ◌∷◌, ◌++◌, ◌-◌, ◌<◌, false, length, Contains, IfSome, IsNone, OnOk, OnErr, IsTrue};
 ghost use Rattle.cca_base.specs.Model.{WellFormed, IsMended, is_broken, is_used, empty_model, with_component, with_variable, with_rule, with_command, without_last_command, with_move, with_failure};
 
@@ -66,9 +68,9 @@ pub struct Model {
 }
 
 impl std::marker::Model for Model {
-    ghost use Rattle.cca_base.specs.Automata.{Automata};
+    ghost use Rattle.cca_base.specs.PlantModel.{PlantModel};
 
-    ghost Value = { Automata };
+    ghost Value = { PlantModel };
 
     ghost use Rattle.cca_base.specs.contracts.formula.Formula as formula;
     ghost use Rattle.std.specs.Coded.{codes};
@@ -98,7 +100,7 @@ impl std::marker::Model for Model {
 
 impl Model {
     /// The model without any part.
-    #[tactic(auto, using(crate::proofs::ModelLemmas::empty_well_formed))]
+    #[tactic(auto, using(crate::proofs::EmptyModel::empty_well_formed))]
     pub fn empty(alloc: Global) -> Model
         ensures { result ≡ empty_model }
     {

@@ -1,22 +1,27 @@
+//! Names of at most 32 bytes, held in place.
+
 ghost use Rattle.std.specs.Prelude.{◌≡◌, ◌≤◌, length, nat_eq};
 ghost use Rattle.std.specs.Cmp.{partial_equiv_from_equiv};
 ghost use Rattle.std.specs.Cmp.Rules.{hashing};
 ghost use Rattle.std.specs.Hash as fed;
 ghost use Rattle.std.specs.Cmp.Lexicographic.{pointwise, nat_list_eq_equiv};
 ghost use Rattle.std.proofs.Common.{rules};
+ghost use Rattle.cca_base.specs.declared.limits.TheConstants.{MAX_NAME};
 
+use crate::limits::MAX_NAME;
 use std::hash::{Hash, Hasher};
 use std::marker::Model;
 
-/// A name of at most 32 bytes, which contracts see as those bytes.
+/// A name of at most `MAX_NAME` bytes, which contracts see as those bytes.
 #[derive(Clone, Copy, Debug)]
 pub struct Name {
     len: u8,
-    bytes: [u8; 32],
+    bytes: [u8; MAX_NAME],
 }
 
 impl Model for Name {
     ghost use Rattle.std.specs.Prelude.{◌≡◌, ◌≤◌, ◌++◌, ◌-◌, List, ℕ, length, take, replicate};
+    ghost use Rattle.cca_base.specs.declared.limits.TheConstants.{MAX_NAME};
     ghost use Rattle.cca_base.specs.Padded.{IsPadded, inverse_of_padded};
 
     ghost Value = { List ℕ };
@@ -25,7 +30,7 @@ impl Model for Name {
 
     ghost invariant = { λ n. IsPadded n.len n.bytes };
 
-    ghost inverse = { λ text. record { len = length text; bytes = text ++ replicate (32 - length text) 0 } };
+    ghost inverse = { λ text. record { len = length text; bytes = text ++ replicate (MAX_NAME - length text) 0 } };
 
     ghost inverse_ok = { λ n h. inverse_of_padded n.len n.bytes h (λ len bytes. record { len = len; bytes = bytes }) };
 }
@@ -33,10 +38,10 @@ impl Model for Name {
 impl Name {
     /// The name with these bytes. It takes no memory.
     pub fn of(text: &[u8]) -> Name
-        requires { length text.now ≤ 32 }
+        requires { length text.now ≤ MAX_NAME }
         ensures { result ≡ text.now }
     {
-        let mut bytes = [0; 32];
+        let mut bytes = [0; MAX_NAME];
         bytes[..text.len()].copy_from_slice(text);
         Name {
             len: text.len() as u8,

@@ -1,3 +1,5 @@
+//! States, worlds, goals and observations.
+
 ghost use Rattle.std.specs.Prelude.{◌≡◌, IfOk};
 
 use crate::cube::Pair;

@@ -2,6 +2,7 @@
 use Rattle.std.proofs.Common.{◌≡◌, ℕ, inl, inr, [], ◌∷◌, Some, refl, sym, ap, subst, ◌∙◌, arith}
 use Rattle.std.specs.Prelude.{slice_get}
 use Rattle.std.proofs.lemmas.Bool.{false≢true}
+use Rattle.list_laws.proofs.Places.{value_at}
 use Rattle.cca_base.specs.declared.cube.Pair.{Pair}
 use Rattle.cca_base.specs.declared.model.Move.{Move}
 use Rattle.cca_base.specs.Sets.{has}
@@ -11,9 +12,9 @@ use Rattle.cca_base.specs.Steps.{Step, Allowed}
 use Rattle.cca_base.proofs.Members.{contains_cases, contains_none, some_inj}
 use Rattle.cca_laws.proofs.Tiny.{one_at, five_at}
 use Rattle.cca_laws.proofs.FormulaExamples.{truth_mode}
-use Rattle.cca_laws.proofs.ImplicantLemmas.{free_step, single_prime, free_needs_nothing}
-use Rattle.cca_laws.proofs.PlansLemmas.{mends_itself}
-use Rattle.cca_laws.proofs.ValveExamples.{opening_is_allowed, open_is_the_one, start_state, start_world, index_of}
+use Rattle.cca_laws.proofs.FreeMoves.{free_step, single_prime, free_needs_nothing}
+use Rattle.cca_laws.proofs.PlanLaws.{mends_itself}
+use Rattle.cca_laws.proofs.ValveExamples.{opening_is_allowed, open_is_the_one, start_state, start_world}
 use Rattle.cca_laws.proofs.ValveWellFormed.{close_move, reset_move}
 use Rattle.cca_laws.specs.Examples.{always_true}
 use Rattle.cca_laws.specs.ValveExamples.{valve_model, on_move, off_move, open_move}
@@ -24,7 +25,7 @@ driver_is_on = record { item = 0; value = 1 }
 
 -- the driver being on suffices for opening, and is needed
 on_suffices : Suffices valve_model open_move (driver_is_on ∷ [])
-on_suffices s state extends w world = truth_mode s w 0 2 ∙ ap (has 2) (index_of s 0 1 (extends 1 driver_is_on (omega arith)))
+on_suffices s state extends w world = truth_mode s w 0 2 ∙ ap (has 2) (value_at s 0 1 (extends 1 driver_is_on (omega arith)))
 
 nothing_is_too_little : Suffices valve_model open_move [] → ⊥
 nothing_is_too_little h =

@@ -3,10 +3,11 @@ use Rattle.std.proofs.Common.{◌≡◌, ◌≢◌, ◌<◌, ◌≤◌, ◌⊎�
 use Rattle.std.specs.Prelude.{slice_get, slice_index, slice_set, IsTrue, if◌then◌else◌}
 use Rattle.std.specs.List.{list_all, list_any}
 use Rattle.std.proofs.lemmas.Bool.{false≢true}
+use Rattle.list_laws.proofs.Places.{value_at}
 use Rattle.cca_base.specs.declared.cube.Pair.{Pair}
 use Rattle.cca_base.specs.declared.model.Move.{Move}
 use Rattle.cca_base.specs.declared.model.Failure.{Failure}
-use Rattle.cca_base.specs.Automata.{Automata}
+use Rattle.cca_base.specs.PlantModel.{PlantModel}
 use Rattle.cca_base.specs.Formula.{truth}
 use Rattle.cca_base.specs.Sets.{has}
 use Rattle.cca_base.specs.Model.{HasMode}
@@ -16,7 +17,7 @@ use Rattle.cca_base.specs.Estimates.{Consistent, IsEarlier}
 use Rattle.cca_base.proofs.Members.{some_inj, none_some}
 use Rattle.cca_laws.proofs.Tiny.{one_at, below_one, below_two, below_three}
 use Rattle.cca_laws.proofs.FormulaExamples.{truth_mode, truth_iff, truth_both, truth_either}
-use Rattle.cca_laws.proofs.ValveExamples.{truth_flow, open_is_the_one, index_of}
+use Rattle.cca_laws.proofs.ValveExamples.{truth_flow, open_is_the_one}
 use Rattle.cca_laws.specs.FormulaExamples.{mode_in, both, either}
 use Rattle.cca_laws.specs.ValveExamples.{flow_in, valve_model, open_move}
 use Rattle.cca_laws.specs.CostExamples.{falling_open, staying_shut, poor_rule, three, OpeningIsFree, StayingShutCosts, StandingIsFree, TwoForOne}
@@ -35,11 +36,11 @@ sum_three (x ∷ y ∷ z ∷ []) e = omega arith
 sum_three (x ∷ y ∷ z ∷ u ∷ parts) e = absurd (omega arith)
 
 -- to go to the nominal mode is free
-free : (m : Automata) (c from to cost : ℕ) → ChangeCosts m c from to to cost → cost ≡ 0
+free : (m : PlantModel) (c from to cost : ℕ) → ChangeCosts m c from to to cost → cost ≡ 0
 free m c from to cost h = elim h [ inl x ↦ x.1 | inr x ↦ absurd (x.0 refl) ]
 
 module _ (failure : Failure) where
-  abbrev failing : Automata
+  abbrev failing : PlantModel
   failing = record valve_model { failures = record { component = 1; source = 0; target = 2; cost = 4 } ∷ record { component = 1; source = 1; target = 2; cost = 6 } ∷ failure ∷ [] }
 
   two_modes : (mode : ℕ) → mode < 3 → IsState failing (1 ∷ mode ∷ [])
@@ -55,7 +56,7 @@ module _ (failure : Failure) where
   ]
 
 -- without a command nothing moves
-pub unmoved : (m : Automata) (s nominal : List ℕ) → Nominal m s None nominal → nominal ≡ s
+pub unmoved : (m : PlantModel) (s nominal : List ℕ) → Nominal m s None nominal → nominal ≡ s
 unmoved m s nominal h = elim h [ inl x ↦ absurd (none_some x.0.command x.1.command) | inr x ↦ x.1 ]
 
 opening_costs : Costs falling_open (1 ∷ 0 ∷ []) (Some 2) (1 ∷ 1 ∷ []) 0
@@ -170,7 +171,7 @@ weigh a b zero more h k l e (inr x) = absurd (omega arith)
 weigh a b (suc c) more h k l e x = inr (omega arith)
 
 -- each change from ok costs its failure
-pub change : (m : Automata) (c to cost n : ℕ) → to < 2 → ((k : ℕ) → HasFailure m c 0 1 k → k ≡ n) → ChangeCosts m c 0 0 to cost → cost ≡ n * to
+pub change : (m : PlantModel) (c to cost n : ℕ) → to < 2 → ((k : ℕ) → HasFailure m c 0 1 k → k ≡ n) → ChangeCosts m c 0 0 to cost → cost ≡ n * to
 change m c zero cost n h only x = elim x [ inl y ↦ omega (arith, y.1) | inr y ↦ absurd (y.0 refl) ]
 change m c (suc zero) cost n h only x = elim x [ inl y ↦ absurd (omega (arith, y.0)) | inr y ↦ only cost y.1 ∙ omega arith ]
 change m c (suc (suc to)) cost n h only x = absurd (omega arith)
@@ -221,7 +222,7 @@ guessed other more h =
     change three 2 z (slice_index h.costs.parts 2) 11 lz r_cost (subst (λ (n : List ℕ). ChangeCosts three 2 0 (slice_index n 2) z (slice_index h.costs.parts 2)) stays (h.costs.each 2 (omega arith))) in
     let total : more ≡ 4 * x + 6 * y + 11 * z =
     h.costs.total ∙ sum_three h.costs.parts (h.costs.full ∙ full) ∙ omega arith in
-    let seen : slice_index h.world 0 ≡ 1 = index_of h.world 0 1 (h.agrees 0 (record { item = 0; value = 0 }) (omega arith)) in
+    let seen : slice_index h.world 0 ≡ 1 = value_at h.world 0 1 (h.agrees 0 (record { item = 0; value = 0 }) (omega arith)) in
     let poor : is_poor x y z ≡ true =
     subst (λ (v : ℕ). (if has 2 v then is_poor x y z else not (is_poor x y z)) ≡ true) seen (sym (poor_is other h.world) ∙ h.is_world.rules 0 poor_rule (omega arith)) in
     elim (weigh x y z more lx ly lz total (culprits x y z lx poor)) [

@@ -2,18 +2,20 @@
 use Rattle.std.proofs.Common.{◌≡◌, ◌<◌, ◌≤◌, ℕ, zero, suc, Bool, true, false, [], ◌∷◌, Some, Contains, refl, ap, ◌∙◌, arith}
 use Rattle.std.specs.Prelude.{slice_get, IsTrue, codes}
 use Rattle.std.proofs.lemmas.Bool.{false≢true}
+use Rattle.std.proofs.lemmas.List.Elements.{All-nil}
 use Rattle.cca_base.specs.declared.formula.Formula.TheOpen.{Formula-F}
 use Rattle.cca_base.specs.declared.formula.Formula.TheFolds.{fold-roll-Formula}
 use Rattle.cca_base.specs.declared.model.Variable.{Variable}
 use Rattle.cca_base.specs.declared.model.Move.{Move}
-use Rattle.cca_base.specs.Automata.{Automata}
+use Rattle.cca_base.specs.declared.limits.TheConstants.{MAX_CHOICES}
+use Rattle.cca_base.specs.PlantModel.{PlantModel}
 use Rattle.cca_base.specs.Formula.{Printed, printed_step, fits_step}
 use Rattle.cca_base.specs.Model.{WellFormed, AreChoices, IsComponent, IsFormula, IsMove, IsFailure, is_repair_of, is_broken, mode_counts, value_counts}
 use Rattle.cca_base.proofs.Members.{some_inj, none_some}
 use Rattle.cca_laws.proofs.SmallModels.{are_names, are_choices, own_fit, own_first_use}
-use Rattle.cca_laws.proofs.Tiny.{none_at, one_at, two_at}
+use Rattle.cca_laws.proofs.Tiny.{one_at, two_at}
 use Rattle.cca_laws.specs.Examples.{always_true, lamp, on_move, off_move}
-use Rattle.cca_laws.specs.EdgeExamples.{failing_lamp, WhichAreNames, ForeignFailure, CostsAtTheEdge, OutOfFirstUse, WhichAreChoices, letters, SixteenAreChoices, SeventeenAreTooMany}
+use Rattle.cca_laws.specs.EdgeExamples.{failing_lamp, WhichAreNames, ForeignFailure, CostsAtTheEdge, OutOfFirstUse, WhichAreChoices, two_letters, MostAreChoices, OneMoreIsTooMany}
 
 pub which_are_names : WhichAreNames
 which_are_names = (refl, refl, refl, refl)
@@ -24,7 +26,7 @@ failure_of component cost h = h.failures 0 (record { component = 0; source = 0; 
 pub foreign_failure : ForeignFailure
 foreign_failure h = let f : IsFailure (failing_lamp 99 1) (record { component = 99; source = 0; target = 1; cost = 1 }) = failure_of 99 1 h in omega (arith, f.source)
 
-pub always_fits : (m : Automata) → IsFormula m always_true
+pub always_fits : (m : PlantModel) → IsFormula m always_true
 always_fits m = record {
   fits = fold-roll-Formula Bool (fits_step (mode_counts m) (value_counts m)) Formula-F.True;
   shallow = let e = ap (λ (x : Printed). x.depth) (fold-roll-Formula Printed printed_step Formula-F.True) in omega (arith, e);
@@ -47,8 +49,8 @@ fails cost above below = record {
   command_names = are_names (codes "lamp_on" ∷ codes "lamp_off" ∷ []) refl refl;
   components = one_at IsComponent (record { name = codes "lamp"; modes = codes "off" ∷ codes "on" ∷ []; start = 0 })
       (record { modes = are_choices (codes "off" ∷ codes "on" ∷ []) refl refl (omega arith) (omega arith); start = omega arith });
-  variables = none_at (λ (v : Variable). AreChoices v.values);
-  rules = none_at (IsFormula (failing_lamp 0 cost));
+  variables = All-nil (λ (v : Variable). AreChoices v.values);
+  rules = All-nil (IsFormula (failing_lamp 0 cost));
   moves = two_at (IsMove (failing_lamp 0 cost)) on_move off_move
       (record { source = omega arith; target = omega arith; command = omega arith; guard = always_fits (failing_lamp 0 cost) })
       (record { source = omega arith; target = omega arith; command = omega arith; guard = always_fits (failing_lamp 0 cost) });
@@ -81,8 +83,8 @@ which_are_choices = (
   λ h. h.names.different 0 1 [] (omega arith) (omega arith) refl,
 )
 
-pub sixteen_are_choices : SixteenAreChoices
-sixteen_are_choices = are_choices (letters 97 16) refl refl (omega arith) (omega arith)
+pub most_are_choices : MostAreChoices
+most_are_choices = are_choices (two_letters MAX_CHOICES) refl refl (omega arith) (omega arith)
 
-pub seventeen_are_too_many : SeventeenAreTooMany
-seventeen_are_too_many choices e h = omega (arith, h.few)
+pub one_more_is_too_many : OneMoreIsTooMany
+one_more_is_too_many choices e h = omega (arith, h.few)

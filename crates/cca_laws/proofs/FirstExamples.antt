@@ -3,6 +3,7 @@ use Rattle.std.proofs.Common.{◌≡◌, ◌<◌, ◌≤◌, ◌⊎◌, ◌+◌,
 use Rattle.std.specs.Prelude.{slice_get, slice_index, IsTrue, if◌then◌else◌}
 use Rattle.std.specs.List.{list_all}
 use Rattle.std.proofs.lemmas.Bool.{false≢true}
+use Rattle.list_laws.proofs.Places.{value_at}
 use Rattle.cca_base.specs.declared.cube.Pair.{Pair}
 use Rattle.cca_base.specs.declared.model.Failure.{Failure}
 use Rattle.cca_base.specs.Formula.{truth}
@@ -13,9 +14,9 @@ use Rattle.cca_base.specs.Successors.{ChangeCosts, HasFailure}
 use Rattle.cca_base.specs.Estimates.{Consistent, IsEarlier}
 use Rattle.cca_base.proofs.Members.{none_some}
 use Rattle.cca_laws.proofs.Tiny.{one_at, below_one, below_two}
-use Rattle.cca_laws.proofs.EstimatesLemmas.{one_estimate}
+use Rattle.cca_laws.proofs.EstimateLaws.{one_estimate}
 use Rattle.cca_laws.proofs.FormulaExamples.{truth_mode, truth_iff, truth_both}
-use Rattle.cca_laws.proofs.ValveExamples.{truth_flow, index_of}
+use Rattle.cca_laws.proofs.ValveExamples.{truth_flow}
 use Rattle.cca_laws.proofs.CostExamples.{sum_two, unmoved, change}
 use Rattle.cca_laws.proofs.ObservedExamples.{world}
 use Rattle.cca_laws.specs.FormulaExamples.{mode_in, both}
@@ -46,7 +47,7 @@ lesser_world_is_first = record {
   world = world 0 1 (omega arith) (omega arith);
   agrees = sees 0;
   first = λ other h agrees before.
-      let high : slice_index other 1 ≡ 1 = index_of other 1 1 (agrees 0 y_high (omega arith)) in
+      let high : slice_index other 1 ≡ 1 = value_at other 1 1 (agrees 0 y_high (omega arith)) in
       none_earlier (slice_index other 0) (h.values 0 (omega arith))
       (subst (λ (w : List ℕ). IsEarlier w (0 ∷ 1 ∷ [])) (pairs_of_two other h.full ∙ ap (λ v. slice_index other 0 ∷ v ∷ []) high) before);
 }
@@ -97,7 +98,7 @@ guessed other cost h =
     let pb : slice_index h.costs.parts 1 ≡ 5 * b =
     change pumping 1 b (slice_index h.costs.parts 1) 5 lb pipe_cost (subst (λ (n : List ℕ). ChangeCosts pumping 1 0 (slice_index n 1) b (slice_index h.costs.parts 1)) stays (h.costs.each 1 (omega arith))) in
     let total : cost ≡ 5 * a + 5 * b = h.costs.total ∙ sum_two h.costs.parts (h.costs.full ∙ full) ∙ omega arith in
-    let seen : slice_index h.world 0 ≡ 0 = index_of h.world 0 0 (h.agrees 0 (record { item = 0; value = 0 }) (omega arith)) in
+    let seen : slice_index h.world 0 ≡ 0 = value_at h.world 0 0 (h.agrees 0 (record { item = 0; value = 0 }) (omega arith)) in
     let off : not (flows a b) ≡ true = subst (λ (v : ℕ). (if has 2 v then flows a b else not (flows a b)) ≡ true) seen (sym (pipe_is other h.world) ∙ h.is_world.rules 0 pipe_rule (omega arith)) in
     let whole : other ≡ a ∷ b ∷ [] = pairs_of_two other full in
     elim (one_failed a b cost la lb total off) [

@@ -13,7 +13,7 @@ use Rattle.cca_laws.specs.FormulaExamples.{mode_in, negated, both, either, Depth
 abbrev pub print : Formula → Printed
 print = fold-Formula Printed printed_step
 
-pub mode_printed : (c set : ℕ) → print (mode_in c set) ≡ record { loose = 0; depth = 1 }
+pub mode_printed : (c set : ℕ) → print (mode_in c set) ≡ record { precedence = 0; depth = 1 }
 mode_printed c set = fold-roll-Formula Printed printed_step (Formula-F.Among (Component c) set)
 
 negated_printed : (f : Formula) (x : Printed) → print f ≡ x → print (negated f) ≡ printed_step (Formula-F.Not x)

@@ -8,7 +8,7 @@ use Rattle.cca_base.specs.Implicants.{PrimeImplicant, Needs, IsAcyclic, Path}
 use Rattle.cca_base.specs.Orders.{IsEffectsFirst, IsFree}
 use Rattle.cca_base.proofs.Members.{contains_cases, contains_here, contains_none}
 use Rattle.cca_laws.proofs.Tiny.{five_at, below_two}
-use Rattle.cca_laws.proofs.ImplicantLemmas.{free_ways, free_lacks, free_needs_nothing}
+use Rattle.cca_laws.proofs.FreeMoves.{free_ways, free_lacks, free_needs_nothing}
 use Rattle.cca_laws.specs.Examples.{always_true}
 use Rattle.cca_laws.specs.MendExamples.{reset_move, z_move, ok_move, go_move, back_move, mending, c_is_z, MendingIsCompiled}
 use Rattle.cca_laws.proofs.MendModel.{well_formed, used}

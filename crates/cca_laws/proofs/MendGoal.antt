@@ -11,7 +11,7 @@ use Rattle.cca_base.proofs.NextModes.{next_of_mended}
 use Rattle.cca_laws.proofs.MendModel.{only_m_has_next, well_formed}
 use Rattle.cca_laws.proofs.MendCompiled.{mending_is_compiled}
 use Rattle.cca_laws.proofs.MendSteps.{reset_allowed, m_is_mended}
-use Rattle.cca_laws.proofs.OrderLemmas.{ordered_same, compiled_none_twice}
+use Rattle.cca_laws.proofs.OneOrder.{ordered_same, compiled_none_twice}
 use Rattle.cca_laws.specs.MendExamples.{mending, mending_compiled, c_is_ok, b_is_x, BackGoalIsMended}
 
 ok_is_reached : Reach mending (0 ∷ 0 ∷ []) 0 1

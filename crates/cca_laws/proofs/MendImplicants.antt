@@ -2,6 +2,8 @@
 use Rattle.std.proofs.Common.{◌≡◌, ◌≢◌, ◌<◌, ℕ, zero, suc, false, inl, inr, List, [], ◌∷◌, Some, refl, sym, ap, subst, ◌∙◌, arith}
 use Rattle.std.specs.Prelude.{slice_get, slice_index, IsTrue}
 use Rattle.std.proofs.lemmas.Bool.{false≢true}
+use Rattle.std.proofs.lemmas.List.Elements.{All-nil}
+use Rattle.list_laws.proofs.Places.{value_at}
 use Rattle.cca_base.specs.declared.cube.Pair.{Pair}
 use Rattle.cca_base.specs.declared.model.Move.{Move}
 use Rattle.cca_base.specs.Accepted.{AreWays}
@@ -11,14 +13,13 @@ use Rattle.cca_base.specs.Model.{HasMode}
 use Rattle.cca_base.specs.Sets.{has}
 use Rattle.cca_base.specs.State.{IsState, IsWorld, Extends}
 use Rattle.cca_base.proofs.Members.{contains_cases, contains_here, contains_none, some_inj, none_some}
-use Rattle.cca_laws.proofs.Tiny.{none_at, one_at, two_at, below_two}
+use Rattle.cca_laws.proofs.Tiny.{one_at, two_at, below_two}
 use Rattle.cca_laws.proofs.FormulaExamples.{truth_mode}
-use Rattle.cca_laws.proofs.ImplicantLemmas.{free_ways, single_prime}
-use Rattle.cca_laws.proofs.ValveExamples.{index_of}
+use Rattle.cca_laws.proofs.FreeMoves.{free_ways, single_prime}
 use Rattle.cca_laws.specs.MendExamples.{reset_move, z_move, ok_move, go_move, back_move, mending, mending_compiled, c_is_z}
 
 pub only_world : (s : List ℕ) → IsWorld mending s []
-only_world s = record { full = refl; values = λ v h. absurd (omega arith); rules = none_at (λ rule. IsTrue (truth s [] rule)) }
+only_world s = record { full = refl; values = λ v h. absurd (omega arith); rules = All-nil (λ rule. IsTrue (truth s [] rule)) }
 
 pub state_of : (a b : ℕ) → a < 3 → b < 2 → IsState mending (a ∷ b ∷ [])
 state_of a b h k = record { full = refl; modes = below_two (λ c. HasMode mending c (slice_index (a ∷ b ∷ []) c)) h k }
@@ -33,7 +34,7 @@ nothing_is_too_little : Suffices mending back_move [] → ⊥
 nothing_is_too_little = too_little 0 (omega arith) refl [] (one_at (λ (p : Pair). slice_get (0 ∷ 1 ∷ []) p.item ≡ Some p.value) (source_pair back_move) refl)
 
 z_suffices : Suffices mending back_move (c_is_z ∷ [])
-z_suffices s state extends w world = truth_mode s w 0 4 ∙ ap (has 4) (index_of s 0 2 (extends 1 c_is_z (omega arith)))
+z_suffices s state extends w world = truth_mode s w 0 4 ∙ ap (has 4) (value_at s 0 2 (extends 1 c_is_z (omega arith)))
 
 pub z_is_prime : PrimeImplicant mending back_move (c_is_z ∷ [])
 z_is_prime = single_prime mending back_move c_is_z (omega arith) (λ e. absurd (omega (arith, e))) z_suffices nothing_is_too_little

@@ -2,6 +2,7 @@
 use Rattle.std.proofs.Common.{◌≡◌, ◌==◌, ℕ, zero, suc, Bool, true, false, [], ◌∷◌, Some, Contains, refl, sym, ap, ◌∙◌, arith}
 use Rattle.std.specs.Prelude.{slice_get, IsTrue, codes}
 use Rattle.std.proofs.lemmas.Bool.{false≢true, and_parts, eqb-true}
+use Rattle.std.proofs.lemmas.List.Elements.{All-nil}
 use Rattle.cca_base.specs.declared.formula.Formula.TheOpen.{Formula-F}
 use Rattle.cca_base.specs.declared.formula.Formula.TheFolds.{fold-roll-Formula}
 use Rattle.cca_base.specs.declared.formula.Subject.TheVariants.{Component}
@@ -10,7 +11,7 @@ use Rattle.cca_base.specs.declared.model.Move.{Move}
 use Rattle.cca_base.specs.Formula.{Printed, fits_step}
 use Rattle.cca_base.specs.Model.{WellFormed, AreChoices, IsComponent, IsFormula, IsMove, IsFailure, IsNext, is_repair_of, is_broken, IsComplete, names_of}
 use Rattle.cca_base.proofs.Members.{some_inj, none_some}
-use Rattle.cca_laws.proofs.Tiny.{none_at, two_at, five_at}
+use Rattle.cca_laws.proofs.Tiny.{two_at, five_at}
 use Rattle.cca_laws.proofs.SmallModels.{are_names, are_choices, own_fit, own_first_use}
 use Rattle.cca_laws.proofs.EdgeExamples.{always_fits}
 use Rattle.cca_laws.proofs.FormulaExamples.{mode_printed}
@@ -57,15 +58,15 @@ well_formed = record {
       (record { name = codes "b"; modes = codes "x" ∷ codes "y" ∷ []; start = 0 })
       (record { modes = are_choices (codes "m" ∷ codes "ok" ∷ codes "z" ∷ []) refl refl (omega arith) (omega arith); start = omega arith })
       (record { modes = are_choices (codes "x" ∷ codes "y" ∷ []) refl refl (omega arith) (omega arith); start = omega arith });
-  variables = none_at (λ (v : Variable). AreChoices v.values);
-  rules = none_at (IsFormula mending);
+  variables = All-nil (λ (v : Variable). AreChoices v.values);
+  rules = All-nil (IsFormula mending);
   moves = five_at (IsMove mending) reset_move z_move ok_move go_move back_move
       (record { source = omega arith; target = omega arith; command = omega arith; guard = always_fits mending })
       (record { source = omega arith; target = omega arith; command = omega arith; guard = always_fits mending })
       (record { source = omega arith; target = omega arith; command = omega arith; guard = always_fits mending })
       (record { source = omega arith; target = omega arith; command = omega arith; guard = always_fits mending })
       (record { source = omega arith; target = omega arith; command = omega arith; guard = guard_fits });
-  failures = none_at (IsFailure mending);
+  failures = All-nil (IsFailure mending);
   repairs = record {
     one_target = λ c mode a b p q. sym (only_m_has_next c mode a p).2 ∙ (only_m_has_next c mode b q).2;
     none_into = five_at (λ (move : Move). is_broken mending.moves move.component move.target ≡ false) reset_move z_move ok_move go_move back_move refl refl refl refl refl;

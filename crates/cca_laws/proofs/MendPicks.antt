@@ -3,6 +3,7 @@ use Rattle.std.proofs.Common.{◌≡◌, ◌≢◌, ◌<◌, ◌≤◌, ◌+◌,
 use Rattle.std.specs.Prelude.{slice_get}
 use Rattle.std.proofs.lemmas.List.Sorted.{IsPermutation-refl}
 use Rattle.std.proofs.lemmas.Option.{slice_get-get_or}
+use Rattle.std.proofs.lemmas.List.Elements.{All-nil}
 use Rattle.cca_base.specs.declared.cube.Pair.{Pair}
 use Rattle.cca_base.specs.declared.model.Move.{Move}
 use Rattle.cca_base.specs.Choice.{IsWithinReach, IsDistance, Walk, ComesNearer, IsChosen, Picks, Now, First, PicksForGoal}
@@ -13,9 +14,9 @@ use Rattle.cca_base.specs.Orders.{IsNextOf}
 use Rattle.cca_base.specs.State.{Extends}
 use Rattle.cca_base.specs.Steps.{Reach}
 use Rattle.cca_base.proofs.Members.{some_inj, none_some}
-use Rattle.cca_laws.proofs.Tiny.{none_at, one_at}
-use Rattle.cca_laws.proofs.ChoiceLemmas.{open_free, none_away, one_away, least_cube}
-use Rattle.cca_laws.proofs.ImplicantLemmas.{free_prime}
+use Rattle.cca_laws.proofs.Tiny.{one_at}
+use Rattle.cca_laws.proofs.ChoiceLaws.{open_free, none_away, one_away, least_cube}
+use Rattle.cca_laws.proofs.FreeMoves.{free_prime}
 use Rattle.cca_laws.proofs.MendImplicants.{z_is_prime, only_z}
 use Rattle.cca_laws.proofs.MendSteps.{reset_allowed, z_allowed}
 use Rattle.cca_laws.specs.Examples.{always_true}
@@ -45,7 +46,7 @@ module _ (s : List ℕ) (to at : ℕ) (move : Move) (here : slice_get mending.mo
   }
 
   free_chosen : move.guard ≡ always_true → IsChosen mending s move.component to move []
-  free_chosen e = chosen [] (free_prime mending move e) (none_at (λ (p : Pair). Reach mending s p.item p.value × (is_broken mending.moves p.item p.value ≡ false))) (λ other h. least_cube other)
+  free_chosen e = chosen [] (free_prime mending move e) (All-nil (λ (p : Pair). Reach mending s p.item p.value × (is_broken mending.moves p.item p.value ≡ false))) (λ other h. least_cube other)
 
 -- from m to z it is two
 two_away : (s : List ℕ) → IsDistance mending s 0 0 2 2
@@ -135,7 +136,7 @@ z_is_next : (c : ℕ) → c < 2 → IsNextOf (1 ∷ 0 ∷ []) (c ∷ 1 ∷ []) (
 z_is_next c h = record {
   sorted = c_is_z ∷ [];
   is_sorted = record { same = IsPermutation-refl (c_is_z ∷ []); in_order = inl (inr (2, [], refl, refl)) };
-  first = record { before = []; after = []; split = refl; held = none_at (λ (p : Pair). slice_get (c ∷ 1 ∷ []) p.item ≡ Some p.value); missing = λ e. absurd (omega (arith, some_inj c 2 e)) };
+  first = record { before = []; after = []; split = refl; held = All-nil (λ (p : Pair). slice_get (c ∷ 1 ∷ []) p.item ≡ Some p.value); missing = λ e. absurd (omega (arith, some_inj c 2 e)) };
 }
 
 z_from_m : Reach mending (0 ∷ 1 ∷ []) 0 2
@@ -149,7 +150,7 @@ home = b_is_x ∷ c_is_ok ∷ []
 
 -- nothing is held of no pairs
 none_held : (s : List ℕ) → Extends s []
-none_held s = none_at (λ (p : Pair). slice_get s p.item ≡ Some p.value)
+none_held s = All-nil (λ (p : Pair). slice_get s p.item ≡ Some p.value)
 
 -- on the way back b is missing first, while it is y
 pub picks_toward_x : (c k : ℕ) → Picks mending_compiled (c ∷ 1 ∷ []) 1 0 k → PicksForGoal mending_compiled (c ∷ 1 ∷ []) home k

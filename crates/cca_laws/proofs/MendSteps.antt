@@ -2,6 +2,7 @@
 use Rattle.std.proofs.Common.{◌≡◌, ◌<◌, ◌⊎◌, ℕ, zero, suc, inl, inr, List, [], ◌∷◌, Some, Contains, refl, sym, ap, subst, ◌∙◌, arith}
 use Rattle.std.specs.Prelude.{slice_get, slice_index, slice_set}
 use Rattle.std.proofs.lemmas.Bool.{false≢true}
+use Rattle.list_laws.proofs.Places.{value_at}
 use Rattle.cca_base.specs.declared.cube.Pair.{Pair}
 use Rattle.cca_base.specs.declared.model.Move.{Move}
 use Rattle.cca_base.specs.Model.{IsMended}
@@ -12,10 +13,9 @@ use Rattle.cca_base.specs.Steps.{Step, Run, Allowed, support}
 use Rattle.cca_base.proofs.Members.{some_inj}
 use Rattle.cca_laws.proofs.Tiny.{two_at, below_two}
 use Rattle.cca_laws.proofs.FormulaExamples.{truth_mode}
-use Rattle.cca_laws.proofs.ImplicantLemmas.{free_step}
+use Rattle.cca_laws.proofs.FreeMoves.{free_step}
 use Rattle.cca_laws.proofs.MendImplicants.{only_world, state_of}
-use Rattle.cca_laws.proofs.PlansLemmas.{mends_itself}
-use Rattle.cca_laws.proofs.ValveExamples.{index_of}
+use Rattle.cca_laws.proofs.PlanLaws.{mends_itself}
 use Rattle.cca_laws.specs.MendExamples.{reset_move, z_move, ok_move, go_move, back_move, mending, c_is_z, GoingIsAllowed}
 
 module _ (b : ℕ) where
@@ -43,7 +43,7 @@ back_step = record {
   of_model = (4, omega arith, refl);
   command = refl;
   source = refl;
-  guard = λ s state extends w world. truth_mode s w 0 4 ∙ ap (has 4) (index_of s 0 2 (extends 1 c_is_z (omega arith)));
+  guard = λ s state extends w world. truth_mode s w 0 4 ∙ ap (has 4) (value_at s 0 2 (extends 1 c_is_z (omega arith)));
   gives = refl;
 }
 

@@ -1,13 +1,14 @@
 -- What suffices for a move has a minimal part.
-use Rattle.std.proofs.Common.{◌≡◌, ◌<◌, ◌≤◌, ◌+◌, ◌⊎◌, ◌≢◌, ◌==◌, ℕ, Bool, true, false, not, List, [], ◌∷◌, length, get_or, slice_get, Some, Contains, filter, refl, sym, ap, subst, ◌∙◌, inl, inr, arith, zero, suc}
+use Rattle.std.proofs.Common.{◌≡◌, ◌<◌, ◌≤◌, ◌+◌, ◌⊎◌, ◌≢◌, ◌==◌, ℕ, not, List, [], ◌∷◌, length, get_or, slice_get, Some, Contains, filter, refl, sym, ap, subst, ◌∙◌, inl, inr, arith, zero, suc}
 use Rattle.std.specs.List.{AllPairs}
-use Rattle.std.proofs.lemmas.Bool.{cases_order, cases_Bool, both_ways, cond-true, cond-false, eq-eqb, ne_eqb, not_from_false, not_from_true}
+use Rattle.std.proofs.lemmas.Bool.{cases_order, eq-eqb, ne_eqb, not_from_false, not_from_true}
 use Rattle.std.proofs.lemmas.List.{get_or_default}
 use Rattle.std.proofs.lemmas.List.Elements.{All-contains}
 use Rattle.std.proofs.lemmas.List.Kept.{AllPairs-cons, AllPairs-filter}
+use Rattle.list_laws.proofs.Kept.{filter_less}
 use Rattle.cca_base.specs.declared.cube.Pair.{Pair}
 use Rattle.cca_base.specs.declared.model.Move.{Move}
-use Rattle.cca_base.specs.Automata.{Automata}
+use Rattle.cca_base.specs.PlantModel.{PlantModel}
 use Rattle.cca_base.specs.Model.{HasMode}
 use Rattle.cca_base.specs.Implicants.{Suffices, PrimeImplicant, source_pair}
 use Rattle.cca_base.specs.Repairs.{pairs_from}
@@ -29,29 +30,6 @@ search_list {X} A each (x ∷ xs) = both (each x) (search_list A each xs)
       | inl e ↦ h (subst A (sym e) a)
       | inr there ↦ none y there a
     ])
-
-filter_length : {X : Type 0} (test : X → Bool) (xs : List X) → length (filter test xs) ≤ length xs
-filter_length test [] = omega arith
-filter_length test (x ∷ xs) =
-    let rest : length (filter test xs) ≤ length xs = filter_length test xs in
-    elim (cases_Bool (test x)) [
-      | inl y ↦ omega (arith, ap length (cond-true (test x) (x ∷ filter test xs) (filter test xs) y))
-      | inr n ↦ omega (arith, ap length (cond-false (test x) (x ∷ filter test xs) (filter test xs) n))
-    ]
-
-filter_less : {X : Type 0} (test : X → Bool) (xs : List X) (x : X) → Contains xs x → test x ≡ false → length (filter test xs) < length xs
-filter_less test [] x among h = absurd (contains_none x among)
-filter_less test (y ∷ xs) x among h = elim (cases_Bool (test y)) [
-  | inl yes_y ↦ elim (contains_cases y x xs among) [
-    | inl e ↦ absurd (both_ways (test x) h (subst (λ z. test z ≡ true) e yes_y))
-    | inr there ↦
-        let rest : length (filter test xs) < length xs = filter_less test xs x there h in
-        omega (arith, ap length (cond-true (test y) (y ∷ filter test xs) (filter test xs) yes_y))
-  ]
-  | inr no_y ↦
-      let rest : length (filter test xs) ≤ length xs = filter_length test xs in
-      omega (arith, ap length (cond-false (test y) (y ∷ filter test xs) (filter test xs) no_y))
-]
 
 abbrev pub Rises : List Pair → Type 0
 Rises = AllPairs (λ p q. p.item < q.item)
@@ -75,7 +53,7 @@ one_pair cube rises p q in_p in_q same =
       | inr (inr gt) ↦ absurd (omega (arith, rises in_q.0 in_p.0 p gt in_p.1, item_p, item_q, same))
     ]
 
-module _ (m : Automata) (move : Move) where
+module _ (m : PlantModel) (move : Move) where
   pub suffices_more : (few more : List Pair) → ((p : Pair) → Contains few p → Contains more p) → Suffices m move few → Suffices m move more
   suffices_more few more part h t state extends =
       let own : Pair = source_pair move in

@@ -2,14 +2,15 @@
 use Rattle.std.proofs.Common.{◌≡◌, ◌≢◌, ℕ, zero, suc, ◌||◌, ◌⊎◌, inl, inr, List, [], ◌∷◌, length, Some, Contains, refl, sym, ap, subst, ◌∙◌, arith}
 use Rattle.std.specs.Prelude.{slice_get, slice_index, IsTrue, ◌↔◌}
 use Rattle.std.proofs.lemmas.Bool.{cases_eq, both_ways, eq-eqb, ne_eqb}
+use Rattle.std.proofs.lemmas.List.Elements.{All-nil}
 use Rattle.cca_base.specs.declared.cube.Pair.{Pair}
 use Rattle.cca_base.specs.Cube.{IsUnion}
 use Rattle.cca_base.specs.Sets.{has, with_number}
 use Rattle.cca_base.specs.State.{HasValue}
-use Rattle.cca_base.specs.Trace.{Situation, start, MayBeSeen, MayBeObserved, HasOneValue}
+use Rattle.cca_base.specs.Trace.{ExecutiveState, start, MayBeSeen, MayBeObserved, HasOneValue}
 use Rattle.cca_base.proofs.Members.{contains_cases, contains_none, contains_here, none_some, some_inj}
-use Rattle.cca_base.proofs.SetLemmas.{has-with_number}
-use Rattle.cca_laws.proofs.Tiny.{none_at, one_at}
+use Rattle.cca_base.proofs.SetLaws.{has-with_number}
+use Rattle.cca_laws.proofs.Tiny.{one_at}
 use Rattle.cca_laws.proofs.ValveExamples.{rule_is, start_world, nothing_flows}
 use Rattle.cca_laws.specs.ValveExamples.{valve_model, flow_rule}
 use Rattle.cca_laws.specs.ObservedExamples.{loose, x_low}
@@ -27,9 +28,9 @@ joined set v u = elim (cases_eq u v) [
 
 pub mirrors_join : MirrorsJoin
 mirrors_join m order x y v e = (
-  λ u. subst (λ set. IsTrue (has set u) ↔ ((u ≡ v) ⊎ IsTrue (has x.mirrored u))) (sym (ap (λ (z : Situation). z.mirrored) e)) (joined x.mirrored v u),
-  ap (λ (z : Situation). z.plant) e,
-  ap (λ (z : Situation). z.pending) e,
+  λ u. subst (λ set. IsTrue (has set u) ↔ ((u ≡ v) ⊎ IsTrue (has x.mirrored u))) (sym (ap (λ (z : ExecutiveState). z.mirrored) e)) (joined x.mirrored v u),
+  ap (λ (z : ExecutiveState). z.plant) e,
+  ap (λ (z : ExecutiveState). z.pending) e,
 )
 
 -- x may be seen to be low
@@ -38,7 +39,7 @@ low_may_be_seen = record {
   some = omega arith;
   cube = λ i j d lt h. absurd (omega arith);
   values = one_at (λ (p : Pair). HasValue loose p.item p.value) x_low (omega arith);
-  seen = one_at (λ (p : Pair). MayBeSeen loose [] 0 p.item) x_low (record { variable = _; of_model = refl; sensed = refl; unmirrored = refl; new = none_at (λ (p : Pair). p.item ≢ 0) });
+  seen = one_at (λ (p : Pair). MayBeSeen loose [] 0 p.item) x_low (record { variable = _; of_model = refl; sensed = refl; unmirrored = refl; new = All-nil (λ (p : Pair). p.item ≢ 0) });
 }
 
 low_is_pending : IsUnion (Contains []) (Contains (x_low ∷ [])) (x_low ∷ [])

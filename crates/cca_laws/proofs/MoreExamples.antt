@@ -5,7 +5,7 @@ use Rattle.std.proofs.lemmas.Bool.{false≢true}
 use Rattle.cca_base.specs.declared.cube.Pair.{Pair}
 use Rattle.cca_base.specs.declared.events.Event.TheVariants as event
 use Rattle.cca_base.specs.Cube.{Lacks}
-use Rattle.cca_base.specs.Trace.{Situation}
+use Rattle.cca_base.specs.Trace.{ExecutiveState}
 use Rattle.cca_base.specs.Runs.{LeavesPlantAlone}
 use Rattle.cca_base.proofs.Members.{contains_here}
 use Rattle.cca_laws.proofs.Tiny.{one_at}
@@ -30,5 +30,5 @@ lacked pending (k, below, e) h = h k x_low below (ap (λ (p : Pair). p.item) e)
 pub once_before_tick : OnceBeforeTick
 once_before_tick (a, y, change, rest) =
     lacked y.pending
-    (subst (λ l. Contains l x_low) (sym (ap (λ (z : Situation). z.pending) change.2)) ((change.1.each x_low).1 (inr (contains_here x_low x_low [] refl))))
+    (subst (λ l. Contains l x_low) (sym (ap (λ (z : ExecutiveState). z.pending) change.2)) ((change.1.each x_low).1 (inr (contains_here x_low x_low [] refl))))
     (rest.0.seen 0 x_low (omega arith)).new

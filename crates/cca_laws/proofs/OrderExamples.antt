@@ -3,6 +3,8 @@ use Rattle.std.proofs.Common.{◌≡◌, ◌≢◌, ◌<◌, ℕ, zero, suc, Boo
 use Rattle.std.specs.Prelude.{slice_get, slice_index, IsTrue}
 use Rattle.std.specs.List.{list_all, list_any}
 use Rattle.std.proofs.lemmas.Bool.{false≢true}
+use Rattle.std.proofs.lemmas.List.Elements.{All-nil}
+use Rattle.list_laws.proofs.Places.{value_at}
 use Rattle.cca_base.specs.declared.cube.Pair.{Pair}
 use Rattle.cca_base.specs.declared.model.Move.{Move}
 use Rattle.cca_base.specs.Formula.{truth}
@@ -13,10 +15,9 @@ use Rattle.cca_base.specs.State.{IsState, IsWorld, Extends}
 use Rattle.cca_base.specs.Implicants.{PrimeImplicant, Suffices, Needs, source_pair}
 use Rattle.cca_base.specs.Orders.{IsFree}
 use Rattle.cca_base.proofs.Members.{contains_cases, contains_none}
-use Rattle.cca_laws.proofs.Tiny.{none_at, one_at, two_at, three_at, below_two, below_three}
-use Rattle.cca_laws.proofs.ImplicantLemmas.{single_prime}
+use Rattle.cca_laws.proofs.Tiny.{one_at, two_at, three_at, below_two, below_three}
+use Rattle.cca_laws.proofs.FreeMoves.{single_prime}
 use Rattle.cca_laws.proofs.FormulaExamples.{truth_mode, truth_both, truth_either}
-use Rattle.cca_laws.proofs.ValveExamples.{index_of}
 use Rattle.cca_laws.specs.FormulaExamples.{mode_in, both}
 use Rattle.cca_laws.specs.OrderExamples.{wordy_guard, wordy_move, wordy, b_is_q, OneImplicant, OneNeed, CauseComesLast}
 
@@ -33,7 +34,7 @@ state_of : (a : ℕ) → a < 2 → IsState wordy (a ∷ 0 ∷ 0 ∷ [])
 state_of a h = record { full = refl; modes = below_three (λ c. HasMode wordy c (slice_index (a ∷ 0 ∷ 0 ∷ []) c)) h (omega arith) (omega arith) }
 
 world_of : (s : List ℕ) → IsWorld wordy s []
-world_of s = record { full = refl; values = λ v h. absurd (omega arith); rules = none_at (λ rule. IsTrue (truth s [] rule)) }
+world_of s = record { full = refl; values = λ v h. absurd (omega arith); rules = All-nil (λ rule. IsTrue (truth s [] rule)) }
 
 -- pairs that hold while b is n don't suffice
 too_little : (a : ℕ) → a < 2 → (pairs : List Pair) → Extends (a ∷ 0 ∷ 0 ∷ []) (source_pair wordy_move ∷ pairs) → Suffices wordy wordy_move pairs → ⊥
@@ -43,7 +44,7 @@ too_little a h pairs extends suffices =
 
 b_suffices : Suffices wordy wordy_move (b_is_q ∷ [])
 b_suffices s state extends w world =
-    let q : slice_index s 1 ≡ 1 = index_of s 1 1 (extends 1 b_is_q (omega arith)) in
+    let q : slice_index s 1 ≡ 1 = value_at s 1 1 (extends 1 b_is_q (omega arith)) in
     guard_is s w ∙ ap (says (slice_index s 0)) q ∙ below_two (λ x. says x 1 ≡ true) refl refl (slice_index s 0) (state.modes 0 (omega arith))
 
 nothing_is_too_little : Suffices wordy wordy_move [] → ⊥

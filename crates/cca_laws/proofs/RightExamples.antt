@@ -6,9 +6,9 @@ use Rattle.std.proofs.lemmas.Bool.{false≢true}
 use Rattle.cca_base.specs.declared.cube.Pair.{Pair}
 use Rattle.cca_base.specs.declared.events.Event.{Event}
 use Rattle.cca_base.specs.declared.events.Event.TheVariants as event
-use Rattle.cca_base.specs.Trace.{Situation, Observed, start}
-use Rattle.cca_base.specs.Runs.{Moment, CanBeSeen, StartsAnew, LeavesPlantAlone}
-use Rattle.cca_base.proofs.SetLemmas.{has-empty}
+use Rattle.cca_base.specs.Trace.{ExecutiveState, Observed, start}
+use Rattle.cca_base.specs.Runs.{TickRecord, CanBeSeen, StartsAnew, LeavesPlantAlone}
+use Rattle.cca_base.proofs.SetLaws.{has-empty}
 use Rattle.cca_base.proofs.Members.{some_inj, none_some}
 use Rattle.cca_laws.proofs.Tiny.{one_at}
 use Rattle.cca_laws.proofs.ValveExamples.{start_world}
@@ -38,9 +38,9 @@ fault_stays (x ∷ []) after e = absurd cc
 fault_stays (x ∷ y ∷ []) after e = absurd cc
 fault_stays (x ∷ y ∷ z ∷ before) after e = absurd cc
 
-faulty : (t : Moment) → faulty_moment ≡ t → StartsAnew 0 t.since → ⊥
-faulty t e (inl x) = All-get_or LeavesPlantAlone faulty_moment.since 0 event.Reset (omega arith) (subst (λ (u : Moment). All LeavesPlantAlone u.since) (sym e) x.1)
-faulty t e (inr x) = fault_stays x.0 x.1 (ap (λ (u : Moment). u.since) e ∙ x.2)
+faulty : (t : TickRecord) → faulty_moment ≡ t → StartsAnew 0 t.since → ⊥
+faulty t e (inl x) = All-get_or LeavesPlantAlone faulty_moment.since 0 event.Reset (omega arith) (subst (λ (u : TickRecord). All LeavesPlantAlone u.since) (sym e) x.1)
+faulty t e (inr x) = fault_stays x.0 x.1 (ap (λ (u : TickRecord). u.since) e ∙ x.2)
 
 pub faults_excuse : FaultsExcuse
 faults_excuse b zero t e (inl x) seen = absurd (faulty t (some_inj faulty_moment t e) x)
@@ -56,4 +56,4 @@ resets_end_excuses ways order bounds h =
     ).0
 
 pub reset_keeps_ticks : ResetKeepsTicks
-reset_keeps_ticks m order x y e = ap (λ (z : Situation). z.ticks) e
+reset_keeps_ticks m order x y e = ap (λ (z : ExecutiveState). z.ticks) e

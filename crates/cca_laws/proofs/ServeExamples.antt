@@ -2,28 +2,29 @@
 use Rattle.std.proofs.Common.{◌≡◌, ◌<◌, ◌≤◌, ◌+◌, ℕ, zero, suc, false, List, [], ◌∷◌, All, Some, refl, sym, ap, arith}
 use Rattle.std.specs.Prelude.{slice_get}
 use Rattle.std.proofs.lemmas.Bool.{false≢true}
+use Rattle.std.proofs.lemmas.List.Elements.{All-nil}
 use Rattle.cca_base.specs.declared.events.Reply.TheVariants.{Idle, Send, Achieved, Unreachable}
-use Rattle.cca_base.specs.Runs.{Moment, IsStretch, IsRight, LeavesPlantAndGoalAlone, reply_at, is_send, is_unreachable}
+use Rattle.cca_base.specs.Runs.{TickRecord, IsStretch, IsRight, LeavesPlantAndGoalAlone, reply_at, is_send, is_unreachable}
 use Rattle.cca_base.proofs.Members.{some_inj}
 use Rattle.cca_laws.specs.Examples.{lit}
-use Rattle.cca_laws.proofs.Tiny.{two_at, one_at, none_at}
+use Rattle.cca_laws.proofs.Tiny.{two_at, one_at}
 use Rattle.cca_laws.specs.ServeExamples.{replied, OneOfOne, TwoOfOne, TooLate, NoneAfter, NotLost, LampIsPromised, LostBeginsNone}
 
-abbrev served : List Moment
+abbrev served : List TickRecord
 served = replied (Send 0) ∷ replied Achieved ∷ []
 
-second : (t : Moment) → slice_get served 1 ≡ Some t → replied Achieved ≡ t
+second : (t : TickRecord) → slice_get served 1 ≡ Some t → replied Achieved ≡ t
 second t e = some_inj (replied Achieved) t e
 
-stays : (first later : ℕ) (t u : Moment) → 0 ≤ first → first < later → later ≤ 1 → slice_get served first ≡ Some t → slice_get served later ≡ Some u
+stays : (first later : ℕ) (t u : TickRecord) → 0 ≤ first → first < later → later ≤ 1 → slice_get served first ≡ Some t → slice_get served later ≡ Some u
     → reply_at t ≡ Some Achieved → is_send (reply_at u) ≡ false
 stays first zero t u a b c d e f = absurd (omega arith)
-stays first (suc zero) t u a b c d e f = ap (λ (x : Moment). is_send (reply_at x)) (sym (second u e))
+stays first (suc zero) t u a b c d e f = ap (λ (x : TickRecord). is_send (reply_at x)) (sym (second u e))
 stays first (suc (suc k)) t u a b c d e f = absurd (omega arith)
 
-stands : (late : ℕ) (t : Moment) → 0 + 1 ≤ late → late ≤ 1 → slice_get served late ≡ Some t → reply_at t ≡ Some Achieved
+stands : (late : ℕ) (t : TickRecord) → 0 + 1 ≤ late → late ≤ 1 → slice_get served late ≡ Some t → reply_at t ≡ Some Achieved
 stands zero t a b e = absurd (omega arith)
-stands (suc zero) t a b e = ap (λ (x : Moment). reply_at x) (sym (second t e))
+stands (suc zero) t a b e = ap (λ (x : TickRecord). reply_at x) (sym (second t e))
 stands (suc (suc k)) t a b e = absurd (omega arith)
 
 pub one_of_one : OneOfOne
@@ -52,18 +53,18 @@ not_lost number h = false≢true (sym (h.reached 1 (replied Idle) (omega arith))
 pub lost_begins_none : LostBeginsNone
 lost_begins_none j h = false≢true (sym (h.reachable (replied (Unreachable 0 1)) refl))
 
-abbrev sending : List Moment
+abbrev sending : List TickRecord
 sending = replied (Send 0) ∷ replied (Send 1) ∷ []
 
-not_lost_at_first : (t : Moment) → slice_get sending 0 ≡ Some t → is_unreachable (reply_at t) ≡ false
-not_lost_at_first t e = ap (λ (x : Moment). is_unreachable (reply_at x)) (sym (some_inj (replied (Send 0)) t e))
+not_lost_at_first : (t : TickRecord) → slice_get sending 0 ≡ Some t → is_unreachable (reply_at t) ≡ false
+not_lost_at_first t e = ap (λ (x : TickRecord). is_unreachable (reply_at x)) (sym (some_inj (replied (Send 0)) t e))
 
 is_stretch : IsStretch sending lit 0 1
 is_stretch = record {
   rising = omega arith;
   within = omega arith;
   goals = two_at (λ t. t.before.goal ≡ Some lit) (replied (Send 0)) (replied (Send 1)) refl refl;
-  quiet = one_at (λ t. All LeavesPlantAndGoalAlone t.since) (replied (Send 1)) (none_at LeavesPlantAndGoalAlone);
+  quiet = one_at (λ t. All LeavesPlantAndGoalAlone t.since) (replied (Send 1)) (All-nil LeavesPlantAndGoalAlone);
   right = two_at IsRight (replied (Send 0)) (replied (Send 1)) refl refl;
   reachable = not_lost_at_first;
 }

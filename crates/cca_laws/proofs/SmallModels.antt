@@ -7,6 +7,7 @@ use Rattle.std.proofs.lemmas.List.Kept.{AllPairs-cons}
 use Rattle.std.proofs.lemmas.List.Sums.{AllPass-from_list_all}
 use Rattle.std.proofs.lemmas.Option.{slice_get-get_or, slice_get_within}
 use Rattle.std.proofs.lemmas.Slice.Eq.{bytes_eq-Decides}
+use Rattle.cca_base.specs.declared.limits.TheConstants.{MAX_CHOICES}
 use Rattle.cca_base.specs.declared.model.Move.{Move}
 use Rattle.cca_base.specs.Names.{is_name, AreNames, AreDifferent}
 use Rattle.cca_base.specs.Model.{AreChoices, CommandsFit, AreInOrderOfFirstUse}
@@ -29,7 +30,7 @@ all_differ (x ∷ xs) h =
 pub are_names : (xs : List (List ℕ)) → list_all is_name xs ≡ true → differ xs ≡ true → AreNames xs
 are_names xs each different = record { each = AllPass-from_list_all is_name xs each; different = all_differ xs different }
 
-pub are_choices : (xs : List (List ℕ)) → list_all is_name xs ≡ true → differ xs ≡ true → 0 < length xs → length xs ≤ 16 → AreChoices xs
+pub are_choices : (xs : List (List ℕ)) → list_all is_name xs ≡ true → differ xs ≡ true → 0 < length xs → length xs ≤ MAX_CHOICES → AreChoices xs
 are_choices xs each different some few = record { names = are_names xs each different; some = some; few = few }
 
 module _ (moves : List Move) (own : (i : ℕ) (move : Move) → slice_get moves i ≡ Some move → i ≡ move.command) where

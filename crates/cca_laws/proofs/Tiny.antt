@@ -1,12 +1,9 @@
 -- What the small models share.
 use Rattle.std.proofs.Common.{◌<◌, ℕ, zero, suc, [], ◌∷◌, All, arith}
-use Rattle.std.proofs.lemmas.List.Elements.{All-cons}
-
-pub none_at : {X : Type 0} (P : X → Type 0) → All P []
-none_at P k d h = absurd (omega arith)
+use Rattle.std.proofs.lemmas.List.Elements.{All-cons, All-nil}
 
 pub one_at : {X : Type 0} (P : X → Type 0) (x : X) → P x → All P (x ∷ [])
-one_at P x h = All-cons P x [] h (none_at P)
+one_at P x h = All-cons P x [] h (All-nil P)
 
 -- below two
 pub below_two : (P : ℕ → Type 0) → P 0 → P 1 → (k : ℕ) → k < 2 → P k

@@ -2,6 +2,7 @@
 use Rattle.std.proofs.Common.{◌≡◌, ◌<◌, ℕ, zero, suc, Bool, inl, inr, true, false, List, [], ◌∷◌, Contains, slice_get, Some, Option, refl, sym, ap, subst, ◌∙◌, arith, not}
 use Rattle.std.specs.Prelude.{slice_index, slice_set, IsTrue, if◌then◌else◌}
 use Rattle.std.proofs.lemmas.Bool.{false≢true}
+use Rattle.list_laws.proofs.Places.{value_at}
 use Rattle.cca_base.specs.declared.cube.Pair.{Pair}
 use Rattle.cca_base.specs.declared.formula.Formula.TheOpen.{Formula-F}
 use Rattle.cca_base.specs.declared.formula.Formula.TheFolds.{fold-roll-Formula}
@@ -9,14 +10,14 @@ use Rattle.cca_base.specs.declared.formula.Subject.TheVariants.{Variable}
 use Rattle.cca_base.specs.declared.model.Move.{Move}
 use Rattle.cca_base.specs.Sets.{has}
 use Rattle.cca_base.specs.Formula.{truth, truth_step}
-use Rattle.cca_base.specs.Model.{HasMode, is_repair_of}
+use Rattle.cca_base.specs.Model.{HasMode}
 use Rattle.cca_base.specs.State.{Follows, Holds, IsState, IsWorld, HasValue}
 use Rattle.cca_base.specs.Steps.{Step, Run, Allowed, support}
 use Rattle.cca_base.specs.Repairs.{Mending}
 use Rattle.cca_laws.proofs.Tiny.{one_at, three_at, below_one, below_two, below_three}
 use Rattle.cca_laws.proofs.FormulaExamples.{truth_mode, truth_iff}
-use Rattle.cca_laws.proofs.ImplicantLemmas.{always}
-use Rattle.cca_laws.proofs.PlansLemmas.{mends_itself}
+use Rattle.cca_laws.proofs.FreeMoves.{always}
+use Rattle.cca_laws.proofs.PlanLaws.{mends_itself}
 use Rattle.cca_laws.specs.Examples.{always_true}
 use Rattle.cca_laws.specs.FormulaExamples.{mode_in}
 use Rattle.cca_laws.specs.ValveExamples.{flow_in, valve_model, engine_model, driver_on, open_move, arm_move, DriverComesOn, StuckMends, OpeningNeedsDriver, StuckIsNotLeanedOn, ClosedIsLeanedOn, flow_rule, no_way_back, OpeningForGood, OpeningIsAllowed}
@@ -151,18 +152,13 @@ stuck_is_not_leaned_on = (
       ),
 )
 
-pub index_of : (s : List ℕ) (k x : ℕ) → slice_get s k ≡ Some x → slice_index s k ≡ x
-index_of [] k x h = absurd cc
-index_of (y ∷ s) zero x h = cc
-index_of (y ∷ s) (suc k) x h = index_of s k x h
-
 pub closed_is_leaned_on : ClosedIsLeanedOn
 closed_is_leaned_on = record {
   move = arm_move;
   of_model = (5, omega arith, refl);
   command = refl;
   source = refl;
-  guard = λ s state extends w world. shut_off s w world (ap (has 2) (index_of s 1 0 (extends 2 (record { item = 0; value = 0 }) (omega arith))));
+  guard = λ s state extends w world. shut_off s w world (ap (has 2) (value_at s 1 0 (extends 2 (record { item = 0; value = 0 }) (omega arith))));
   gives = refl;
 }
 
@@ -174,7 +170,7 @@ opening = record {
   of_model = (2, omega arith, refl);
   command = refl;
   source = refl;
-  guard = λ s state extends w world. truth_mode s w 0 2 ∙ ap (has 2) (index_of s 0 1 (extends 1 (record { item = 0; value = 0 }) (omega arith)));
+  guard = λ s state extends w world. truth_mode s w 0 2 ∙ ap (has 2) (value_at s 0 1 (extends 1 (record { item = 0; value = 0 }) (omega arith)));
   gives = refl;
 }
 
@@ -213,7 +209,7 @@ opens move own (suc (suc (suc (suc k))), h, e) = absurd (omega arith)
 
 no_mending : (s2 : List ℕ) → slice_get s2 1 ≡ Some 1 → Mending no_way_back (1 ∷ 0 ∷ []) s2 → ⊥
 no_mending s2 h mending = elim (mending.each 1 (omega arith)) [
-  | inl same ↦ omega (arith, index_of s2 1 1 h, same)
+  | inl same ↦ omega (arith, value_at s2 1 1 h, same)
   | inr mended ↦ false≢true mended.broken
 ]
 
@@ -238,7 +234,7 @@ opening_step = record {
   of_model = (2, omega arith, refl);
   command = refl;
   source = refl;
-  guard = λ s state extends w world. truth_mode s w 0 2 ∙ ap (has 2) (index_of s 0 1 (extends 1 (record { item = 0; value = 0 }) (omega arith)));
+  guard = λ s state extends w world. truth_mode s w 0 2 ∙ ap (has 2) (value_at s 0 1 (extends 1 (record { item = 0; value = 0 }) (omega arith)));
   gives = refl;
 }
 
@@ -248,7 +244,7 @@ closing_step = record {
   of_model = (3, omega arith, refl);
   command = refl;
   source = refl;
-  guard = λ s state extends w world. truth_mode s w 0 2 ∙ ap (has 2) (index_of s 0 1 (extends 1 (record { item = 0; value = 0 }) (omega arith)));
+  guard = λ s state extends w world. truth_mode s w 0 2 ∙ ap (has 2) (value_at s 0 1 (extends 1 (record { item = 0; value = 0 }) (omega arith)));
   gives = refl;
 }
 

@@ -24,7 +24,7 @@ abbrev pub reset_move : Move
 reset_move = record { component = 1; source = 2; target = 0; command = 4; repair = true; guard = driver_on }
 
 -- the formulas
-flow_printed : (set : ℕ) → print (flow_in set) ≡ record { loose = 0; depth = 1 }
+flow_printed : (set : ℕ) → print (flow_in set) ≡ record { precedence = 0; depth = 1 }
 flow_printed set = fold-roll-Formula Printed printed_step (Formula-F.Among (Variable 0) set)
 
 rule_depth : depth flow_rule ≡ 2
@@ -32,7 +32,7 @@ rule_depth =
     ap (λ (x : Printed). x.depth)
     (fold-roll-Formula Printed printed_step (Formula-F.Iff (flow_in 2) (mode_in 1 2))
     ∙ ap (λ (x : Printed). printed_step (Formula-F.Iff x (print (mode_in 1 2)))) (flow_printed 2)
-    ∙ ap (λ (x : Printed). printed_step (Formula-F.Iff (record { loose = 0; depth = 1 }) x)) (mode_printed 1 2))
+    ∙ ap (λ (x : Printed). printed_step (Formula-F.Iff (record { precedence = 0; depth = 1 }) x)) (mode_printed 1 2))
 
 rule_fits : IsFormula valve_model flow_rule
 rule_fits = record { fits = simp (fold-roll-Formula Bool (fits_step (2 ∷ 3 ∷ []) (2 ∷ []))); shallow = omega (arith, rule_depth) }

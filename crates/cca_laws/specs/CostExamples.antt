@@ -2,7 +2,7 @@
 use Rattle.std.specs.Prelude.{◌≡◌, ◌↔◌, true, ℕ, [], ◌∷◌, codes, Some, None}
 use Rattle.cca_base.specs.declared.formula.Formula.{Formula, roll-Formula}
 use Rattle.cca_base.specs.declared.formula.Formula.TheOpen.{Formula-F}
-use Rattle.cca_base.specs.Automata.{Automata}
+use Rattle.cca_base.specs.PlantModel.{PlantModel}
 use Rattle.cca_base.specs.Model.{with_failure}
 use Rattle.cca_base.specs.Successors.{Costs}
 use Rattle.cca_base.specs.Estimates.{Estimate}
@@ -10,7 +10,7 @@ use Rattle.cca_laws.specs.FormulaExamples.{mode_in, both, either}
 use Rattle.cca_laws.specs.ValveExamples.{flow_in, valve_model}
 
 -- a valve that may fall open by itself
-abbrev pub falling_open : Automata
+abbrev pub falling_open : PlantModel
 falling_open = with_failure valve_model (record { component = 1; source = 0; target = 1; cost = 3 })
 
 -- when it is opened by command, to be open costs nothing
@@ -18,7 +18,7 @@ abbrev pub OpeningIsFree : Type 0
 OpeningIsFree = (cost : ℕ) → Costs falling_open (1 ∷ 0 ∷ []) (Some 2) (1 ∷ 1 ∷ []) cost ↔ (cost ≡ 0)
 
 -- a valve that may stay closed when it should open
-abbrev pub staying_shut : Automata
+abbrev pub staying_shut : PlantModel
 staying_shut = with_failure valve_model (record { component = 1; source = 0; target = 0; cost = 3 })
 
 -- when it is opened by command, to be closed costs what that failure costs
@@ -34,7 +34,7 @@ abbrev pub poor_rule : Formula
 poor_rule = roll-Formula (Formula-F.Iff (flow_in 2) (either (both (mode_in 0 2) (mode_in 1 2)) (mode_in 2 2)))
 
 -- three components that may go bad
-abbrev pub three : Automata
+abbrev pub three : PlantModel
 three = record {
   components =
       record { name = codes "p"; modes = codes "ok" ∷ codes "bad" ∷ []; start = 0 } ∷ record { name = codes "q"; modes = codes "ok" ∷ codes "bad" ∷ []; start = 0 }

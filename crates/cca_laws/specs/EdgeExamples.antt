@@ -1,6 +1,7 @@
 -- The edges of what is well formed.
-use Rattle.std.specs.Prelude.{◌≡◌, true, false, ℕ, ◌+◌, zero, suc, List, [], ◌∷◌, length, codes}
-use Rattle.cca_base.specs.Automata.{Automata}
+use Rattle.std.specs.Prelude.{◌≡◌, true, false, ℕ, ◌+◌, ◌/◌, ◌%◌, zero, suc, List, [], ◌∷◌, length, codes}
+use Rattle.cca_base.specs.declared.limits.TheConstants.{MAX_CHOICES}
+use Rattle.cca_base.specs.PlantModel.{PlantModel}
 use Rattle.cca_base.specs.Names.{is_name}
 use Rattle.cca_base.specs.Model.{WellFormed, AreChoices, with_failure}
 use Rattle.cca_laws.specs.Examples.{lamp, on_move, off_move}
@@ -10,7 +11,7 @@ abbrev pub WhichAreNames : Type 0
 WhichAreNames = (is_name (codes "and") ≡ false) × (is_name (codes "Valve") ≡ false) × (is_name [] ≡ false) × (is_name (codes "valve") ≡ true)
 
 -- the lamp with a failure from off to on
-abbrev pub failing_lamp : ℕ → ℕ → Automata
+abbrev pub failing_lamp : ℕ → ℕ → PlantModel
 failing_lamp component cost = with_failure lamp (record { component = component; source = 0; target = 1; cost = cost })
 
 -- a failure of a component that is not there is not well formed
@@ -29,15 +30,15 @@ OutOfFirstUse = WellFormed (record lamp { moves = off_move ∷ on_move ∷ [] })
 abbrev pub WhichAreChoices : Type 0
 WhichAreChoices = (AreChoices [] → ⊥) × AreChoices (codes "a" ∷ []) × (AreChoices (codes "a" ∷ codes "a" ∷ []) → ⊥)
 
--- so many names of one letter, from this letter on
-abbrev pub letters : ℕ → ℕ → List (List ℕ)
-letters k zero = []
-letters k (suc n) = (k ∷ []) ∷ letters (k + 1) n
+-- so many names of two letters, of which the first tells the eights and the second what is left
+abbrev pub two_letters : ℕ → List (List ℕ)
+two_letters zero = []
+two_letters (suc n) = ((97 + n / 8) ∷ (97 + n % 8) ∷ []) ∷ two_letters n
 
--- the sixteen letters from a on may be values
-abbrev pub SixteenAreChoices : Type 0
-SixteenAreChoices = AreChoices (letters 97 16)
+-- as many names as there may be choices may be values
+abbrev pub MostAreChoices : Type 0
+MostAreChoices = AreChoices (two_letters MAX_CHOICES)
 
--- seventeen values are too many
-abbrev pub SeventeenAreTooMany : Type 0
-SeventeenAreTooMany = (choices : List (List ℕ)) → length choices ≡ 17 → AreChoices choices → ⊥
+-- one value more is too many
+abbrev pub OneMoreIsTooMany : Type 0
+OneMoreIsTooMany = (choices : List (List ℕ)) → length choices ≡ MAX_CHOICES + 1 → AreChoices choices → ⊥

@@ -5,37 +5,37 @@ use Rattle.cca_base.specs.declared.events.Event.TheVariants as event
 use Rattle.cca_base.specs.declared.events.Reply.{Reply}
 use Rattle.cca_base.specs.declared.events.PlanEnd.{PlanEnd}
 use Rattle.cca_base.specs.declared.events.PlanEnd.TheVariants.{Plan, Long}
-use Rattle.cca_base.specs.Automata.{Automata}
-use Rattle.cca_base.specs.Accepted.{CompiledParts}
+use Rattle.cca_base.specs.PlantModel.{PlantModel}
+use Rattle.cca_base.specs.Accepted.{CompiledModel}
 use Rattle.cca_base.specs.Orders.{IsSorted}
-use Rattle.cca_base.specs.Choice.{Chosen}
+use Rattle.cca_base.specs.Choice.{IsChosenReply}
 use Rattle.cca_base.specs.Successors.{Nominal}
-use Rattle.cca_base.specs.Trace.{Situation, Changes, ShowsEstimate, ShowsUnexplained, TickShows, command_of}
+use Rattle.cca_base.specs.Trace.{ExecutiveState, Changes, ShowsEstimate, ShowsUnexplained, TickShows, command_of}
 use Rattle.cca_base.specs.declared.events.Shown.TheVariants.{Holding}
 use Rattle.cca_base.specs.Plans.{ShowsPlan, ShowsBack}
 
 -- a fault moves the plant alone
 abbrev pub FaultsMovePlant : Type 0
-FaultsMovePlant = (m : Automata) (order : List ℕ) (x y : Situation) (p : Pair) → Changes m (IsSorted order) x (event.Fault p) y
+FaultsMovePlant = (m : PlantModel) (order : List ℕ) (x y : ExecutiveState) (p : Pair) → Changes m (IsSorted order) x (event.Fault p) y
     → (y.plant ≡ slice_set x.plant p.item p.value) × (y.estimate ≡ x.estimate) × (y.goal ≡ x.goal)
 
 -- after clear there is no goal, and the mirrored variables stay
 abbrev pub ClearEndsGoal : Type 0
-ClearEndsGoal = (m : Automata) (order : List ℕ) (x y : Situation) → Changes m (IsSorted order) x event.Clear y → (y.goal ≡ None) × (y.mirrored ≡ x.mirrored)
+ClearEndsGoal = (m : PlantModel) (order : List ℕ) (x y : ExecutiveState) → Changes m (IsSorted order) x event.Clear y → (y.goal ≡ None) × (y.mirrored ≡ x.mirrored)
 
 -- a command that is sent moves the plant from where it stood, and is the last one
 abbrev pub CommandsMovePlant : Type 0
-CommandsMovePlant = (b : CompiledParts) (x y : Situation) (cost : ℕ) (state : List ℕ) (reply : Reply) → ShowsEstimate b.model (Chosen b) x cost state reply y
+CommandsMovePlant = (b : CompiledModel) (x y : ExecutiveState) (cost : ℕ) (state : List ℕ) (reply : Reply) → ShowsEstimate b.model (IsChosenReply b) x cost state reply y
     → Nominal b.model x.plant (command_of reply) y.plant × (y.estimate ≡ state) × (y.command ≡ command_of reply) × (y.pending ≡ []) × (y.ticks ≡ x.ticks + 1)
 
 -- an unexplained tick leaves the estimate and the plant, ends the last command, and from then on it is holding
 abbrev pub UnexplainedHolds : Type 0
-UnexplainedHolds = (m : Automata) (x y : Situation) → ShowsUnexplained m x y
+UnexplainedHolds = (m : PlantModel) (x y : ExecutiveState) → ShowsUnexplained m x y
     → (y.estimate ≡ x.estimate) × (y.plant ≡ x.plant) × (y.command ≡ None) × (y.holding ≡ true) × (y.pending ≡ [])
 
 -- a holding tick drops what is pending and goes on holding
 abbrev pub HoldingGoesOn : Type 0
-HoldingGoesOn = (b : CompiledParts) (x y : Situation) → TickShows b.model (Chosen b) x Holding y → (y.pending ≡ []) × IsTrue y.holding × (y.ticks ≡ x.ticks + 1)
+HoldingGoesOn = (b : CompiledModel) (x y : ExecutiveState) → TickShows b.model (IsChosenReply b) x Holding y → (y.pending ≡ []) × IsTrue y.holding × (y.ticks ≡ x.ticks + 1)
 
 -- ten thousand commands are shown
 abbrev pub TenThousandAreShown : Type 0

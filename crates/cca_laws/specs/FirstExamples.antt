@@ -2,7 +2,7 @@
 use Rattle.std.specs.Prelude.{ℕ, true, [], ◌∷◌, codes, None}
 use Rattle.cca_base.specs.declared.formula.Formula.{Formula, roll-Formula}
 use Rattle.cca_base.specs.declared.formula.Formula.TheOpen.{Formula-F}
-use Rattle.cca_base.specs.Automata.{Automata}
+use Rattle.cca_base.specs.PlantModel.{PlantModel}
 use Rattle.cca_base.specs.Estimates.{Estimate}
 use Rattle.cca_base.specs.Plans.{IsFirstWorld}
 use Rattle.cca_laws.specs.FormulaExamples.{mode_in, both}
@@ -23,7 +23,7 @@ abbrev pub pipe_rule : Formula
 pipe_rule = roll-Formula (Formula-F.Iff (flow_in 2) (both (mode_in 0 1) (mode_in 1 1)))
 
 -- a pump that may die and a pipe that may burst, each at cost 5
-abbrev pub pumping : Automata
+abbrev pub pumping : PlantModel
 pumping = record {
   components =
       record { name = codes "pump"; modes = codes "on" ∷ codes "dead" ∷ []; start = 0 } ∷ record { name = codes "pipe"; modes = codes "fine" ∷ codes "burst" ∷ []; start = 0 } ∷ [];

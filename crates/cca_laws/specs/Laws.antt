@@ -3,8 +3,8 @@ use Rattle.std.specs.Prelude.{◌≡◌, ◌↔◌, ◌<◌, AllPairs, ℕ, Bool
 use Rattle.cca_base.specs.declared.cube.Pair.{Pair}
 use Rattle.cca_base.specs.declared.model.Move.{Move}
 use Rattle.cca_base.specs.declared.events.Reply.TheVariants.{Idle, Send, Unreachable}
-use Rattle.cca_base.specs.Automata.{Automata}
-use Rattle.cca_base.specs.Accepted.{Accepted, CompiledParts, IsCompiled}
+use Rattle.cca_base.specs.PlantModel.{PlantModel}
+use Rattle.cca_base.specs.Accepted.{Accepted, CompiledModel, IsCompiled}
 use Rattle.cca_base.specs.Model.{WellFormed, IsComplete, IsMended, IsNext, is_broken}
 use Rattle.cca_base.specs.State.{IsState, Extends}
 use Rattle.cca_base.specs.Repairs.{Mending}
@@ -13,57 +13,57 @@ use Rattle.cca_base.specs.Implicants.{PrimeImplicant}
 use Rattle.cca_base.specs.Orders.{IsFirstMissing, IsNextOf, AreInOrder}
 use Rattle.cca_base.specs.Successors.{Nominal, Costs}
 use Rattle.cca_base.specs.Estimates.{Estimate, Unexplained}
-use Rattle.cca_base.specs.Goals.{Good}
+use Rattle.cca_base.specs.Goals.{IsGoodReply}
 use Rattle.cca_base.specs.Plans.{Whole}
-use Rattle.cca_base.specs.Choice.{Chosen}
-use Rattle.cca_base.specs.Trace.{Situation, Observed}
+use Rattle.cca_base.specs.Choice.{IsChosenReply}
+use Rattle.cca_base.specs.Trace.{ExecutiveState, Observed}
 use Rattle.cca_base.specs.declared.events.Event.{Event}
 use Rattle.cca_base.specs.declared.events.Event.TheVariants as event
 use Rattle.cca_base.specs.declared.events.TickReport.{TickReport}
-use Rattle.cca_base.specs.Runs.{Trace, Moment, StaysRight, CanBeSeen, IsRight, LeavesPlantAlone}
+use Rattle.cca_base.specs.Runs.{Trace, TickRecord, StaysRight, CanBeSeen, IsRight, LeavesPlantAlone}
 
 -- two runs, one after the other, are a run
 abbrev pub RunsJoin : Type 0
-RunsJoin = (m : Automata) (s t u : List ℕ) (ks ls : List ℕ) → Run m s ks t → Run m t ls u → Run m s (ks ++ ls) u
+RunsJoin = (m : PlantModel) (s t u : List ℕ) (ks ls : List ℕ) → Run m s ks t → Run m t ls u → Run m s (ks ++ ls) u
 
 -- an allowed plan is a run
 abbrev pub AllowedPlansRun : Type 0
-AllowedPlansRun = (m : Automata) (s t : List ℕ) (ks : List ℕ) → AllowedPlan m s ks t → Run m s ks t
+AllowedPlansRun = (m : PlantModel) (s t : List ℕ) (ks : List ℕ) → AllowedPlan m s ks t → Run m s ks t
 
 -- a state is a mending of itself
 abbrev pub MendsItself : Type 0
-MendsItself = (m : Automata) (s : List ℕ) → Mending m s s
+MendsItself = (m : PlantModel) (s : List ℕ) → Mending m s s
 
 -- in a well-formed model the mended mode is the one that the repairs lead to
 abbrev pub MendedIsNext : Type 0
-MendedIsNext = (m : Automata) → WellFormed m → (c mode mended : ℕ) → IsMended m.moves c mode mended ↔ IsNext m.moves c mode mended
+MendedIsNext = (m : PlantModel) → WellFormed m → (c mode mended : ℕ) → IsMended m.moves c mode mended ↔ IsNext m.moves c mode mended
 
 -- a repair that is a step is allowed, also where nothing leads back
 abbrev pub RepairsAreAllowed : Type 0
-RepairsAreAllowed = (m : Automata) (s t : List ℕ) (k : ℕ) → (step : Step m s k t) → IsTrue step.move.repair → Allowed m s k t
+RepairsAreAllowed = (m : PlantModel) (s t : List ℕ) (k : ℕ) → (step : Step m s k t) → IsTrue step.move.repair → Allowed m s k t
 
 -- where a prime implicant stands on modes that are not broken, the move is a step
 abbrev pub ImplicantsGiveSteps : Type 0
-ImplicantsGiveSteps = (m : Automata) (s : List ℕ) (move : Move) (cube : List Pair) → Contains m.moves move → slice_get s move.component ≡ Some move.source
+ImplicantsGiveSteps = (m : PlantModel) (s : List ℕ) (move : Move) (cube : List Pair) → Contains m.moves move → slice_get s move.component ≡ Some move.source
     → PrimeImplicant m move cube → Extends s cube → All (λ p. is_broken m.moves p.item p.value ≡ false) cube
     → Step m s move.command (slice_set s move.component move.target)
 
 -- there is one estimate at most
 abbrev pub OneEstimate : Type 0
-OneEstimate = (m : Automata) (s : List ℕ) (k : Option ℕ) (seen : List Pair) (a b : List ℕ) (cost other : ℕ)
+OneEstimate = (m : PlantModel) (s : List ℕ) (k : Option ℕ) (seen : List Pair) (a b : List ℕ) (cost other : ℕ)
     → Estimate m s k seen a cost → Estimate m s k seen b other → (a ≡ b) × (cost ≡ other)
 
 -- nothing has an estimate and is unexplained
 abbrev pub NeverBoth : Type 0
-NeverBoth = (m : Automata) (s : List ℕ) (k : Option ℕ) (seen : List Pair) (a : List ℕ) (cost : ℕ) → Estimate m s k seen a cost → Unexplained m s k seen → ⊥
+NeverBoth = (m : PlantModel) (s : List ℕ) (k : Option ℕ) (seen : List Pair) (a : List ℕ) (cost : ℕ) → Estimate m s k seen a cost → Unexplained m s k seen → ⊥
 
 -- what a tick observes is determined
 abbrev pub OneObserved : Type 0
-OneObserved = (m : Automata) (x : Situation) (a b : List Pair) → Observed m x a → Observed m x b → a ≡ b
+OneObserved = (m : PlantModel) (x : ExecutiveState) (a b : List Pair) → Observed m x a → Observed m x b → a ≡ b
 
 -- for a compiled model and its events there is one fixed trace at most
 abbrev pub OneFixedTrace : Type 0
-OneFixedTrace = (b : CompiledParts) (events : List Event) (reports others : List TickReport) → IsCompiled b → Trace b (Chosen b) events reports → Trace b (Chosen b) events others → reports ≡ others
+OneFixedTrace = (b : CompiledModel) (events : List Event) (reports others : List TickReport) → IsCompiled b → Trace b (IsChosenReply b) events reports → Trace b (IsChosenReply b) events others → reports ≡ others
 
 -- there is one first missing pair at most
 abbrev pub OneFirstMissing : Type 0
@@ -75,29 +75,29 @@ NoneUnderNoOrder = (s : List ℕ) (cube : List Pair) (p : Pair) → IsNextOf [] 
 
 -- a good command does not come where the goal stands, and only where each of its pairs is reached
 abbrev pub SendsServe : Type 0
-SendsServe = (m : Automata) (s : List ℕ) (goal : List Pair) (k : ℕ) → Good m s goal (Send k)
+SendsServe = (m : PlantModel) (s : List ℕ) (goal : List Pair) (k : ℕ) → IsGoodReply m s goal (Send k)
     → (Extends s goal → ⊥) × All (λ p. Reach m s p.item p.value) goal
 
 -- a goal that stands is not unreachable
 abbrev pub StandingIsReached : Type 0
-StandingIsReached = (m : Automata) (s : List ℕ) (goal : List Pair) (c mode : ℕ) → Extends s goal → Good m s goal (Unreachable c mode) → ⊥
+StandingIsReached = (m : PlantModel) (s : List ℕ) (goal : List Pair) (c mode : ℕ) → Extends s goal → IsGoodReply m s goal (Unreachable c mode) → ⊥
 
 -- a goal that stands gives the empty plan
 abbrev pub StandingGivesNoCommands : Type 0
-StandingGivesNoCommands = (b : CompiledParts) (goal : List Pair) (s ks last : List ℕ) → Whole b goal s ks last → Extends s goal → ks ≡ []
+StandingGivesNoCommands = (b : CompiledModel) (goal : List Pair) (s ks last : List ℕ) → Whole b goal s ks last → Extends s goal → ks ≡ []
 
 -- in a well-formed model a successor that costs nothing is the nominal one
 abbrev pub FreeIsNominal : Type 0
-FreeIsNominal = (m : Automata) (s t : List ℕ) (k : Option ℕ) (cost : ℕ) → WellFormed m → IsState m s → Costs m s k t cost
+FreeIsNominal = (m : PlantModel) (s t : List ℕ) (k : Option ℕ) (cost : ℕ) → WellFormed m → IsState m s → Costs m s k t cost
     → (cost ≡ 0 → Nominal m s k t)
 
 -- the first tick is right, where the plant can show what is observed
 abbrev pub FirstIsRight : Type 0
-FirstIsRight = (b : CompiledParts) (t : Moment) → StaysRight b (t ∷ []) → All LeavesPlantAlone t.since → CanBeSeen b.model t → IsRight t
+FirstIsRight = (b : CompiledModel) (t : TickRecord) → StaysRight b (t ∷ []) → All LeavesPlantAlone t.since → CanBeSeen b.model t → IsRight t
 
 -- what is compiled from a model is determined
 abbrev pub OneCompiled : Type 0
-OneCompiled = (m : Automata) (ways others : List (List (List Pair))) (order another bounds more : List ℕ)
+OneCompiled = (m : PlantModel) (ways others : List (List (List Pair))) (order another bounds more : List ℕ)
     → IsCompiled (record { model = m; ways = ways; order = order; bounds = bounds }) → IsCompiled (record { model = m; ways = others; order = another; bounds = more })
     → (ways ≡ others) × (order ≡ another) × (bounds ≡ more)
 
@@ -117,23 +117,23 @@ InOrderIsPairwise = (order : List ℕ) (pairs : List Pair) → NoneTwice order
 
 -- the order of a compiled model has no component twice
 abbrev pub OrdersHaveNoneTwice : Type 0
-OrdersHaveNoneTwice = (b : CompiledParts) → IsCompiled b → NoneTwice b.order
+OrdersHaveNoneTwice = (b : CompiledModel) → IsCompiled b → NoneTwice b.order
 
 -- in a well-formed model the nominal successor is a state that costs nothing
 abbrev pub NominalIsFree : Type 0
-NominalIsFree = (m : Automata) (s t : List ℕ) (k : Option ℕ) → WellFormed m → IsState m s → Nominal m s k t → Costs m s k t 0
+NominalIsFree = (m : PlantModel) (s t : List ℕ) (k : Option ℕ) → WellFormed m → IsState m s → Nominal m s k t → Costs m s k t 0
 
 -- in a well-formed model a successor has one cost at most
 abbrev pub OneCost : Type 0
-OneCost = (m : Automata) (s t : List ℕ) (k : Option ℕ) (a b : ℕ) → WellFormed m → Costs m s k t a → Costs m s k t b → a ≡ b
+OneCost = (m : PlantModel) (s t : List ℕ) (k : Option ℕ) (a b : ℕ) → WellFormed m → Costs m s k t a → Costs m s k t b → a ≡ b
 
 -- an accepted model has no unused command
 abbrev pub CommandsAreUsed : Type 0
-CommandsAreUsed = (m : Automata) → Accepted m → IsComplete m
+CommandsAreUsed = (m : PlantModel) → Accepted m → IsComplete m
 
 -- while there is a goal, no good reply is idle
 abbrev pub NeverIdle : Type 0
-NeverIdle = (m : Automata) (s : List ℕ) (goal : List Pair) → Good m s goal Idle → ⊥
+NeverIdle = (m : PlantModel) (s : List ℕ) (goal : List Pair) → IsGoodReply m s goal Idle → ⊥
 
 -- the event is a tick
 abbrev pub is_tick : Event → Bool
@@ -142,4 +142,4 @@ is_tick e = false
 
 -- a fixed trace has as many reports as its events have ticks
 abbrev pub AsManyAsTicks : Type 0
-AsManyAsTicks = (b : CompiledParts) (events : List Event) (reports : List TickReport) → Trace b (Chosen b) events reports → length reports ≡ count_by is_tick events
+AsManyAsTicks = (b : CompiledModel) (events : List Event) (reports : List TickReport) → Trace b (IsChosenReply b) events reports → length reports ≡ count_by is_tick events

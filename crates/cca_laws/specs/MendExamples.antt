@@ -3,8 +3,8 @@ use Rattle.std.specs.Prelude.{◌≡◌, ◌↔◌, true, false, ℕ, List, [], 
 use Rattle.cca_base.specs.declared.cube.Pair.{Pair}
 use Rattle.cca_base.specs.declared.events.PlanEnd.TheVariants.{Plan}
 use Rattle.cca_base.specs.declared.model.Move.{Move}
-use Rattle.cca_base.specs.Automata.{Automata}
-use Rattle.cca_base.specs.Accepted.{CompiledParts, IsCompiled}
+use Rattle.cca_base.specs.PlantModel.{PlantModel}
+use Rattle.cca_base.specs.Accepted.{CompiledModel, IsCompiled}
 use Rattle.cca_base.specs.Plans.{IsBackGoal, IsRoute}
 use Rattle.cca_base.specs.Steps.{Run, Allowed}
 use Rattle.cca_laws.specs.Examples.{always_true}
@@ -31,7 +31,7 @@ abbrev pub back_move : Move
 back_move = record { component = 1; source = 1; target = 0; command = 4; repair = false; guard = mode_in 0 4 }
 
 -- c is m, ok or z, and starts broken; b is x or y
-abbrev pub mending : Automata
+abbrev pub mending : PlantModel
 mending = record {
   components =
       record { name = codes "c"; modes = codes "m" ∷ codes "ok" ∷ codes "z" ∷ []; start = 0 } ∷ record { name = codes "b"; modes = codes "x" ∷ codes "y" ∷ []; start = 0 } ∷ [];
@@ -59,7 +59,7 @@ abbrev pub b_is_y : Pair
 b_is_y = record { item = 1; value = 1 }
 
 -- the model, compiled: only going back needs something, b comes before its cause c, and two commands and three are enough for c and b
-abbrev pub mending_compiled : CompiledParts
+abbrev pub mending_compiled : CompiledModel
 mending_compiled = record {
   model = mending;
   ways = ([] ∷ []) ∷ ([] ∷ []) ∷ ([] ∷ []) ∷ ([] ∷ []) ∷ ((c_is_z ∷ []) ∷ []) ∷ [];

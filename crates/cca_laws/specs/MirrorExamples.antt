@@ -2,17 +2,17 @@
 use Rattle.std.specs.Prelude.{◌≡◌, ◌⊎◌, ◌↔◌, ℕ, IsTrue, List, [], ◌∷◌}
 use Rattle.cca_base.specs.declared.cube.Pair.{Pair}
 use Rattle.cca_base.specs.declared.events.Event.TheVariants as event
-use Rattle.cca_base.specs.Automata.{Automata}
+use Rattle.cca_base.specs.PlantModel.{PlantModel}
 use Rattle.cca_base.specs.Orders.{IsSorted}
 use Rattle.cca_base.specs.Sets.{has}
-use Rattle.cca_base.specs.Trace.{Situation, start, Changes, AllMayCome, Observed}
+use Rattle.cca_base.specs.Trace.{ExecutiveState, start, Changes, AllMayCome, Observed}
 use Rattle.cca_laws.specs.ValveExamples.{valve_model}
 use Rattle.cca_laws.specs.ObservedExamples.{loose, x_low}
 use Rattle.cca_laws.specs.RightExamples.{no_flow}
 
 -- mirroring a variable adds exactly it to those that are mirrored, and neither the plant nor what is pending changes
 abbrev pub MirrorsJoin : Type 0
-MirrorsJoin = (m : Automata) (order : List ℕ) (x y : Situation) (v : ℕ) → Changes m (IsSorted order) x (event.Mirror v) y
+MirrorsJoin = (m : PlantModel) (order : List ℕ) (x y : ExecutiveState) (v : ℕ) → Changes m (IsSorted order) x (event.Mirror v) y
     → ((u : ℕ) → IsTrue (has y.mirrored u) ↔ ((u ≡ v) ⊎ IsTrue (has x.mirrored u))) × (y.plant ≡ x.plant) × (y.pending ≡ x.pending)
 
 -- after a tick the same may be observed again
@@ -24,7 +24,7 @@ abbrev pub MirrorsOutlastTicks : Type 0
 MirrorsOutlastTicks = AllMayCome loose (IsSorted []) (start loose 0) (event.Mirror 0 ∷ event.Tick ∷ event.Observe (x_low ∷ []) ∷ []) → ⊥
 
 -- the flow is mirrored; the estimate has the driver on and the valve open, and in the plant the driver is off and the valve closed
-abbrev pub misjudged : Situation
+abbrev pub misjudged : ExecutiveState
 misjudged = record (start valve_model 0) { estimate = 1 ∷ 1 ∷ []; plant = 0 ∷ 0 ∷ []; mirrored = 1 }
 
 -- that there is flow

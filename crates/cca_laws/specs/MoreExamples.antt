@@ -6,13 +6,13 @@ use Rattle.cca_base.specs.declared.events.Reply.TheVariants.{Idle}
 use Rattle.cca_base.specs.declared.events.Shown.TheVariants.{Estimated}
 use Rattle.cca_base.specs.Orders.{IsSorted}
 use Rattle.cca_base.specs.Trace.{start, MayBeGoal, MayCome, AllMayCome}
-use Rattle.cca_base.specs.Runs.{Moment, StaysRight}
+use Rattle.cca_base.specs.Runs.{TickRecord, StaysRight}
 use Rattle.cca_laws.specs.ValveExamples.{valve_model}
 use Rattle.cca_laws.specs.ObservedExamples.{loose, x_low}
 use Rattle.cca_laws.specs.RightExamples.{wrong_moment}
 
 -- the first tick, and it is right
-abbrev pub right_moment : Moment
+abbrev pub right_moment : TickRecord
 right_moment = record {
   since = [];
   before = start valve_model 0;

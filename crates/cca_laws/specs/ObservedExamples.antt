@@ -2,12 +2,12 @@
 use Rattle.std.specs.Prelude.{true, [], ◌∷◌, codes}
 use Rattle.cca_base.specs.declared.cube.Pair.{Pair}
 use Rattle.cca_base.specs.declared.events.Event.TheVariants as event
-use Rattle.cca_base.specs.Automata.{Automata}
+use Rattle.cca_base.specs.PlantModel.{PlantModel}
 use Rattle.cca_base.specs.Orders.{IsSorted}
 use Rattle.cca_base.specs.Trace.{start, Changes, Observed}
 
 -- two sensed variables that nothing ties
-abbrev pub loose : Automata
+abbrev pub loose : PlantModel
 loose = record {
   components = [];
   variables =

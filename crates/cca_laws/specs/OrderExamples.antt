@@ -3,7 +3,7 @@ use Rattle.std.specs.Prelude.{◌≡◌, ◌↔◌, ℕ, false, List, [], ◌∷
 use Rattle.cca_base.specs.declared.cube.Pair.{Pair}
 use Rattle.cca_base.specs.declared.formula.Formula.{Formula}
 use Rattle.cca_base.specs.declared.model.Move.{Move}
-use Rattle.cca_base.specs.Automata.{Automata}
+use Rattle.cca_base.specs.PlantModel.{PlantModel}
 use Rattle.cca_base.specs.Implicants.{PrimeImplicant, Needs}
 use Rattle.cca_base.specs.Orders.{IsEffectsFirst}
 use Rattle.cca_laws.specs.FormulaExamples.{mode_in, both, either}
@@ -17,7 +17,7 @@ abbrev pub wordy_move : Move
 wordy_move = record { component = 2; source = 0; target = 1; command = 0; repair = false; guard = wordy_guard }
 
 -- a is p or r, b is n or q, and c is off or on
-abbrev pub wordy : Automata
+abbrev pub wordy : PlantModel
 wordy = record {
   components =
       record { name = codes "a"; modes = codes "p" ∷ codes "r" ∷ []; start = 0 } ∷ record { name = codes "b"; modes = codes "n" ∷ codes "q" ∷ []; start = 0 }

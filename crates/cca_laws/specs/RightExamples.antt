@@ -4,11 +4,11 @@ use Rattle.cca_base.specs.declared.cube.Pair.{Pair}
 use Rattle.cca_base.specs.declared.events.Event.TheVariants as event
 use Rattle.cca_base.specs.declared.events.Reply.TheVariants.{Idle}
 use Rattle.cca_base.specs.declared.events.Shown.TheVariants.{Estimated}
-use Rattle.cca_base.specs.Automata.{Automata}
-use Rattle.cca_base.specs.Accepted.{CompiledParts}
+use Rattle.cca_base.specs.PlantModel.{PlantModel}
+use Rattle.cca_base.specs.Accepted.{CompiledModel}
 use Rattle.cca_base.specs.Orders.{IsSorted}
-use Rattle.cca_base.specs.Trace.{Situation, start, Changes}
-use Rattle.cca_base.specs.Runs.{Moment, StaysRight}
+use Rattle.cca_base.specs.Trace.{ExecutiveState, start, Changes}
+use Rattle.cca_base.specs.Runs.{TickRecord, StaysRight}
 use Rattle.cca_laws.specs.ValveExamples.{valve_model}
 
 -- the observation that nothing flows
@@ -16,7 +16,7 @@ abbrev pub no_flow : List Pair
 no_flow = record { item = 0; value = 0 } ∷ []
 
 -- the first tick, after that observation, with an estimate in which the driver is on; the plant's is off
-abbrev pub wrong_moment : Moment
+abbrev pub wrong_moment : TickRecord
 wrong_moment = record {
   since = event.Observe no_flow ∷ [];
   before = record (start valve_model 0) { pending = no_flow };
@@ -29,15 +29,15 @@ WrongIsNotRight = (ways : List (List (List Pair))) (order bounds : List ℕ)
     → StaysRight (record { model = valve_model; ways = ways; order = order; bounds = bounds }) (wrong_moment ∷ []) → ⊥
 
 -- the same tick after a fault
-abbrev pub faulty_moment : Moment
+abbrev pub faulty_moment : TickRecord
 faulty_moment = record wrong_moment { since = event.Fault (record { item = 0; value = 0 }) ∷ event.Observe no_flow ∷ [] }
 
 -- after a fault a wrong estimate breaks no promise
 abbrev pub FaultsExcuse : Type 0
-FaultsExcuse = (b : CompiledParts) → StaysRight b (faulty_moment ∷ [])
+FaultsExcuse = (b : CompiledModel) → StaysRight b (faulty_moment ∷ [])
 
 -- the same tick after a fault and a reset, and then the observation
-abbrev pub reset_moment : Moment
+abbrev pub reset_moment : TickRecord
 reset_moment = record wrong_moment { since = event.Fault (record { item = 0; value = 0 }) ∷ event.Reset ∷ event.Observe no_flow ∷ [] }
 
 -- a reset takes the excuse away again
@@ -47,4 +47,4 @@ ResetsEndExcuses = (ways : List (List (List Pair))) (order bounds : List ℕ)
 
 -- a reset keeps the number of the tick
 abbrev pub ResetKeepsTicks : Type 0
-ResetKeepsTicks = (m : Automata) (order : List ℕ) (x y : Situation) → Changes m (IsSorted order) x event.Reset y → y.ticks ≡ x.ticks
+ResetKeepsTicks = (m : PlantModel) (order : List ℕ) (x y : ExecutiveState) → Changes m (IsSorted order) x event.Reset y → y.ticks ≡ x.ticks

@@ -4,7 +4,7 @@ use Rattle.cca_base.specs.declared.formula.Formula.{Formula, roll-Formula}
 use Rattle.cca_base.specs.declared.formula.Formula.TheOpen.{Formula-F}
 use Rattle.cca_base.specs.declared.formula.Subject.TheVariants.{Variable}
 use Rattle.cca_base.specs.declared.model.Move.{Move}
-use Rattle.cca_base.specs.Automata.{Automata}
+use Rattle.cca_base.specs.PlantModel.{PlantModel}
 use Rattle.cca_base.specs.Model.{WellFormed, IsComplete, is_broken, IsMended, with_component, with_command, with_move}
 use Rattle.cca_base.specs.State.{Holds, Follows}
 use Rattle.cca_base.specs.Steps.{Step, Allowed, support}
@@ -36,7 +36,7 @@ abbrev pub flow_rule : Formula
 flow_rule = roll-Formula (Formula-F.Iff (flow_in 2) (mode_in 1 2))
 
 -- the valve and its driver
-abbrev pub valve_model : Automata
+abbrev pub valve_model : PlantModel
 valve_model = record {
   components =
       record { name = codes "drv"; modes = codes "off" ∷ codes "on" ∷ []; start = 0 }
@@ -72,7 +72,7 @@ abbrev pub arm_move : Move
 arm_move = record { component = 2; source = 0; target = 1; command = 5; repair = false; guard = flow_in 1 }
 
 -- the valve with an engine
-abbrev pub engine_model : Automata
+abbrev pub engine_model : PlantModel
 engine_model =
     with_move (with_command (with_component valve_model (record { name = codes "eng"; modes = codes "off" ∷ codes "armed" ∷ []; start = 0 })) (codes "eng_arm")) arm_move
 
@@ -85,7 +85,7 @@ abbrev pub ClosedIsLeanedOn : Type 0
 ClosedIsLeanedOn = Step engine_model (1 ∷ 0 ∷ 0 ∷ []) 5 (1 ∷ 0 ∷ 1 ∷ [])
 
 -- the valve without a way to close it again
-abbrev pub no_way_back : Automata
+abbrev pub no_way_back : PlantModel
 no_way_back = record valve_model {
   commands = codes "drv_on" ∷ codes "drv_off" ∷ codes "v_open" ∷ codes "v_reset" ∷ [];
   moves = on_move ∷ off_move ∷ open_move ∷ record { component = 1; source = 2; target = 0; command = 3; repair = true; guard = driver_on } ∷ [];

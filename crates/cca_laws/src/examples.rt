@@ -4,7 +4,7 @@ ghost use Rattle.cca_laws.specs.Examples.{EmptyTicks, LampIsLit};
 ghost use Rattle.cca_laws.specs.FormulaExamples.{DepthIsSeven, ChoicesOfTwo, OnePartDoesNotFit, NoneAmongDoesNotFit};
 ghost use Rattle.cca_laws.specs.ValveExamples.{ValveIsWellFormed, DriverComesOn, StuckMends, OpeningNeedsDriver, StuckIsNotLeanedOn, ClosedIsLeanedOn, OpeningForGood, OpeningIsAllowed};
 ghost use Rattle.cca_laws.specs.CostExamples.{OpeningIsFree, StayingShutCosts, StandingIsFree, TwoForOne};
-ghost use Rattle.cca_laws.specs.EdgeExamples.{WhichAreNames, ForeignFailure, CostsAtTheEdge, OutOfFirstUse, WhichAreChoices, SixteenAreChoices, SeventeenAreTooMany};
+ghost use Rattle.cca_laws.specs.EdgeExamples.{WhichAreNames, ForeignFailure, CostsAtTheEdge, OutOfFirstUse, WhichAreChoices, MostAreChoices, OneMoreIsTooMany};
 ghost use Rattle.cca_laws.specs.OrderExamples.{OneImplicant, OneNeed, CauseComesLast};
 ghost use Rattle.cca_laws.specs.ObservedExamples.{PendingRises, NothingMirrored, GoalIsTurned};
 ghost use Rattle.cca_laws.specs.ServeExamples.{OneOfOne, TwoOfOne, TooLate, NoneAfter, NotLost, LampIsPromised, LostBeginsNone};
@@ -61,8 +61,8 @@ pub fn edges()
     ensures costs { CostsAtTheEdge }
     ensures first_use { OutOfFirstUse }
     ensures choices { WhichAreChoices }
-    ensures sixteen { SixteenAreChoices }
-    ensures seventeen { SeventeenAreTooMany }
+    ensures most { MostAreChoices }
+    ensures one_more { OneMoreIsTooMany }
 {}
 
 /// Right and wrong estimates.

@@ -1,3 +1,3 @@
-pub mod ClauseLemmas
+pub mod ClauseLaws
 pub mod Subjects
-pub mod ModelLemmas
+pub mod ModelSizes

@@ -1,5 +1,5 @@
 -- The values of subjects, components first, and the connectives by clauses.
-use Rattle.std.proofs.Common.{◌≡◌, ℕ, ◌+◌, ◌<◌, ◌&&◌, ◌||◌, ltb, Bool, true, false, not, List, ◌++◌, length, slice_index, if◌then◌else◌, sym, ap, ◌∙◌, refl, arith, Result, Ok, Err, IfOk}
+use Rattle.std.proofs.Common.{◌≡◌, ℕ, ◌+◌, ◌<◌, ◌&&◌, ◌||◌, ltb, Bool, true, false, not, List, ◌++◌, length, slice_index, if◌then◌else◌, sym, ap, ◌∙◌, refl, arith}
 use Rattle.std.proofs.lemmas.Bool.{ltb-true, lt-ltb}
 use Rattle.std.proofs.lemmas.List.{get_or_append_left, get_or-append-add}
 use Rattle.cca_base.specs.Formula.{truth, truth_step, subject_value, subject_within}
@@ -19,10 +19,6 @@ pub at_subject : (components variables : ℕ) (s : Subject) (modes values : List
 at_subject components variables (Component k) modes values h e = let lt = ltb-true k components h in let lt' : k < length modes = omega arith in get_or_append_left modes values 0 k lt'
 at_subject components variables (Variable v) modes values h e = ap (λ (n : ℕ). slice_index (modes ++ values) (n + v)) (sym e) ∙ get_or-append-add modes values v 0
 
-pub weaker : {E A : Type 0} (r : Result A E) (P Q : A → Type 0) → ((a : A) → P a → Q a) → IfOk r P → IfOk r Q
-weaker (Ok a) P Q f h = f a h
-weaker (Err e) P Q f h = h
-
 and_is_true : (a b : Bool) → b ≡ true → (a && b) ≡ a
 and_is_true true b h = h
 and_is_true false b h = refl
@@ -36,14 +32,14 @@ pub used_false : (wanted : Bool) (set used others m : ℕ) → wanted ≡ false 
 used_false wanted set used others m h e k = rw h (ap (λ (s : ℕ). has s m) e ∙ k)
 
 -- an implication is one of two, and its opposite both
-pub implies_truth : (wanted x y : Bool) → combine (not wanted) (agrees (not wanted) x) (agrees wanted y) ≡ agrees wanted (not x || y)
+implies_truth : (wanted x y : Bool) → combine (not wanted) (agrees (not wanted) x) (agrees wanted y) ≡ agrees wanted (not x || y)
 implies_truth true x y = refl
 implies_truth false true true = refl
 implies_truth false true false = refl
 implies_truth false false true = refl
 implies_truth false false false = refl
 
-pub iff_truth : (wanted x y : Bool) → combine true (combine false (agrees false x) (agrees wanted y)) (combine false (agrees true x) (agrees (not wanted) y)) ≡ agrees wanted (if x then y else not y)
+iff_truth : (wanted x y : Bool) → combine true (combine false (agrees false x) (agrees wanted y)) (combine false (agrees true x) (agrees (not wanted) y)) ≡ agrees wanted (if x then y else not y)
 iff_truth true true true = refl
 iff_truth true true false = refl
 iff_truth true false true = refl

@@ -2,7 +2,7 @@
 use Rattle.std.specs.Prelude.{◌≡◌, ◌==◌, ℕ, Bool, true, false, not, ◌&&◌, ◌||◌, ◌+◌, ◌++◌, length, List, Option, Some, None, slice_index}
 use Rattle.std.specs.List.{list_all}
 use Rattle.cca_base.specs.Sets.{has}
-use Rattle.cca_base.specs.Automata.{Automata}
+use Rattle.cca_base.specs.PlantModel.{PlantModel}
 use Rattle.cca_base.specs.Model.{mode_counts, value_counts}
 use Rattle.cca_base.specs.Formula.{truth, subject_value}
 use Rattle.cca_base.specs.declared.cube.Pair.{Pair}
@@ -24,18 +24,18 @@ is_denied modes values None = true
 is_denied modes values (Some f) = not (truth modes values f)
 
 -- every rule is true, the fixed pair stands, and the denied formula is false
-abbrev pub is_asked : Automata → Option Pair → Option Formula → List ℕ → List ℕ → Bool
+abbrev pub is_asked : PlantModel → Option Pair → Option Formula → List ℕ → List ℕ → Bool
 is_asked m fixed denied modes values = list_all (truth modes values) m.rules && has_fixed modes fixed && is_denied modes values denied
 
 -- clauses over the components and then the variables, which are all true exactly where what is asked is
-pub record AreClausesOf (m : Automata) (fixed : Option Pair) (denied : Option Formula) (c : Clauses) : Type 0 where
+pub record AreClausesOf (m : PlantModel) (fixed : Option Pair) (denied : Option Formula) (c : Clauses) : Type 0 where
   pub sizes : c.sizes ≡ mode_counts m ++ value_counts m
   pub proper : AreClauses c
   pub meaning : (modes values : List ℕ) → AreValues (mode_counts m) modes → AreValues (value_counts m) values
       → all_met (modes ++ values) c.clauses ≡ is_asked m fixed denied modes values
 
 -- clauses over the components and then the variables, which are all true exactly where the formula is false
-pub record AreDenying (m : Automata) (f : Formula) (c : Clauses) : Type 0 where
+pub record AreDenying (m : PlantModel) (f : Formula) (c : Clauses) : Type 0 where
   pub sizes : c.sizes ≡ mode_counts m ++ value_counts m
   pub proper : AreClauses c
   pub meaning : (modes values : List ℕ) → AreValues (mode_counts m) modes → AreValues (value_counts m) values

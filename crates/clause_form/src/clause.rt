@@ -1,3 +1,5 @@
+//! Clauses over subjects with few values each, and what their invariants are.
+
 use cca_base::{List, ValueSet};
 
 /// A subject that has one of the values. Subjects are numbered from 0.

@@ -1,7 +1,9 @@
+//! Formulas to clauses, by distribution, with subsumed clauses dropped as they come.
+
 ghost use Rattle.std.specs.Prelude.{◌≡◌, ℕ, List, ◌+◌, ◌-◌, ◌<◌, ◌≤◌, ◌^◌, length, IfOk, IsTrue, All, not, slice_index};
 ghost use Rattle.cca_base.specs.Formula.{is_within, subject_within};
 ghost use Rattle.cca_base.specs.Sets.{has};
-ghost use Rattle.cca_base.specs.declared.limits.TheConstants.{MAX_CHOICES};
+ghost use Rattle.cca_base.specs.declared.limits.TheConstants.{MAX_CHOICES, MAX_SUBJECTS};
 ghost use Rattle.clause_form.specs.Clauses.{AreValues, all_met, AllBelow};
 ghost use Rattle.clause_form.specs.Formulas.{subject_number, Means, MeansAmong};
 
@@ -27,7 +29,7 @@ fn complement(size: u8, set: ValueSet) -> ValueSet
 /// The number of a component or a variable among the subjects.
 fn number(components: u16, subjects: usize, subject: Subject) -> u16
     requires split { components ≤ subjects }
-    requires few { subjects < 2 ^ 16 }
+    requires few { subjects ≤ MAX_SUBJECTS }
     requires within { IsTrue (subject_within components (subjects - components) subject) }
     ensures value { result ≡ subject_number components subject }
     ensures inside { result < subjects }
@@ -82,7 +84,7 @@ fn among(
 ) -> Result<Vec<Clause>, AllocError>
     requires few { All (λ n. n ≤ MAX_CHOICES) sizes.now }
     requires split { components ≤ length sizes.now }
-    requires numbered { length sizes.now < 2 ^ 16 }
+    requires numbered { length sizes.now ≤ MAX_SUBJECTS }
     requires within { IsTrue (subject_within components (length sizes.now - components) subject) }
     ensures means { IfOk result (λ r. MeansAmong components sizes.now subject set wanted r.items) }
     ensures below { IfOk result (λ r. AllBelow (length sizes.now) r.items) }
@@ -107,7 +109,7 @@ pub fn clauses_where(
 ) -> Result<Vec<Clause>, AllocError>
     requires few { All (λ n. n ≤ MAX_CHOICES) sizes.now }
     requires split { components ≤ length sizes.now }
-    requires numbered { length sizes.now < 2 ^ 16 }
+    requires numbered { length sizes.now ≤ MAX_SUBJECTS }
     requires within { IsTrue (is_within components (length sizes.now - components) formula.now) }
     ensures means { IfOk result (λ r. Means components sizes.now formula.now wanted r.items) }
     ensures below { IfOk result (λ r. AllBelow (length sizes.now) r.items) }

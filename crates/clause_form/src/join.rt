@@ -1,30 +1,32 @@
+//! Clauses of two parts joined: all of both, or each of the one with each of the other.
+
 ghost use Rattle.std.specs.Prelude.{◌≡◌, ℕ, List, ◌&&◌, ◌||◌, ◌≤◌, length, All, IfOk, OnOk, IsTrue};
 ghost use Rattle.cca_base.specs.declared.limits.TheConstants.{MAX_CHOICES};
 ghost use Rattle.clause_form.specs.Clauses.{AreValues, is_met, all_met, AreBelow, AllBelow};
 ghost use Rattle.clause_form.specs.Formulas.{combine};
 
-use crate::absorb::{absorbs, is_always_met};
 use crate::clause::{Clause, Literal};
-use crate::literals::either;
+use crate::literals::disjoined;
+use crate::subsumption::{is_always_met, subsumes};
 use cca_base::List;
 use std::alloc::{AllocError, Global};
 
-/// Whether one of the clauses absorbs this one.
+/// Whether one of the clauses subsumes this one.
 fn is_absorbed(clauses: &[Clause], literals: &[Literal]) -> bool
     ensures { IsTrue result → (xs : List ℕ) → IsTrue (all_met xs clauses.now) → IsTrue (is_met xs literals.now) }
 {
     for clause in clauses {
-        if absorbs(clause.literals.as_slice(), literals) {
+        if subsumes(clause.literals.as_slice(), literals) {
             return true;
         }
     }
     false
 }
 
-/// Whether this clause absorbs one of the others.
+/// Whether this clause subsumes one of the others.
 fn absorbs_some(literals: &[Literal], clauses: &[Clause]) -> bool {
     for clause in clauses {
-        if absorbs(literals, clause.literals.as_slice()) {
+        if subsumes(literals, clause.literals.as_slice()) {
             return true;
         }
     }
@@ -46,7 +48,7 @@ fn without_absorbed(
     }
     let mut kept = Vec::new(alloc);
     for clause in clauses {
-        if !absorbs(literals, clause.literals.as_slice()) {
+        if !subsumes(literals, clause.literals.as_slice()) {
             kept.push(clause)?;
         }
     }
@@ -93,7 +95,7 @@ fn add_row(
 {
     let mut all = clauses;
     for clause in more {
-        let wider = either(alloc, one, clause)?;
+        let wider = disjoined(alloc, one, clause)?;
         all = with_clause(alloc, sizes, all, wider)?;
     }
     Ok(all)

@@ -2,12 +2,12 @@
 //! rules are, a given pair stands and a given formula is false, or exactly where a formula alone is false.
 #![tactic(auto)]
 
-mod absorb;
 mod clause;
 mod convert;
 mod join;
 mod literals;
 mod sizes;
+mod subsumption;
 mod whole;
 
 pub use clause::{Clause, Clauses, Literal};

@@ -1,3 +1,5 @@
+//! Literals, and the clause that is true where one of two is.
+
 ghost use Rattle.std.specs.Prelude.{◌≡◌, ℕ, List, ◌<◌, ◌||◌, IfOk, OnOk};
 ghost use Rattle.clause_form.specs.Clauses.{is_true, is_met, AreBelow};
 
@@ -26,7 +28,7 @@ pub fn add_literal(literals: &mut List<Literal>, literal: Literal) -> Result<(),
 }
 
 /// True where one of the two is.
-pub fn either(alloc: Global, a: &Clause, b: &Clause) -> Result<Clause, AllocError>
+pub fn disjoined(alloc: Global, a: &Clause, b: &Clause) -> Result<Clause, AllocError>
     ensures met { IfOk result (λ c. (xs : List ℕ) → is_met xs c.literals ≡ (is_met xs a.now.literals || is_met xs b.now.literals)) }
     ensures below { IfOk result (λ c. (n : ℕ) → AreBelow n a.now.literals → AreBelow n b.now.literals → AreBelow n c.literals) }
 {

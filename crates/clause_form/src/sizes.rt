@@ -1,3 +1,5 @@
+//! How many values each component and each variable has.
+
 ghost use Rattle.std.specs.Prelude.{◌≡◌, ◌≤◌, ◌++◌, length, map, All, IfOk, OnOk};
 ghost use Rattle.cca_base.specs.Model.{mode_counts, value_counts};
 ghost use Rattle.cca_base.specs.declared.limits.TheConstants.{MAX_CHOICES};

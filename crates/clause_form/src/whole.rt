@@ -1,9 +1,11 @@
+//! The clauses of a model's rules, and of a formula that is denied.
+
 ghost use Rattle.std.specs.Prelude.{◌≡◌, ◌==◌, ◌+◌, ◌-◌, ◌<◌, ◌≤◌, ◌^◌, length, slice_index, All, IfOk, OnOk, IsTrue};
 ghost use Rattle.std.specs.List.{list_all};
 ghost use Rattle.std.specs.Option.{ForSome, option_copied};
 ghost use Rattle.cca_base.specs.Formula.{truth, is_within};
 ghost use Rattle.cca_base.specs.Model.{HasMode};
-ghost use Rattle.cca_base.specs.declared.limits.TheConstants.{MAX_CHOICES};
+ghost use Rattle.cca_base.specs.declared.limits.TheConstants.{MAX_CHOICES, MAX_SUBJECTS};
 ghost use Rattle.clause_form.specs.Formulas.{Adds, agrees, has_fixed, is_denied, AreClausesOf, AreDenying};
 ghost use Rattle.clause_form.specs.Clauses.{AllBelow};
 
@@ -24,7 +26,7 @@ fn add_formula(
 ) -> Result<(), AllocError>
     requires few { All (λ n. n ≤ MAX_CHOICES) sizes.now }
     requires split { components ≤ length sizes.now }
-    requires numbered { length sizes.now < 2 ^ 16 }
+    requires numbered { length sizes.now ≤ MAX_SUBJECTS }
     requires within { IsTrue (is_within components (length sizes.now - components) formula.now) }
     requires below { AllBelow (length sizes.now) clauses.old }
     ensures adds { OnOk result (Adds components sizes.now (λ modes values. agrees wanted (truth modes values formula.now)) clauses.old clauses.new) }
@@ -46,7 +48,7 @@ fn add_rules(
 ) -> Result<(), AllocError>
     requires few { All (λ n. n ≤ MAX_CHOICES) sizes.now }
     requires split { components ≤ length sizes.now }
-    requires numbered { length sizes.now < 2 ^ 16 }
+    requires numbered { length sizes.now ≤ MAX_SUBJECTS }
     requires within { All (λ rule. IsTrue (is_within components (length sizes.now - components) rule)) rules.now }
     requires below { AllBelow (length sizes.now) clauses.old }
     ensures adds { OnOk result (Adds components sizes.now (λ modes values. list_all (truth modes values) rules.now) clauses.old clauses.new) }
@@ -111,7 +113,7 @@ fn add_denied(
 ) -> Result<(), AllocError>
     requires few { All (λ n. n ≤ MAX_CHOICES) sizes.now }
     requires split { components ≤ length sizes.now }
-    requires numbered { length sizes.now < 2 ^ 16 }
+    requires numbered { length sizes.now ≤ MAX_SUBJECTS }
     requires within { ForSome denied (λ f. IsTrue (is_within components (length sizes.now - components) f.now)) }
     requires below { AllBelow (length sizes.now) clauses.old }
     ensures adds { OnOk result (Adds components sizes.now (λ modes values. is_denied modes values (option_copied denied.entry)) clauses.old clauses.new) }

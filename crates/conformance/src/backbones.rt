@@ -1,3 +1,5 @@
+//! Values that all worlds of a state have.
+
 use crate::parts::*;
 use crate::worlds::tied_model;
 use cca_base::*;

@@ -1,74 +1,32 @@
 //! Classes of modes with a way back, and the cells of tables, on small models.
 
-ghost use Rattle.std.specs.Prelude.{◌≡◌, ◌<◌, IfOk};
-ghost use Rattle.cca_base.specs.State.{IsState};
+ghost use Rattle.std.specs.Prelude.{◌≡◌, ◌<◌};
 
-use crate::parts::has_mode;
-use acceptance::accept;
+use crate::parts::{STICKING_VALVE, compiled_text, has_mode};
+use crate::tabled::{classes_around, state_of};
 use cca_base::*;
-use model_syntax::ModelReader;
 use policy_tables::{Cell, Tables};
 use reversibility::Classes;
 use std::alloc::Global;
 use std::marker::Brand;
 use std::process::Abort;
-use std::rc::Rc;
 use std::sync::ledger::{Blank, Ledger};
 use std::test::*;
 
-/// What is compiled of the model of this text.
-fn compiled_of(alloc: Global, text: &str) -> Result<Rc<Compiled>, Fail> {
-    let mut reader = ModelReader::open(alloc)?;
-    let mut refused = false;
-    for line in text.lines() {
-        refused = reader.line(line.as_bytes()).is_err() || refused;
-    }
-    let model = reader.finish();
-    if refused {
-        return Err(Fail::from("a line is refused"));
-    }
-    match accept(alloc, model) {
-        Ok(compiled) => Ok(Rc::new(alloc, compiled)?),
-        Err(_) => Err(Fail::from("not accepted")),
-    }
-}
-
-/// The state with these modes.
-fn state_of(alloc: Global, model: &Model, modes: &[u8]) -> Result<State, Fail>
-    ensures { IfOk result (λ s. IsState model.now s.modes) }
-{
-    let Ok(n) = u16::try_from(modes.len()) else {
-        return Err(Fail::from("too many modes"));
-    };
-    for c in 0..n {
-        if !has_mode(model, c, modes[c as usize]) {
-            return Err(Fail::from("no such mode"));
-        }
-    }
-    if modes.len() != model.components().len() {
-        return Err(Fail::from("no mode of each component"));
-    }
-    Ok(State {
-        modes: List::of(Vec::from_slice(alloc, modes)?),
-    })
-}
-
 /// The classes of the model of this text around the state with these modes.
 fn classes_of(alloc: Global, text: &str, modes: &[u8]) -> Result<Classes, Fail> {
-    let compiled = compiled_of(alloc, text)?;
-    let state = state_of(alloc, compiled.model(), modes)?;
-    Ok(Classes::of(alloc, &compiled, &state)?)
+    classes_around(alloc, compiled_text(alloc, text)?, modes)
 }
 
 /// Asserts that the component's class has exactly these modes, and whether the component is mendable.
 fn assert_class(
     rt: &impl Abort,
     classes: &Classes,
-    c: u16,
+    component: u16,
     modes: &[u8],
     mendable: bool,
 ) -> Result<(), Fail> {
-    if c as usize >= classes.compiled().model().components().len() {
+    if component as usize >= classes.compiled().model().components().len() {
         return Err(Fail::from("no such component"));
     }
     let mut set = ValueSet::empty();
@@ -78,8 +36,8 @@ fn assert_class(
         }
         set = set.with(*mode);
     }
-    assert_eq!(rt; classes.class(c), set, "the class");
-    assert_eq!(rt; classes.mendable(c), mendable, "mendable");
+    assert_eq!(rt; classes.class(component), set, "the class");
+    assert_eq!(rt; classes.mendable(component), mendable, "mendable");
     Ok(())
 }
 
@@ -146,14 +104,10 @@ fn assert_step(
     }
 }
 
-/// A driver and the valve that it powers.
-const VALVE: &str =
-    "titan 1\ncomponent drv = off, on start off\ncomponent valve = closed, open, stuck start closed\nmove drv off -> on by drv_on when true\nmove drv on -> off by drv_off when true\nmove valve closed -> open by v_open when drv = on\nmove valve open -> closed by v_close when drv = on\nrepair valve stuck -> closed by v_reset when drv = on\n";
-
 #[test]
 fn a_stuck_valve_is_mended_first(rt: HostRuntime) -> Result<(), Fail> {
     let alloc = rt.alloc();
-    let classes = classes_of(alloc, VALVE, &[0, 2])?;
+    let classes = classes_of(alloc, STICKING_VALVE, &[0, 2])?;
     assert_class(&rt, &classes, 0, &[0, 1], false)?;
     assert_class(&rt, &classes, 1, &[0, 1], true)?;
     assert_covers(&rt, alloc, &classes, &[1, 0], true)?;

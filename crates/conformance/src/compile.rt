@@ -1,10 +1,11 @@
 //! From rules and guards to ways, order and bounds: projection, prime implicants, ancestors, and goals in effects-first order.
 ghost use Rattle.std.specs.Prelude.{◌<◌, ◌≤◌, All, IfOk, length};
+ghost use Rattle.cca_base.specs.declared.limits.TheConstants.{MAX_COMPONENTS};
 ghost use Rattle.cca_base.specs.Cube.{IsCube};
 ghost use Rattle.causal_graph.specs.Needs.{AreRows};
 
 use crate::parts::*;
-use acceptance::{accept, first_worldless};
+use acceptance::first_worldless;
 use causal_graph::{Order, ancestors, order, sort_goal};
 use cca_base::*;
 use clause_form::{Clauses, clauses_of};
@@ -64,7 +65,7 @@ fn primes_of(alloc: Global, rows: &[&[(u16, ValueSet)]], most: u32) -> Result<Pr
 fn the_one_cube_or_more_than_none(rt: HostRuntime) -> Result<(), Fail> {
     let alloc = rt.alloc();
     let clause: [&[(u16, ValueSet)]; 1] = [&[(0, one(0).union(one(1)))]];
-    match primes_of(alloc, &clause, 256)? {
+    match primes_of(alloc, &clause, MAX_WAYS as u32)? {
         Primes::Every(cubes) => {
             let [cube] = cubes.as_slice() else {
                 return Err(Fail::from("not one cube"));
@@ -74,7 +75,7 @@ fn the_one_cube_or_more_than_none(rt: HostRuntime) -> Result<(), Fail> {
         Primes::More => assert!(rt; false, "more than one"),
     }
     assert!(rt; matches!(primes_of(alloc, &clause, 0)?, Primes::More));
-    match primes_of(alloc, &[], 256)? {
+    match primes_of(alloc, &[], MAX_WAYS as u32)? {
         Primes::Every(cubes) => assert_eq!(rt; cubes.len(), 0),
         Primes::More => assert!(rt; false, "more than none"),
     }
@@ -126,10 +127,10 @@ fn row_of(alloc: Global, numbers: &[u16], n: usize) -> Result<List<u16>, Fail>
 
 /// The rows, of which there are few, and whose numbers are all those of rows.
 fn rows_of(alloc: Global, lists: &[&[u16]]) -> Result<List<List<u16>>, Fail>
-    ensures few { IfOk result (λ rows. length rows ≤ 256) }
+    ensures few { IfOk result (λ rows. length rows ≤ MAX_COMPONENTS) }
     ensures rows { IfOk result AreRows }
 {
-    if lists.len() > 256 {
+    if lists.len() > MAX_COMPONENTS {
         return Err(Fail::from("too many rows"));
     }
     let mut rows = List::new(alloc);
@@ -153,14 +154,14 @@ fn assert_ancestors(
     rt: &impl Abort,
     alloc: Global,
     lists: &[&[u16]],
-    c: u16,
+    component: u16,
     list: &[u16],
 ) -> Result<(), Fail> {
     let rows = rows_of(alloc, lists)?;
-    if c as usize >= rows.len() {
+    if component as usize >= rows.len() {
         return Err(Fail::from("no such row"));
     }
-    let found = ancestors(alloc, &rows, c)?;
+    let found = ancestors(alloc, &rows, component)?;
     assert_eq!(rt; found.as_slice(), list);
     Ok(())
 }
@@ -184,10 +185,7 @@ fn compiled_valve(alloc: Global) -> Result<Compiled, Fail> {
         "component valve = closed, open, stuck start closed",
         "move valve closed -> open by v_open when drv = on",
     ];
-    match accept(alloc, model_of(alloc, &lines)?) {
-        Ok(compiled) => Ok(compiled),
-        Err(_) => Err(Fail::from("not accepted")),
-    }
+    compiled_of(alloc, &lines)
 }
 
 /// Modes of different components of the model.

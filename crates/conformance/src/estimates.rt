@@ -3,8 +3,7 @@
 ghost use Rattle.std.specs.Prelude.{IfOk};
 ghost use Rattle.cca_base.specs.Choices.{AreRows};
 
-use crate::parts::{model_of, seen};
-use acceptance::accept;
+use crate::parts::{STICKING_VALVE, compiled_of, compiled_text, seen};
 use cca_base::*;
 use cost_search::Search;
 use mode_estimator::{Estimate, estimate};
@@ -13,40 +12,11 @@ use std::process::Abort;
 use std::test::*;
 use successors::{Plant, choices};
 
-/// What is compiled of these lines.
-fn compiled_of(alloc: Global, lines: &[&str]) -> Result<Compiled, Fail> {
-    match accept(alloc, model_of(alloc, lines)?) {
-        Ok(compiled) => Ok(compiled),
-        Err(_) => Err(Fail::from("not accepted")),
-    }
-}
-
-/// A valve that sticks, with the driver that it needs.
-fn sticking_valve(alloc: Global) -> Result<Compiled, Fail> {
-    compiled_of(
-        alloc,
-        &[
-            "titan 1",
-            "component drv = off, on start off",
-            "component valve = closed, open, stuck start closed",
-            "var flow = none, some sensed",
-            "rule flow = some iff valve = open",
-            "move drv off -> on by drv_on when true",
-            "move drv on -> off by drv_off when true",
-            "move valve closed -> open by v_open when drv = on",
-            "move valve open -> closed by v_close when drv = on",
-            "repair valve stuck -> closed by v_reset when drv = on",
-            "fail valve closed -> stuck cost 4",
-            "fail valve open -> stuck cost 6",
-        ],
-    )
-}
-
 /// What the valve may become where it is to open and its driver is on.
 fn opening(alloc: Global) -> Result<Choices, Fail>
     ensures { IfOk result (λ c. AreRows c.rows) }
 {
-    let compiled = sticking_valve(alloc)?;
+    let compiled = compiled_text(alloc, STICKING_VALVE)?;
     let mut plant = Plant::open(alloc, &compiled)?;
     plant.command(&compiled, 0);
     Ok(choices(alloc, &compiled, plant.state(), Some(2))?)
@@ -163,7 +133,7 @@ fn two_cheap_failures_cost_less_than_a_dear_one(rt: HostRuntime) -> Result<(), F
 
 #[test]
 fn no_failure_opens_the_valve(rt: HostRuntime) -> Result<(), Fail> {
-    let compiled = sticking_valve(rt.alloc())?;
+    let compiled = compiled_text(rt.alloc(), STICKING_VALVE)?;
     assert_estimate(&rt, rt.alloc(), &compiled, &[(0, 1)], None)
 }
 
@@ -184,19 +154,10 @@ fn text_of_many(alloc: Global, count: u16) -> Result<String, Fail> {
     Ok(text)
 }
 
-/// What is compiled of them.
-fn many(alloc: Global, count: u16) -> Result<Compiled, Fail> {
-    let text = text_of_many(alloc, count)?;
-    let mut lines = Vec::new(alloc);
-    for line in text.as_str().split('\n') {
-        lines.push(line)?;
-    }
-    compiled_of(alloc, lines.as_slice())
-}
-
 #[test]
 fn thirty_failures_come_at_once(rt: HostRuntime) -> Result<(), Fail> {
-    let compiled = many(rt.alloc(), 30)?;
+    let text = text_of_many(rt.alloc(), 30)?;
+    let compiled = compiled_text(rt.alloc(), &text)?;
     let mut observed = Vec::new(rt.alloc());
     for v in 0..30 {
         observed.push((v, 1))?;

@@ -1,10 +1,14 @@
+//! Models, states and clauses that the tests share.
+
 ghost use Rattle.std.specs.Prelude.{◌≡◌, ◌<◌, ◌≤◌, ◌↔◌, All, IfOk, IsTrue, length};
+ghost use Rattle.cca_base.specs.declared.limits.TheConstants.{MAX_CHOICES};
 ghost use Rattle.cca_base.specs.Cube.{Lacks};
 ghost use Rattle.cca_base.specs.Formula.{is_within, subject_within};
 ghost use Rattle.cca_base.specs.Model.{HasMode, IsComplete};
 ghost use Rattle.cca_base.specs.State.{HasValue};
 ghost use Rattle.clause_form.specs.Clauses.{AreClauses};
 
+use acceptance::accept;
 use cca_base::*;
 use clause_form::{Clause, Clauses, Literal};
 use model_syntax::ModelReader;
@@ -27,6 +31,44 @@ pub fn model_of(alloc: Global, lines: &[&str]) -> Result<Model, Fail>
     Ok(model)
 }
 
+/// What is compiled of the model.
+pub fn accepted(alloc: Global, model: Model) -> Result<Compiled, Fail>
+    requires { IsComplete model }
+{
+    match accept(alloc, model) {
+        Ok(compiled) => Ok(compiled),
+        Err(_) => Err(Fail::from("not accepted")),
+    }
+}
+
+/// What is compiled of the model of these lines.
+pub fn compiled_of(alloc: Global, lines: &[&str]) -> Result<Compiled, Fail> {
+    accepted(alloc, model_of(alloc, lines)?)
+}
+
+/// What is compiled of the model of this text.
+pub fn compiled_text(alloc: Global, text: &str) -> Result<Compiled, Fail> {
+    let mut lines = Vec::new(alloc);
+    for line in text.lines() {
+        lines.push(line)?;
+    }
+    compiled_of(alloc, lines.as_slice())
+}
+
+/// A valve that sticks, with the driver that it needs.
+pub const STICKING_VALVE: &str = "titan 1
+component drv = off, on start off
+component valve = closed, open, stuck start closed
+var flow = none, some sensed
+rule flow = some iff valve = open
+move drv off -> on by drv_on when true
+move drv on -> off by drv_off when true
+move valve closed -> open by v_open when drv = on
+move valve open -> closed by v_close when drv = on
+repair valve stuck -> closed by v_reset when drv = on
+fail valve closed -> stuck cost 4
+fail valve open -> stuck cost 6";
+
 /// A driver, a valve, and a flow that is there where the valve is open.
 pub fn valve_model(alloc: Global) -> Result<Model, Fail> {
     model_of(
@@ -42,11 +84,12 @@ pub fn valve_model(alloc: Global) -> Result<Model, Fail> {
 }
 
 /// Whether the component has the mode.
-pub fn has_mode(model: &Model, c: u16, mode: u8) -> bool
-    ensures { IsTrue result → HasMode model.now c mode }
+pub fn has_mode(model: &Model, component: u16, mode: u8) -> bool
+    ensures { IsTrue result → HasMode model.now component mode }
 {
     let components = model.components();
-    (c as usize) < components.len() && (mode as usize) < components.get(c as usize).modes.len()
+    (component as usize) < components.len()
+        && (mode as usize) < components.get(component as usize).modes.len()
 }
 
 fn has_value(model: &Model, v: u16, value: u8) -> bool
@@ -56,10 +99,10 @@ fn has_value(model: &Model, v: u16, value: u8) -> bool
     (v as usize) < variables.len() && (value as usize) < variables.get(v as usize).values.len()
 }
 
-pub fn lacks(pairs: &[Pair], c: u16) -> bool
-    ensures { IsTrue result → Lacks c pairs.now }
+pub fn lacks(pairs: &[Pair], component: u16) -> bool
+    ensures { IsTrue result → Lacks component pairs.now }
 {
-    pairs.iter().all(|p| p.item != c)
+    pairs.iter().all(|p| p.item != component)
 }
 
 /// These modes of the model's components.
@@ -109,7 +152,7 @@ fn is_in(model: &Model, subject: Subject) -> bool
 pub fn is(model: &Model, subject: Subject, value: u8) -> Result<Formula, Fail>
     ensures { IfOk result (λ f. IsTrue (is_within (length model.now.components) (length model.now.variables) f)) }
 {
-    if value >= 16 || !is_in(model, subject) {
+    if value as usize >= MAX_CHOICES || !is_in(model, subject) {
         return Err(Fail::from("no such value"));
     }
     Ok(Formula::Among {
@@ -119,9 +162,9 @@ pub fn is(model: &Model, subject: Subject, value: u8) -> Result<Formula, Fail>
 }
 
 fn few(sizes: &[u8]) -> bool
-    ensures { IsTrue result → All (λ n. n ≤ 16) sizes.now }
+    ensures { IsTrue result → All (λ n. n ≤ MAX_CHOICES) sizes.now }
 {
-    sizes.iter().all(|n| *n <= 16)
+    sizes.iter().all(|n| *n as usize <= MAX_CHOICES)
 }
 
 fn inside(n: usize, literals: &[Literal]) -> bool
@@ -190,7 +233,7 @@ pub fn all_true(clauses: &Clauses, values: &[u8]) -> bool {
 
 /// The one value.
 pub fn one(value: u8) -> ValueSet {
-    if value < 16 {
+    if (value as usize) < MAX_CHOICES {
         ValueSet::empty().with(value)
     } else {
         ValueSet::empty()

@@ -1,14 +1,10 @@
 //! Whole plans, ways back, and the first commands of a plan that is too long to be written down.
 
-ghost use Rattle.std.specs.Prelude.{◌≡◌, ◌≤◌, ◌+◌, ◌<◌, IfOk, length};
-ghost use Rattle.cca_base.specs.Model.{IsComplete};
-ghost use Rattle.planner_step.specs.Planning.{IsGoal};
-ghost use Rattle.reversibility.specs.Parts.{CoversState};
+ghost use Rattle.std.specs.Prelude.{◌≡◌, ◌<◌};
 
-use crate::parts::model_of;
+use crate::parts::{STICKING_VALVE, compiled_of, compiled_text};
 use crate::tabled::*;
 use cca_base::*;
-use model_syntax::ModelReader;
 use plan_runner::{route_of, way_back, whole_plan};
 use planner_step::{Answer, next_command};
 use policy_tables::Tables;
@@ -60,48 +56,23 @@ fn routed(
 
 /// Tables around the start of a model in which b's way back asks for a mode of c that only a repair leads to.
 fn mending_tables(alloc: Global) -> Result<Tables, Fail> {
-    let model = model_of(
-        alloc,
-        &[
-            "titan 1",
-            "component c = m, ok, z start m",
-            "component b = x, y start x",
-            "repair c m -> ok by c_reset when true",
-            "move c ok -> z by c_z when true",
-            "move c z -> ok by c_ok when true",
-            "move b x -> y by b_go when true",
-            "move b y -> x by b_back when c = z",
-        ],
-    )?;
-    tables_around(alloc, model, &[0, 0])
-}
-
-/// Tables around the start of the valve with its driver.
-fn valve_tables(alloc: Global) -> Result<Tables, Fail> {
-    let model = model_of(
-        alloc,
-        &[
-            "titan 1",
-            "component drv = off, on start off",
-            "component valve = closed, open, stuck start closed",
-            "var flow = none, some sensed",
-            "rule flow = some iff valve = open",
-            "move drv off -> on by drv_on when true",
-            "move drv on -> off by drv_off when true",
-            "move valve closed -> open by v_open when drv = on",
-            "move valve open -> closed by v_close when drv = on",
-            "repair valve stuck -> closed by v_reset when drv = on",
-            "fail valve closed -> stuck cost 4",
-            "fail valve open -> stuck cost 6",
-        ],
-    )?;
-    tables_around(alloc, model, &[0, 0])
+    let lines = [
+        "titan 1",
+        "component c = m, ok, z start m",
+        "component b = x, y start x",
+        "repair c m -> ok by c_reset when true",
+        "move c ok -> z by c_z when true",
+        "move c z -> ok by c_ok when true",
+        "move b x -> y by b_go when true",
+        "move b y -> x by b_back when c = z",
+    ];
+    tables_around(alloc, compiled_of(alloc, &lines)?, &[0, 0])
 }
 
 #[test]
 fn a_valve_opens_and_its_driver_goes_off(rt: HostRuntime) -> Result<(), Fail> {
     let alloc = rt.alloc();
-    let tables = valve_tables(alloc)?;
+    let tables = tables_around(alloc, compiled_text(alloc, STICKING_VALVE)?, &[0, 0])?;
     let plan = planned(alloc, &tables, &[0, 0], &[(0, 0), (1, 1)])?;
     assert_eq!(rt; plan.as_slice(), b"drv_on v_open drv_off ".as_slice());
     let back = returned(alloc, &tables, &[0, 1], &[0, 0])?;
@@ -131,47 +102,26 @@ fn guard(alloc: Global, lamp: u64) -> Result<String, AllocError> {
     Ok(text)
 }
 
-/// The lines of a lamp's moves.
-fn read_moves(alloc: Global, reader: &mut ModelReader, lamp: u64) -> Result<bool, Fail> {
+/// Adds the lines of a lamp's moves.
+fn push_moves(alloc: Global, text: &mut String, lamp: u64) -> Result<(), AllocError> {
     let guard = guard(alloc, lamp)?;
-    let on = format!(in alloc; "move c{lamp} off -> on by c{lamp}_on when {guard}")?;
-    let off = format!(in alloc; "move c{lamp} on -> off by c{lamp}_off when {guard}")?;
-    Ok(reader.line(on.as_bytes()).is_ok() && reader.line(off.as_bytes()).is_ok())
+    let on = format!(in alloc; "\nmove c{lamp} off -> on by c{lamp}_on when {guard}")?;
+    text.push_str(&on)?;
+    let off = format!(in alloc; "\nmove c{lamp} on -> off by c{lamp}_off when {guard}")?;
+    text.push_str(&off)
 }
 
 /// Forty lamps in a row, which count in Gray's code: no plan turns the last one on with fewer than 2^39 commands.
-fn forty_lamps(alloc: Global) -> Result<Model, Fail>
-    ensures { IfOk result IsComplete }
-{
-    let mut reader = ModelReader::open(alloc)?;
-    let mut sound = reader.line(b"titan 1".as_slice()).is_ok();
+fn forty_lamps(alloc: Global) -> Result<String, AllocError> {
+    let mut text = String::from_str(alloc, "titan 1")?;
     for c in 1..41u64 {
-        let line = format!(in alloc; "component c{c} = off, on start off")?;
-        sound = reader.line(line.as_bytes()).is_ok() && sound;
+        let line = format!(in alloc; "\ncomponent c{c} = off, on start off")?;
+        text.push_str(&line)?;
     }
     for c in 1..41u64 {
-        sound = read_moves(alloc, &mut reader, c)? && sound;
+        push_moves(alloc, &mut text, c)?;
     }
-    let model = reader.finish();
-    if !sound {
-        return Err(Fail::from("a line is refused"));
-    }
-    Ok(model)
-}
-
-/// The answer for forty components, which takes 80 steps at most.
-fn answer_of_forty<L: Ledger>(
-    tables: &Tables,
-    state: &State,
-    goal: &Goal,
-    steps: &mut Steps<L>,
-) -> Answer
-    requires covers { CoversState tables.now.classes state.now.modes }
-    requires goal { IsGoal tables.now.classes.compiled goal.now.pairs }
-    requires forty { length tables.now.classes.compiled.model.components ≡ 40 }
-    ensures { steps.new ≤ steps.old + 80 }
-{
-    next_command(tables, state, goal, steps)
+    Ok(text)
 }
 
 /// What is sent for the last of forty lamps where the first three stand so, and all others are off.
@@ -191,14 +141,10 @@ fn sent_by<L: Ledger>(
     modes[2] = lamps[2];
     let state = covered(alloc, tables, modes.as_slice())?;
     let goal = goal_of(alloc, tables, &[(39, 1)])?;
-    let model = tables.classes().compiled().model();
-    if model.components().len() != 40 {
-        return Err(Fail::from("not forty components"));
-    }
     let mut text = Vec::new(alloc);
     let mut steps = Steps::<L>::of(blank);
-    if let Answer::Send(command) = answer_of_forty(tables, &state, &goal, &mut steps) {
-        push_command(model, &mut text, command)?;
+    if let Answer::Send(command) = next_command(tables, &state, &goal, &mut steps) {
+        push_command(tables.classes().compiled().model(), &mut text, command)?;
     }
     Ok(text)
 }
@@ -211,7 +157,8 @@ fn sent(alloc: Global, tables: &Tables, lamps: [u8; 3]) -> Result<Vec<u8>, Fail>
 fn no_plan_is_searched(rt: HostRuntime) -> Result<(), Fail> {
     let alloc = rt.alloc();
     let off = [0u8; 40];
-    let tables = tables_around(alloc, forty_lamps(alloc)?, off.as_slice())?;
+    let text = forty_lamps(alloc)?;
+    let tables = tables_around(alloc, compiled_text(alloc, &text)?, off.as_slice())?;
     let rows = [
         ([0u8, 0, 0], "c1_on "),
         ([1, 0, 0], "c2_on "),

@@ -1,14 +1,13 @@
 //! Tables of models, with states that they cover and goals for them.
 
 ghost use Rattle.std.specs.Prelude.{◌≡◌, ◌<◌, ◌≤◌, ◌+◌, false, All, IfOk, IsTrue, length};
-ghost use Rattle.cca_base.specs.Model.{HasMode, IsComplete, is_broken};
+ghost use Rattle.cca_base.specs.Model.{HasMode, is_broken};
 ghost use Rattle.cca_base.specs.State.{IsState};
 ghost use Rattle.planner_step.specs.Planning.{AreReached, IsGoal};
-ghost use Rattle.reversibility.specs.Parts.{CoversState};
+ghost use Rattle.reversibility.specs.ClassParts.{CoversState};
 
 use crate::compile::pairs_of;
 use crate::parts::has_mode;
-use acceptance::accept;
 use causal_graph::sort_goal;
 use cca_base::*;
 use planner_step::{Answer, next_command};
@@ -36,7 +35,7 @@ fn is_state(model: &Model, modes: &[u8]) -> bool
 }
 
 /// The state of these modes.
-fn state_of(alloc: Global, model: &Model, modes: &[u8]) -> Result<State, Fail>
+pub fn state_of(alloc: Global, model: &Model, modes: &[u8]) -> Result<State, Fail>
     ensures { IfOk result (λ s. IsState model.now s.modes) }
 {
     let mut list = List::new(alloc);
@@ -49,17 +48,16 @@ fn state_of(alloc: Global, model: &Model, modes: &[u8]) -> Result<State, Fail>
     Ok(State { modes: list })
 }
 
-/// The tables of the model around the state of these modes.
-pub fn tables_around(alloc: Global, model: Model, modes: &[u8]) -> Result<Tables, Fail>
-    requires { IsComplete model }
-{
-    let Ok(compiled) = accept(alloc, model) else {
-        return Err(Fail::from("not accepted"));
-    };
+/// The classes of the compiled model around the state of these modes.
+pub fn classes_around(alloc: Global, compiled: Compiled, modes: &[u8]) -> Result<Classes, Fail> {
     let state = state_of(alloc, compiled.model(), modes)?;
     let compiled = Rc::new(alloc, compiled)?;
-    let classes = Classes::of(alloc, &compiled, &state)?;
-    Ok(Tables::of(alloc, classes)?)
+    Ok(Classes::of(alloc, &compiled, &state)?)
+}
+
+/// The tables of the compiled model around the state of these modes.
+pub fn tables_around(alloc: Global, compiled: Compiled, modes: &[u8]) -> Result<Tables, Fail> {
+    Ok(Tables::of(alloc, classes_around(alloc, compiled, modes)?)?)
 }
 
 /// The state of these modes, which the tables cover.

@@ -1,6 +1,8 @@
-//! The tokens of a line, and a reader of model lines that goes on after refusals.
-use cca_base::Stop;
-use model_syntax::{LineEnd, ModelReader};
+//! The tokens of a line, a reader of model lines that goes on after refusals, and formulas that are read by themselves.
+use crate::parts::valve_model;
+use cca_base::{Model, Stop};
+use model_syntax::{LineEnd, ModelReader, read_formula};
+use std::alloc::Global;
 use std::test::*;
 use text_base::tokens;
 
@@ -42,5 +44,34 @@ fn a_reader_goes_on_after_a_refusal(rt: HostRuntime) -> Result<(), Fail> {
         assert_eq!(rt; answer(&mut reader, line), code, "{line}");
     }
     assert_eq!(rt; reader.finish().failures().len(), 1);
+    Ok(())
+}
+
+/// What a formula's text is answered: its code, 0 where it is read, 98 without memory, 99 for a bad byte.
+fn formula_answer(alloc: Global, model: &Model, text: &str) -> u8 {
+    let Ok(tokens) = tokens(alloc, text.as_bytes()) else {
+        return 99;
+    };
+    match read_formula(alloc, model, tokens.as_slice()) {
+        Ok(_formula) => 0,
+        Err(Stop::Refused(refusal)) => refusal.code,
+        Err(Stop::Memory) => 98,
+    }
+}
+
+#[test]
+fn a_formula_is_read_by_itself(rt: HostRuntime) -> Result<(), Fail> {
+    let model = valve_model(rt.alloc())?;
+    let rows = [
+        ("flow = some", 0),
+        ("not (valve != open) implies flow in {none, none}", 0),
+        ("", 1),
+        ("flow = some )", 1),
+        ("flow = lots", 2),
+        ("valve in {open, open, ajar}", 2),
+    ];
+    for (text, code) in rows {
+        assert_eq!(rt; formula_answer(rt.alloc(), &model, text), code, "{text}");
+    }
     Ok(())
 }

@@ -3,15 +3,15 @@ use Rattle.std.proofs.Common.{◌≡◌, ℕ, Bool, true, false, not, List, [], 
 use Rattle.std.proofs.lemmas.Bool.{cases_Bool}
 use Rattle.std.proofs.lemmas.List.Elements.{All-nil}
 use Rattle.std.proofs.lemmas.Option.{IfSome_then}
+use Rattle.std.proofs.lemmas.Result.{IfOk-weaker}
 use Rattle.std.specs.List.{slice_get}
 use Rattle.cca_base.specs.declared.cube.Pair.{Pair}
 use Rattle.cca_base.specs.declared.formula.Formula.{Formula}
-use Rattle.cca_base.specs.Automata.{Automata}
+use Rattle.cca_base.specs.PlantModel.{PlantModel}
 use Rattle.cca_base.specs.Formula.{truth}
 use Rattle.cca_base.specs.State.{Follows}
 use Rattle.consistency.specs.declared.found.Found.{Found}
 use Rattle.consistency.specs.Found.{Fits, Counters, NoneFits, FitsAndDenies, IsFirstOf}
-use Rattle.consistency.proofs.Weaker.{IfOk-weaker}
 
 -- the first of what is the same
 first_same : (P Q : List ℕ → List ℕ → Type 0) → ((s w : List ℕ) → P s w → Q s w) → ((s w : List ℕ) → Q s w → P s w) → (s w : List ℕ) → IsFirstOf P s w → IsFirstOf Q s w
@@ -21,14 +21,14 @@ first_same P Q to from s w h = record {
   worlds = λ w2 k. h.worlds w2 (from s w2 k);
 }
 
-module _ {E : Type 0} (m : Automata) (modes seen : List Pair) (r : Result (Option Found) E) where
+module _ {E : Type 0} (m : PlantModel) (modes seen : List Pair) (r : Result (Option Found) E) where
   pub fits_found : IfOk r (λ o. IfSome o (λ f. IsFirstOf (FitsAndDenies m modes seen None) f.state.modes f.world.values)) → IfOk r (λ o. IfSome o (λ f. IsFirstOf (Fits m modes seen) f.state.modes f.world.values))
   fits_found h = IfOk-weaker r _ _ (λ o k. IfSome_then o k (λ f. first_same (FitsAndDenies m modes seen None) (Fits m modes seen) (λ s w x. x.fits) (λ s w x. record { fits = x; denies = refl }) f.state.modes f.world.values)) h
 
   pub none_fit : IfOk r (λ o. IsNone o → (s w : List ℕ) → FitsAndDenies m modes seen None s w → ⊥) → IfOk r (λ o. IsNone o → NoneFits m modes seen)
   none_fit h = IfOk-weaker r _ _ (λ o k e s w x. k e s w (record { fits = x; denies = refl })) h
 
-module _ {E : Type 0} (m : Automata) (modes : List Pair) (formula : Formula) (r : Result (Option Found) E) where
+module _ {E : Type 0} (m : PlantModel) (modes : List Pair) (formula : Formula) (r : Result (Option Found) E) where
   to_counter : (s w : List ℕ) → FitsAndDenies m modes [] (Some formula) s w → Counters m modes formula s w
   to_counter s w h = record { state = h.fits.state; extends = h.fits.extends; world = h.fits.world; is_false = falsified (truth s w formula) h.denies } where
     falsified : (b : Bool) → not b ≡ true → b ≡ false

@@ -6,10 +6,13 @@ use Rattle.std.proofs.lemmas.Bool.{and_parts, and_from, or_left, or_right, ltb-t
 use Rattle.std.proofs.lemmas.List.{length-map, length-append, length-take-le, take-append-drop, get_or_append_left, get_or-append-add}
 use Rattle.std.proofs.lemmas.List.Elements.{All-weaker}
 use Rattle.std.proofs.lemmas.Option.{slice_get_within}
+use Rattle.std.proofs.lemmas.List.Sums.{AllPass-from_list_all, list_all-from_AllPass}
+use Rattle.std.proofs.Math.Bool.{and-true}
+use Rattle.list_laws.proofs.Places.{value_at, get_at}
 use Rattle.cca_base.specs.declared.limits.TheConstants.{MAX_CHOICES}
 use Rattle.cca_base.specs.declared.cube.Pair.{Pair}
 use Rattle.cca_base.specs.declared.formula.Formula.{Formula}
-use Rattle.cca_base.specs.Automata.{Automata}
+use Rattle.cca_base.specs.PlantModel.{PlantModel}
 use Rattle.cca_base.specs.Sets.{has}
 use Rattle.cca_base.specs.Formula.{truth}
 use Rattle.cca_base.specs.Model.{HasMode, mode_counts, value_counts}
@@ -18,18 +21,17 @@ use Rattle.cca_base.proofs.Within.{mode_within, value_within}
 use Rattle.clause_form.specs.declared.clause.Clauses.{Clauses}
 use Rattle.clause_form.specs.Clauses.{AreValues, meets, all_met}
 use Rattle.clause_form.specs.Formulas.{AreClausesOf, is_denied}
-use Rattle.clause_form.proofs.ModelLemmas.{both_values}
+use Rattle.clause_form.proofs.ModelSizes.{both_values, state_values}
 use Rattle.consistency.specs.Base.{allows, ArePairs, IsBase}
 use Rattle.consistency.specs.Search.{IsSolution, AreMet}
 use Rattle.consistency.specs.Found.{Fits, FitsAndDenies}
-use Rattle.consistency.proofs.Lists.{All-from_list_all, list_all-from_All, value_at, get_at}
 
 -- the number of subjects
-pub subjects_counted : (m : Automata) → length (mode_counts m ++ value_counts m) ≡ length m.components + length m.variables
+pub subjects_counted : (m : PlantModel) → length (mode_counts m ++ value_counts m) ≡ length m.components + length m.variables
 subjects_counted m = omega (arith, length-append (mode_counts m) (value_counts m), length-map m.components (λ c. length c.modes), length-map m.variables (λ v. length v.values))
 
 -- modes are of the first subjects
-pub mode_pairs : (m : Automata) (sizes : List ℕ) (modes : List Pair) → sizes ≡ mode_counts m ++ value_counts m → All (λ n. n ≤ MAX_CHOICES) sizes
+pub mode_pairs : (m : PlantModel) (sizes : List ℕ) (modes : List Pair) → sizes ≡ mode_counts m ++ value_counts m → All (λ n. n ≤ MAX_CHOICES) sizes
     → All (λ p. HasMode m p.item p.value) modes → ArePairs (length sizes) 0 modes
 mode_pairs m sizes modes s few h =
     All-weaker (λ p. HasMode m p.item p.value) (λ p. (0 + p.item < length sizes) × (p.value < MAX_CHOICES))
@@ -43,7 +45,7 @@ mode_pairs m sizes modes s few h =
     modes h
 
 -- what is seen is of subjects behind the components
-pub seen_pairs : (m : Automata) (sizes : List ℕ) (components : ℕ) (seen : List Pair) → sizes ≡ mode_counts m ++ value_counts m → All (λ n. n ≤ MAX_CHOICES) sizes → components ≡ length m.components
+pub seen_pairs : (m : PlantModel) (sizes : List ℕ) (components : ℕ) (seen : List Pair) → sizes ≡ mode_counts m ++ value_counts m → All (λ n. n ≤ MAX_CHOICES) sizes → components ≡ length m.components
     → All (λ p. HasValue m p.item p.value) seen → ArePairs (length sizes) components seen
 seen_pairs m sizes components seen s few n h =
     All-weaker (λ p. HasValue m p.item p.value) (λ p. (components + p.item < length sizes) × (p.value < MAX_CHOICES))
@@ -58,10 +60,6 @@ seen_pairs m sizes components seen s few n h =
     (here, omega (arith, k, most, count)))
     seen h
 
-and_true : (a : Bool) → (a && true) ≡ a
-and_true true = refl
-and_true false = refl
-
 true_or : (a b : Bool) → (not a || b) ≡ true → a ≡ true → b ≡ true
 true_or true b h e = h
 true_or false b h e = absurd (cc)
@@ -74,19 +72,19 @@ pair_met subject d v value h = elim (cases_eq subject d) [
 ]
 
 -- allowed values have each pair's value at its subject
-pub allowed_pairs : (xs : List ℕ) (first : ℕ) (pairs : List Pair) (d : ℕ) → allows first pairs d (slice_index xs d) ≡ true → All (λ p. first + p.item ≡ d → slice_index xs d ≡ p.value) pairs
+allowed_pairs : (xs : List ℕ) (first : ℕ) (pairs : List Pair) (d : ℕ) → allows first pairs d (slice_index xs d) ≡ true → All (λ p. first + p.item ≡ d → slice_index xs d ≡ p.value) pairs
 allowed_pairs xs first pairs d h =
     All-weaker (λ p. (not (first + p.item == d) || p.value == slice_index xs d) ≡ true) (λ p. first + p.item ≡ d → slice_index xs d ≡ p.value)
     (λ p k e. sym (eqb-true p.value (slice_index xs d) (true_or (first + p.item == d) (p.value == slice_index xs d) k (eq-eqb (first + p.item) d e))))
-    pairs (All-from_list_all (λ p. not (first + p.item == d) || p.value == slice_index xs d) pairs h)
+    pairs (AllPass-from_list_all (λ p. not (first + p.item == d) || p.value == slice_index xs d) pairs h)
 
 pub pairs_allowed : (xs : List ℕ) (first : ℕ) (pairs : List Pair) (d : ℕ) → All (λ p. first + p.item ≡ d → slice_index xs d ≡ p.value) pairs → allows first pairs d (slice_index xs d) ≡ true
 pairs_allowed xs first pairs d h =
-    list_all-from_All (λ p. not (first + p.item == d) || p.value == slice_index xs d) pairs
+    list_all-from_AllPass (λ p. not (first + p.item == d) || p.value == slice_index xs d) pairs
     (All-weaker (λ p. first + p.item ≡ d → slice_index xs d ≡ p.value) (λ p. (not (first + p.item == d) || p.value == slice_index xs d) ≡ true)
     (λ p k. pair_met (first + p.item) d (slice_index xs d) p.value k) pairs h)
 
-module _ (m : Automata) where
+module _ (m : PlantModel) where
   abbrev n : ℕ
   n = length m.components
 
@@ -102,10 +100,7 @@ module _ (m : Automata) where
   pub at_value : (s w : List ℕ) (i : ℕ) → length s ≡ n → slice_index (s ++ w) (n + i) ≡ slice_index w i
   at_value s w i h = ap (λ (k : ℕ). slice_index (s ++ w) (k + i)) (sym h) ∙ get_or-append-add s w i 0
 
-  pub state_values : (s : List ℕ) → IsState m s → AreValues (mode_counts m) s
-  state_values s h = record { full = h.full ∙ sym counted; values = λ i k. h.modes i (subst (λ j. i < j) counted k) }
-
-  pub values_state : (s w : List ℕ) → length s ≡ n → AreValues (mode_counts m ++ value_counts m) (s ++ w) → IsState m s
+  values_state : (s w : List ℕ) → length s ≡ n → AreValues (mode_counts m ++ value_counts m) (s ++ w) → IsState m s
   values_state s w e h = record {
     full = e;
     modes = λ c k.
@@ -116,7 +111,7 @@ module _ (m : Automata) where
         omega (arith, less, at_mode s w c here, get_or_append_left (mode_counts m) (value_counts m) 0 c there));
   }
 
-  pub values_world : (s w : List ℕ) → length s ≡ n → AreValues (mode_counts m ++ value_counts m) (s ++ w) → (length w ≡ length m.variables) × ((v : ℕ) → v < length m.variables → HasValue m v (slice_index w v))
+  values_world : (s w : List ℕ) → length s ≡ n → AreValues (mode_counts m ++ value_counts m) (s ++ w) → (length w ≡ length m.variables) × ((v : ℕ) → v < length m.variables → HasValue m v (slice_index w v))
   values_world s w e h = (
     let full = h.full in omega (arith, full, length-append s w, subjects_counted m),
     λ v k.
@@ -127,7 +122,7 @@ module _ (m : Automata) where
         omega (arith, less, at_value s w v e, count)),
   )
 
-module _ (m : Automata) (modes seen : List Pair) (denied : Option Formula) (c : Clauses) (base : List ℕ)
+module _ (m : PlantModel) (modes seen : List Pair) (denied : Option Formula) (c : Clauses) (base : List ℕ)
     (of : AreClausesOf m None denied c) (b : IsBase c.sizes (length m.components) modes seen base)
     (modes_in : All (λ p. HasMode m p.item p.value) modes) (seen_in : All (λ p. HasValue m p.item p.value) seen)
     (s w : List ℕ) (full : length s ≡ length m.components) where
@@ -149,11 +144,11 @@ module _ (m : Automata) (modes seen : List Pair) (denied : Option Formula) (c : 
   })
 
   met_of : IsSolution c.clauses base xs → all_met xs c.clauses ≡ true
-  met_of h = list_all-from_All (meets xs) c.clauses h.met
+  met_of h = list_all-from_AllPass (meets xs) c.clauses h.met
 
   -- the meaning of the clauses, by its parts
   asked : AreValues (mode_counts m) s → AreValues (value_counts m) w → all_met xs c.clauses ≡ (list_all (truth s w) m.rules && is_denied s w denied)
-  asked h k = of.meaning s w h k ∙ ap (λ (x : Bool). x && is_denied s w denied) (and_true (list_all (truth s w) m.rules))
+  asked h k = of.meaning s w h k ∙ ap (λ (x : Bool). x && is_denied s w denied) (and-true (list_all (truth s w) m.rules))
 
   sizes_length : length c.sizes ≡ length m.components + length m.variables
   sizes_length = ap length of.sizes ∙ subjects_counted m
@@ -188,7 +183,7 @@ module _ (m : Automata) (modes seen : List Pair) (denied : Option Formula) (c : 
         fits = record {
           state = state;
           extends = found_modes h;
-          world = record { full = world.0; values = world.1; rules = All-from_list_all (truth s w) m.rules both.0 };
+          world = record { full = world.0; values = world.1; rules = AllPass-from_list_all (truth s w) m.rules both.0 };
           agrees = found_seen h world.0;
         };
         denies = both.1;
@@ -226,8 +221,8 @@ module _ (m : Automata) (modes seen : List Pair) (denied : Option Formula) (c : 
             let most = of.proper.few d 0 k' in
             let less = values.values d k' in
             omega (arith, most, less));
-        met = All-from_list_all (meets xs) c.clauses
-            (asked (state_values m s state) (world_values world) ∙ and_from _ _ (list_all-from_All (truth s w) m.rules world.rules) denies);
+        met = AllPass-from_list_all (meets xs) c.clauses
+            (asked (state_values m s state) (world_values world) ∙ and_from _ _ (list_all-from_AllPass (truth s w) m.rules world.rules) denies);
       }
 
   -- a value that all pairs allow is in the set
@@ -249,7 +244,7 @@ module _ (m : Automata) (modes seen : List Pair) (denied : Option Formula) (c : 
       }
 
 -- a solution's parts are a state and a world that fit
-pub parts_fit : (m : Automata) (modes seen : List Pair) (c : Clauses) (base : List ℕ) → AreClausesOf m None None c → IsBase c.sizes (length m.components) modes seen base
+pub parts_fit : (m : PlantModel) (modes seen : List Pair) (c : Clauses) (base : List ℕ) → AreClausesOf m None None c → IsBase c.sizes (length m.components) modes seen base
     → All (λ p. HasMode m p.item p.value) modes → All (λ p. HasValue m p.item p.value) seen
     → (xs : List ℕ) → IsSolution c.clauses base xs → Fits m modes seen (take (length m.components) xs) (drop (length m.components) xs)
 parts_fit m modes seen c base of b modes_in seen_in xs h =

@@ -4,23 +4,23 @@ use Rattle.std.proofs.lemmas.Bool.{true≢false}
 use Rattle.std.proofs.lemmas.List.{append_assoc}
 use Rattle.std.proofs.lemmas.List.Elements.{Contains-append_left, Contains-append_right, Contains-append_cases}
 use Rattle.cca_base.specs.declared.cube.Pair.{Pair}
-use Rattle.cca_base.specs.Automata.{Automata}
+use Rattle.cca_base.specs.PlantModel.{PlantModel}
 use Rattle.cca_base.specs.Model.{HasMode}
 use Rattle.cca_base.specs.Shown.{Clash}
 use Rattle.cca_base.proofs.Members.{contains_cases, from_filter, to_filter}
 use Rattle.consistency.specs.declared.subjects.SubjectSet.{SubjectSet}
 use Rattle.consistency.specs.Cores.{IsCore, pairs_in}
 use Rattle.consistency.specs.Subjects.{is_in}
-use Rattle.consistency.proofs.ConflictLemmas.{more_clash}
+use Rattle.consistency.proofs.MinimalConflict.{more_clash}
 use Rattle.consistency.proofs.Trying.{IsTrying, next, trying_dropped, trying_kept}
 
-module _ (m : Automata) (seen : List Pair) where
+module _ (m : PlantModel) (seen : List Pair) where
   -- what has a core clashes
   pub core_clash : (pairs : List Pair) (core : SubjectSet) → IsCore m seen pairs core → Clash m seen pairs
   core_clash pairs core h = more_clash m seen (pairs_in core pairs) pairs (λ q among. (from_filter (λ (p : Pair). is_in core p.item) pairs q among).1) h
 
   -- a core of some pairs is one of the others where one goes that is outside it
-  pub core_without : (front behind : List Pair) (p : Pair) (core : SubjectSet) → is_in core p.item ≡ false → IsCore m seen (front ++ p ∷ behind) core → IsCore m seen (front ++ behind) core
+  core_without : (front behind : List Pair) (p : Pair) (core : SubjectSet) → is_in core p.item ≡ false → IsCore m seen (front ++ p ∷ behind) core → IsCore m seen (front ++ behind) core
   core_without front behind p core outside h =
       more_clash m seen (pairs_in core (front ++ p ∷ behind)) (pairs_in core (front ++ behind))
       (λ q among.
@@ -35,7 +35,7 @@ module _ (m : Automata) (seen : List Pair) where
       to_filter (λ (r : Pair). is_in core r.item) (front ++ behind) q stands.0 left)
       h
 
-module _ (m : Automata) (seen pairs : List Pair) where
+module _ (m : PlantModel) (seen pairs : List Pair) where
   -- the first of the pairs have been tried, these were kept of them, and with those to come they have this core
   pub record IsTryingCore (kept : List Pair) (at : ℕ) (core : SubjectSet) : Type 0 where
     pub trying : IsTrying m seen pairs kept at

@@ -3,7 +3,7 @@ use Rattle.std.proofs.Common.{◌≡◌, ◌<◌, ◌&&◌, ◌++◌, Bool, true
 use Rattle.std.specs.List.{list_all}
 use Rattle.std.proofs.lemmas.List.Elements.{All-append}
 use Rattle.std.proofs.lemmas.List.Folds.{list_all-append}
-use Rattle.cca_base.specs.Automata.{Automata}
+use Rattle.cca_base.specs.PlantModel.{PlantModel}
 use Rattle.cca_base.specs.Formula.{truth}
 use Rattle.cca_base.specs.declared.formula.Formula.{Formula}
 use Rattle.clause_form.specs.declared.clause.Clause.{Clause}
@@ -17,7 +17,7 @@ turned true false = refl
 turned false true = refl
 turned false false = refl
 
-pub denied_beside_rules : (m : Automata) (f : Formula) (d r : Clauses) → AreDenying m f d → AreClausesOf m None None r
+pub denied_beside_rules : (m : PlantModel) (f : Formula) (d r : Clauses) → AreDenying m f d → AreClausesOf m None None r
     → AreClausesOf m None (Some f) (record { sizes = d.sizes; clauses = d.clauses ++ r.clauses })
 denied_beside_rules m f d r h k =
     let same : length r.sizes ≡ length d.sizes = ap length (k.sizes ∙ sym h.sizes) in

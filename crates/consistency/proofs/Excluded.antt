@@ -1,21 +1,13 @@
 -- Solutions where one value of one subject is excluded.
-use Rattle.std.proofs.Common.{◌≡◌, ◌≢◌, ◌==◌, ◌&&◌, ◌||◌, ◌+◌, ◌<◌, not, ℕ, true, List, length, slice_index, sym, ap, subst, ◌∙◌, inl, inr, arith}
+use Rattle.std.proofs.Common.{◌≡◌, ◌≢◌, ◌==◌, ◌&&◌, ◌<◌, not, ℕ, true, List, length, slice_index, sym, ap, subst, ◌∙◌, inl, inr, arith}
 use Rattle.std.specs.Prelude.{nat_lt}
 use Rattle.std.proofs.lemmas.Bool.{cases_eq, and_parts, and_from, lt-ltb, eq-eqb, ne_eqb, not_from_true, not_from_false, false≢true}
-use Rattle.std.proofs.lemmas.Bool.Decides.{nat_tests}
 use Rattle.cca_base.specs.Sets.{has}
 use Rattle.cca_base.specs.declared.limits.TheConstants.{MAX_CHOICES}
 use Rattle.clause_form.specs.Clauses.{AllBelow}
 use Rattle.clause_form.specs.declared.clause.Clause.{Clause}
 use Rattle.consistency.specs.Problem.{IsProblem}
 use Rattle.consistency.specs.Search.{IsSolution}
-
--- one number more, which is not the excluded one, or is
-pub one_more : (m n v : ℕ) → n ≢ v → (m == n || (nat_lt m n && not (m == v))) ≡ (nat_lt m (n + 1) && not (m == v))
-one_more m n v ne = grind (arith, nat_tests)
-
-pub not_one_more : (m n v : ℕ) → n ≡ v → (nat_lt m n && not (m == v)) ≡ (nat_lt m (n + 1) && not (m == v))
-not_one_more m n v e = grind (arith, nat_tests)
 
 module _ (clauses : List Clause) (base narrower : List ℕ) (subject value : ℕ) (full : length narrower ≡ length base)
     (at : (m : ℕ) → has (slice_index narrower subject) m ≡ (has (slice_index base subject) m && (nat_lt m MAX_CHOICES && not (m == value))))

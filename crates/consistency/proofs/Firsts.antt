@@ -3,7 +3,7 @@ use Rattle.std.proofs.Common.{◌≡◌, ℕ, ◌≤◌, ◌++◌, List, Option,
 use Rattle.std.proofs.lemmas.List.{length-take-le, take-append-drop}
 use Rattle.cca_base.specs.declared.cube.Pair.{Pair}
 use Rattle.cca_base.specs.declared.formula.Formula.{Formula}
-use Rattle.cca_base.specs.Automata.{Automata}
+use Rattle.cca_base.specs.PlantModel.{PlantModel}
 use Rattle.cca_base.specs.Model.{HasMode}
 use Rattle.cca_base.specs.State.{HasValue}
 use Rattle.clause_form.specs.declared.clause.Clauses.{Clauses}
@@ -14,7 +14,7 @@ use Rattle.consistency.specs.Found.{FitsAndDenies, IsFirstOf}
 use Rattle.consistency.proofs.Bridge.{subjects_counted, solution_fits, fits_solution}
 use Rattle.consistency.proofs.Orders.{earlier_front, earlier_behind, first_not_after}
 
-module _ (m : Automata) (modes seen : List Pair) (denied : Option Formula) (c : Clauses) (components : ℕ) (base : List ℕ)
+module _ (m : PlantModel) (modes seen : List Pair) (denied : Option Formula) (c : Clauses) (components : ℕ) (base : List ℕ)
     (of : AreClausesOf m None denied c) (n : components ≡ length m.components) (b : IsBase c.sizes components modes seen base)
     (modes_in : All (λ p. HasMode m p.item p.value) modes) (seen_in : All (λ p. HasValue m p.item p.value) seen) where
   b' : IsBase c.sizes (length m.components) modes seen base

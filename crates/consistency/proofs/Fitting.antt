@@ -2,18 +2,19 @@
 use Rattle.std.proofs.Common.{◌≡◌, ◌-◌, ◌<◌, ℕ, List, length, get_or, take, drop, sym, ap, subst, ◌∙◌, arith}
 use Rattle.std.proofs.lemmas.List.{take_all, length-drop, get_or_default}
 use Rattle.cca_base.specs.declared.cube.Pair.{Pair}
-use Rattle.cca_base.specs.Automata.{Automata}
+use Rattle.cca_base.specs.PlantModel.{PlantModel}
 use Rattle.cca_base.specs.Repairs.{pairs_of}
 use Rattle.cca_base.specs.Shown.{CanShow, Clash}
 use Rattle.cca_base.specs.State.{IsState}
+use Rattle.cca_base.proofs.StateLaws.{same_state}
 use Rattle.consistency.specs.Cores.{IsShowable}
-use Rattle.consistency.proofs.StatePairs.{extends_own, same_state}
+use Rattle.consistency.proofs.StatePairs.{extends_own}
 
 -- where some state shows what is seen there is no clash
-pub showable_fits : (m : Automata) (modes seen : List Pair) → IsShowable m seen modes → Clash m seen modes → ⊥
+pub showable_fits : (m : PlantModel) (modes seen : List Pair) → IsShowable m seen modes → Clash m seen modes → ⊥
 showable_fits m modes seen (s, state, extends, shows) clash = clash s state extends shows
 
-module _ (m : Automata) (s : List ℕ) (seen : List Pair) (state : IsState m s) where
+module _ (m : PlantModel) (s : List ℕ) (seen : List Pair) (state : IsState m s) where
   -- the one state that extends a state's own pairs is this one
   pub own_shows : IsShowable m seen (pairs_of s) → CanShow m s seen
   own_shows (t, is_state, extends, shows) = subst (λ x. CanShow m x seen) (same_state s t (is_state.full ∙ sym state.full) extends) shows

@@ -14,7 +14,7 @@ use Rattle.consistency.specs.Subjects.{is_in}
 use Rattle.consistency.specs.Search.{AllMet, OthersFalse, HasReasons, Assumed, Agrees, Knows, nothing, values_at}
 
 -- a true literal of a clause that is met
-pub met_at : (xs : List ℕ) (ls : List Literal) → is_met xs ls ≡ true → (i : ℕ) × (i < length ls) × ((l : Literal) → is_true xs (slice_index_or ls i l) ≡ true)
+met_at : (xs : List ℕ) (ls : List Literal) → is_met xs ls ≡ true → (i : ℕ) × (i < length ls) × ((l : Literal) → is_true xs (slice_index_or ls i l) ≡ true)
 met_at xs ls h = let any = Any-from_list_any (is_true xs) ls h in (any.0, any.2, at_read ls (λ l. is_true xs l ≡ true) any.0 any.1 any.2 (sym any.3) any.4)
 
 -- where the others are false it is the one
@@ -40,29 +40,29 @@ or_r true b c e h = e
 or_r false b c e h = e ∙ h
 
 -- one domain narrowed, with more reasons
-pub narrowed : (domains : List Domain) (held : Assumed) (xs : List ℕ) (s : ℕ) (before : Domain) (values common : ℕ) (because why : SubjectSet) → s < length domains → before ≡ slice_index_or domains s before → Knows held domains xs
+pub narrowed : (domains : List Domain) (held : Assumed) (xs : List ℕ) (s : ℕ) (before : Domain) (values common : ℕ) (because reason : SubjectSet) → s < length domains → before ≡ slice_index_or domains s before → Knows held domains xs
     → ((v : ℕ) → has common v ≡ (has before.values v && has values v))
-    → ((d : ℕ) → is_in why d ≡ (is_in before.why d || is_in because d))
+    → ((d : ℕ) → is_in reason d ≡ (is_in before.reason d || is_in because d))
     → (Agrees held because xs → has values (slice_index xs s) ≡ true)
-    → Knows held (slice_set domains s (record { values = common; why = why })) xs
-narrowed domains held xs s before values common because why h is knows commons unions fits d k agrees =
-    let dk : d < length domains = omega (arith, length-set domains s (record { values = common; why = why })) in
+    → Knows held (slice_set domains s (record { values = common; reason = reason })) xs
+narrowed domains held xs s before values common because reason h is knows commons unions fits d k agrees =
+    let dk : d < length domains = omega (arith, length-set domains s (record { values = common; reason = reason })) in
     let was : before ≡ slice_index_or domains s nothing = get_or_read domains s before h is nothing in
-    let known : Agrees held before.why xs → has before.values (slice_index xs s) ≡ true =
-    subst (λ (x : Domain). Agrees held x.why xs → has x.values (slice_index xs s) ≡ true) (sym was) (knows s h) in
+    let known : Agrees held before.reason xs → has before.values (slice_index xs s) ≡ true =
+    subst (λ (x : Domain). Agrees held x.reason xs → has x.values (slice_index xs s) ≡ true) (sym was) (knows s h) in
     elim (cases_eq d s) [
       | inl e ↦ (
-          let new : slice_index_or (slice_set domains s (record { values = common; why = why })) d nothing ≡ record { values = common; why = why } =
-          ap (λ (j : ℕ). slice_index_or (slice_set domains s (record { values = common; why = why })) j nothing) e ∙ get_or-set_same domains s (record { values = common; why = why }) nothing h in
-          let agrees' : Agrees held why xs = λ x m. agrees x (ap (λ (y : Domain). is_in y.why x) new ∙ m) in
+          let new : slice_index_or (slice_set domains s (record { values = common; reason = reason })) d nothing ≡ record { values = common; reason = reason } =
+          ap (λ (j : ℕ). slice_index_or (slice_set domains s (record { values = common; reason = reason })) j nothing) e ∙ get_or-set_same domains s (record { values = common; reason = reason }) nothing h in
+          let agrees' : Agrees held reason xs = λ x m. agrees x (ap (λ (y : Domain). is_in y.reason x) new ∙ m) in
           let mine : has common (slice_index xs s) ≡ true = commons (slice_index xs s) ∙ and_from _ _
           (known (λ x m. agrees' x (or_l _ _ _ (unions x) m)))
           (fits (λ x m. agrees' x (or_r _ _ _ (unions x) m))) in
           ap (λ (y : Domain). has y.values (slice_index xs d)) new ∙ (ap (λ (j : ℕ). has common (slice_index xs j)) e ∙ mine))
       | inr ne ↦ (
-          let same : slice_index_or (slice_set domains s (record { values = common; why = why })) d nothing ≡ slice_index_or domains d nothing =
-          get_or-set_other domains s d (record { values = common; why = why }) nothing ne in
-          ap (λ (y : Domain). has y.values (slice_index xs d)) same ∙ knows d dk (λ x m. agrees x (ap (λ (y : Domain). is_in y.why x) same ∙ m)))
+          let same : slice_index_or (slice_set domains s (record { values = common; reason = reason })) d nothing ≡ slice_index_or domains d nothing =
+          get_or-set_other domains s d (record { values = common; reason = reason }) nothing ne in
+          ap (λ (y : Domain). has y.values (slice_index xs d)) same ∙ knows d dk (λ x m. agrees x (ap (λ (y : Domain). is_in y.reason x) same ∙ m)))
     ]
 
 pub met_item : (xs : List ℕ) (clauses : List Clause) (i : ℕ) (clause : Clause) (literals : List Literal) → AllMet xs clauses → i < length clauses → clause ≡ slice_index_or clauses i clause → literals ≡ clause.literals → is_met xs literals ≡ true

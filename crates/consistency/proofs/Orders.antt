@@ -5,11 +5,10 @@ use Rattle.std.specs.Ordering.{nat_cmp, ordering_then}
 use Rattle.std.specs.Cmp.Lexicographic.{slice_cmp}
 use Rattle.std.specs.declared.cmp.Ordering.{Ordering}
 use Rattle.std.specs.declared.cmp.Ordering.TheVariants.{Less, Equal, Greater}
+use Rattle.list_laws.proofs.Orders.{nat_cmp-same}
 use Rattle.cca_base.specs.Estimates.{IsEarlier}
+use Rattle.cca_base.proofs.StateLaws.{none_earlier}
 use Rattle.consistency.specs.Search.{IsLess}
-
-nat_cmp-same : (x y : ℕ) → x ≡ y → nat_cmp x y ≡ Equal
-nat_cmp-same x y e = grind (arith, nat_tests)
 
 nat_cmp-greater : (x y : ℕ) → x < y → nat_cmp y x ≡ Greater
 nat_cmp-greater x y h = grind (arith, nat_tests)
@@ -31,10 +30,6 @@ pub earlier_behind : (s w2 w : List ℕ) → IsEarlier w2 w → IsEarlier (s ++ 
 earlier_behind [] w2 w h = h
 earlier_behind (x ∷ s) w2 w h = ap (λ o. ordering_then o (slice_cmp nat_cmp (s ++ w2) (s ++ w))) (nat_cmp-same x x refl) ∙ earlier_behind s w2 w h
 
-not_itself : (xs : List ℕ) → IsEarlier xs xs → ⊥
-not_itself [] h = absurd (cc)
-not_itself (x ∷ xs) h = not_itself xs (sym (ap (λ o. ordering_then o (slice_cmp nat_cmp xs xs)) (nat_cmp-same x x refl)) ∙ h)
-
 not_after : (p : ℕ) (xs ys : List ℕ) → p < length xs → ((d : ℕ) → d < p → slice_index xs d ≡ slice_index ys d) → slice_index xs p < slice_index ys p → IsEarlier ys xs → ⊥
 not_after p [] ys inside same less h = absurd (omega arith)
 not_after p (x ∷ xs) [] inside same less h = absurd (omega arith)
@@ -45,5 +40,5 @@ not_after (suc p) (x ∷ xs) (y ∷ ys) inside same less h =
 
 -- nothing that is the same or less comes after
 pub first_not_after : (xs ys : List ℕ) → (xs ≡ ys) ⊎ IsLess xs ys → IsEarlier ys xs → ⊥
-first_not_after xs ys (inl e) h = not_itself xs (subst (λ zs. IsEarlier zs xs) (sym e) h)
+first_not_after xs ys (inl e) h = none_earlier xs (subst (λ zs. IsEarlier zs xs) (sym e) h)
 first_not_after xs ys (inr l) h = not_after l.place xs ys l.inside l.same l.less h

@@ -1,15 +1,13 @@
 -- The pairs of a state, and states that extend them.
-use Rattle.std.proofs.Common.{◌≡◌, ◌+◌, ◌<◌, ◌≤◌, ◌++◌, ℕ, List, [], ◌∷◌, length, get_or, slice_get, Some, All, ap, subst, arith}
-use Rattle.std.proofs.lemmas.List.{ext_get_or}
-use Rattle.std.proofs.lemmas.List.Elements.{All-contains}
-use Rattle.std.proofs.lemmas.Option.{slice_get_within, slice_get-get_or, get_or_from_slice_get}
+use Rattle.std.proofs.Common.{◌≡◌, ◌+◌, ◌<◌, ◌≤◌, ◌++◌, ℕ, List, [], ◌∷◌, length, slice_get, Some, All, ap, subst, arith}
+use Rattle.std.proofs.lemmas.Option.{slice_get_within, get_or_from_slice_get}
 use Rattle.cca_base.specs.declared.cube.Pair.{Pair}
-use Rattle.cca_base.specs.Automata.{Automata}
+use Rattle.cca_base.specs.PlantModel.{PlantModel}
 use Rattle.cca_base.specs.Cube.{Lacks}
 use Rattle.cca_base.specs.Model.{HasMode}
 use Rattle.cca_base.specs.Repairs.{pairs_from, pairs_of}
 use Rattle.cca_base.specs.State.{IsState, Extends}
-use Rattle.cca_base.proofs.Members.{all_from, in_pairs, stands_in}
+use Rattle.cca_base.proofs.Members.{all_from, stands_in}
 
 -- one mode more is one pair more
 pairs_push : (k : ℕ) (s : List ℕ) (n x : ℕ) → n ≡ k + length s → pairs_from k (s ++ x ∷ []) ≡ pairs_from k s ++ record { item = n; value = x } ∷ []
@@ -25,19 +23,13 @@ lacks_next s n past = all_from (λ p. p.item ≡ n → ⊥) (pairs_of s) (λ p a
     let inside : p.item < length s = slice_get_within s p.item p.value (stands_in s p among) in
     omega arith)
 
-pub pairs_have_modes : (m : Automata) (s : List ℕ) → IsState m s → All (λ p. HasMode m p.item p.value) (pairs_of s)
+pub pairs_have_modes : (m : PlantModel) (s : List ℕ) → IsState m s → All (λ p. HasMode m p.item p.value) (pairs_of s)
 pairs_have_modes m s h = all_from (λ p. HasMode m p.item p.value) (pairs_of s) (λ p among.
     let stands = stands_in s p among in
     let full = h.full in
     let inside : p.item < length m.components = omega (arith, full, slice_get_within s p.item p.value stands) in
     subst (λ mode. HasMode m p.item mode) (get_or_from_slice_get s p.item p.value 0 stands) (h.modes p.item inside))
 
--- a state extends its own pairs, and no other does
+-- a state extends its own pairs
 pub extends_own : (s : List ℕ) → Extends s (pairs_of s)
 extends_own s = all_from (λ p. slice_get s p.item ≡ Some p.value) (pairs_of s) (stands_in s)
-
-pub same_state : (s t : List ℕ) → length t ≡ length s → Extends t (pairs_of s) → t ≡ s
-same_state s t e extends = ext_get_or 0 t s e (λ i below.
-    let inside : i < length s = omega (arith, e) in
-    let p : Pair = record { item = i; value = get_or s i 0 } in
-    get_or_from_slice_get t i (get_or s i 0) 0 (All-contains (λ q. slice_get t q.item ≡ Some q.value) (pairs_of s) p extends (in_pairs s p (slice_get-get_or s i 0 inside))))

@@ -1,13 +1,13 @@
 -- Pairs that are tried one after another.
-use Rattle.std.proofs.Common.{◌≡◌, ◌+◌, ◌-◌, ◌<◌, ◌≤◌, ◌++◌, ℕ, List, [], ◌∷◌, length, get_or, take, drop, All, inl, inr, refl, sym, ap, subst, ◌∙◌, arith}
+use Rattle.std.proofs.Common.{◌≡◌, ◌+◌, ◌-◌, ◌<◌, ◌++◌, ℕ, List, [], ◌∷◌, length, get_or, take, drop, All, inl, inr, refl, sym, ap, subst, ◌∙◌, arith}
 use Rattle.std.specs.List.{remove}
 use Rattle.std.proofs.Math.Seq.{take-append-add}
-use Rattle.std.proofs.lemmas.List.{append-nil, append_assoc, drop_all, drop_more, get_or-append-add, get_or-take, get_or_default, length-append, length-take-le}
+use Rattle.std.proofs.lemmas.List.{append-nil, append_assoc, drop_more, get_or-append-add, get_or-take, get_or_default, length-append, length-take-le}
 use Rattle.std.proofs.lemmas.List.Edits.{remove-append_right}
-use Rattle.std.proofs.lemmas.List.Elements.{All-nil, All-push}
+use Rattle.std.proofs.lemmas.List.Elements.{All-push}
 use Rattle.std.proofs.lemmas.List.Quantifiers.{all_pairs_remove}
 use Rattle.cca_base.specs.declared.cube.Pair.{Pair}
-use Rattle.cca_base.specs.Automata.{Automata}
+use Rattle.cca_base.specs.PlantModel.{PlantModel}
 use Rattle.cca_base.specs.Cube.{IsCube, Lacks}
 use Rattle.cca_base.specs.Model.{HasMode}
 use Rattle.cca_base.specs.Shown.{Clash, KeepsOfClash}
@@ -30,15 +30,12 @@ without_one front behind p cube =
     in
     subst IsCube less (all_pairs_remove (λ a b. a.item ≡ b.item → ⊥) (front ++ p ∷ behind) (length front) (omega (arith, length-append front (p ∷ behind))) cube)
 
-module _ (m : Automata) (seen pairs : List Pair) where
+module _ (m : PlantModel) (seen pairs : List Pair) where
   -- the first of the pairs have been tried, and these were kept of them
   pub record IsTrying (kept : List Pair) (at : ℕ) : Type 0 where
     pub cube : IsCube (kept ++ drop at pairs)
     pub modes : All (λ p. HasMode m p.item p.value) kept
     pub so_far : (shown : List Pair) → KeepsOfClash m seen kept (drop at pairs) shown → KeepsOfClash m seen [] pairs shown
-
-  pub trying_none : IsCube pairs → IsTrying [] 0
-  trying_none cube = record { cube = cube; modes = All-nil (λ p. HasMode m p.item p.value); so_far = λ shown h. h }
 
   module _ (kept : List Pair) (at : ℕ) (p : Pair) (h : IsTrying kept at) (within : at < length pairs) (here : get_or pairs at p ≡ p) where
     abbrev rest : List Pair
@@ -69,6 +66,3 @@ module _ (m : Automata) (seen pairs : List Pair) where
       modes = All-push (λ q. HasMode m q.item q.value) kept p h.modes mode;
       so_far = λ shown k. h.so_far shown (subst (λ ps. KeepsOfClash m seen kept ps shown) (sym next) (inr (fits, k)));
     }
-
-  pub trying_all : (kept : List Pair) (at : ℕ) → length pairs ≤ at → IsTrying kept at → KeepsOfClash m seen [] pairs kept
-  trying_all kept at past h = h.so_far kept (subst (λ ps. KeepsOfClash m seen kept ps kept) (sym (drop_all at pairs past)) refl)

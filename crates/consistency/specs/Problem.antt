@@ -6,7 +6,7 @@ use Rattle.clause_form.specs.Clauses.{AllBelow}
 use Rattle.clause_form.specs.declared.clause.Clause.{Clause}
 use Rattle.clause_form.specs.declared.clause.Clauses.{Clauses}
 use Rattle.consistency.specs.declared.problem.Problem.{Problem}
-use Rattle.consistency.specs.declared.subjects.TheConstants.{MAX_SUBJECTS}
+use Rattle.consistency.specs.declared.subjects.TheConstants.{SET_SUBJECTS}
 
 -- the clauses, without the index of their places
 abbrev pub clauses_in : Problem → Clauses
@@ -14,6 +14,6 @@ clauses_in p = record { sizes = p.sizes; clauses = p.clauses }
 
 -- not too many subjects, each of which may have small values, and no others in the clauses
 pub record IsProblem (clauses : List Clause) (base : List ℕ) : Type 0 where
-  pub small : length base ≤ MAX_SUBJECTS
+  pub small : length base ≤ SET_SUBJECTS
   pub within : AllBelow (length base) clauses
   pub few : (d v : ℕ) → has (slice_index base d) v ≡ true → v < MAX_CHOICES

@@ -11,8 +11,8 @@ use Rattle.consistency.specs.declared.domain.Domain.{Domain}
 use Rattle.consistency.specs.declared.subjects.SubjectSet.{SubjectSet}
 use Rattle.consistency.specs.declared.visit.Visit.{Visit}
 use Rattle.consistency.specs.declared.visit.Visit.TheVariants.{Same, Narrowed, Clash}
-use Rattle.consistency.specs.declared.search.Outcome.{Outcome}
-use Rattle.consistency.specs.declared.search.Outcome.TheVariants as outcome
+use Rattle.consistency.specs.declared.search.SearchResult.{SearchResult}
+use Rattle.consistency.specs.declared.search.SearchResult.TheVariants as outcome
 use Rattle.consistency.specs.Subjects.{is_in}
 
 -- every clause is true
@@ -41,15 +41,15 @@ pub record IsFirst (clauses : List Clause) (base xs : List ℕ) : Type 0 where
 
 -- what stands past the end of a list of domains
 abbrev pub nothing : Domain
-nothing = record { values = 0; why = record { words = [] } }
+nothing = record { values = 0; reason = record { words = [] } }
 
 -- the values of the subject's domain
 abbrev pub values_at : List Domain → ℕ → ℕ
 values_at domains d = (slice_index_or domains d nothing).values
 
 -- the reasons of the subject's domain
-abbrev pub why_at : List Domain → ℕ → SubjectSet
-why_at domains d = (slice_index_or domains d nothing).why
+abbrev pub reason_at : List Domain → ℕ → SubjectSet
+reason_at domains d = (slice_index_or domains d nothing).reason
 
 -- the values that each subject is assumed to have one of, and the values that are chosen for the first subjects
 pub record Assumed : Type 0 where
@@ -71,7 +71,7 @@ Extends prefix xs = (d : ℕ) → d < length prefix → slice_index xs d ≡ sli
 
 -- each value is in its domain, if the values agree with what is assumed on the subjects that are its reason
 abbrev pub Knows : Assumed → List Domain → List ℕ → Type 0
-Knows a domains xs = (d : ℕ) → d < length domains → Agrees a (why_at domains d) xs → has (values_at domains d) (slice_index xs d) ≡ true
+Knows a domains xs = (d : ℕ) → d < length domains → Agrees a (reason_at domains d) xs → has (values_at domains d) (slice_index xs d) ≡ true
 
 -- no literal but the one at the place can be true
 abbrev pub OthersFalse : List Literal → List Domain → ℕ → Type 0
@@ -81,7 +81,7 @@ OthersFalse literals domains k = (i : ℕ) (l : Literal) → i < length literals
 -- the reasons of all literals but the one at the place
 abbrev pub HasReasons : List Literal → List Domain → ℕ → SubjectSet → Type 0
 HasReasons literals domains k reasons = (i : ℕ) (l : Literal) → i < length literals → i ≢ k → (d : ℕ)
-    → is_in (why_at domains (slice_index_or literals i l).subject) d ≡ true → is_in reasons d ≡ true
+    → is_in (reason_at domains (slice_index_or literals i l).subject) d ≡ true → is_in reasons d ≡ true
 
 -- what is known of values that meet the clause stays known
 abbrev pub Keeps : List Literal → List Domain → List Domain → Type 0
@@ -126,9 +126,9 @@ abbrev pub IsClash : List Clause → List ℕ → List ℕ → SubjectSet → Ty
 IsClash clauses base prefix subjects = (xs : List ℕ) → AreMet clauses (length base) xs → Agrees (record { base = base; chosen = prefix }) subjects xs → ⊥
 
 -- the first solution that extends the prefix, or subjects that are to blame that there is none
-abbrev pub IsOutcome : List Clause → List ℕ → List ℕ → Outcome → Type 0
-IsOutcome clauses base prefix (outcome.Found xs) = IsFirstFrom clauses base prefix xs
-IsOutcome clauses base prefix (outcome.Clash subjects) = IsClash clauses base prefix subjects
+abbrev pub IsSearchResult : List Clause → List ℕ → List ℕ → SearchResult → Type 0
+IsSearchResult clauses base prefix (outcome.Found xs) = IsFirstFrom clauses base prefix xs
+IsSearchResult clauses base prefix (outcome.Clash subjects) = IsClash clauses base prefix subjects
 
 -- what was known is known of the values that have one value more
 abbrev pub Chooses : List Domain → ℕ → ℕ → List Domain → Type 0

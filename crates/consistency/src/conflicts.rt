@@ -12,7 +12,7 @@ ghost use Rattle.consistency.specs.Worlds.{AreWorldsOf};
 
 use crate::base::model_base;
 use crate::pairs::{all_pairs, joined};
-use crate::search::{Outcome, solve};
+use crate::search::{SearchResult, solve};
 use crate::subjects::{SubjectSet, has_subject};
 use crate::worlds::Worlds;
 use cca_base::{Cube, Model, Pair, Seen, State};
@@ -36,8 +36,8 @@ fn core_of(
     let modes = modes.as_slice();
     let base = model_base(alloc, model, &worlds.rules, modes, seen.pairs.as_slice())?;
     match solve(alloc, &worlds.rules, base.as_slice())? {
-        Outcome::Found(_solution) => Ok(None),
-        Outcome::Clash(subjects) => Ok(Some(subjects)),
+        SearchResult::Found(_solution) => Ok(None),
+        SearchResult::Clash(subjects) => Ok(Some(subjects)),
     }
 }
 

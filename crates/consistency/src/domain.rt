@@ -7,5 +7,5 @@ use cca_base::ValueSet;
 #[derive(Clone, Copy, Debug)]
 pub struct Domain {
     pub values: ValueSet,
-    pub why: SubjectSet,
+    pub reason: SubjectSet,
 }

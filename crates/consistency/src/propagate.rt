@@ -3,13 +3,13 @@
 ghost use Rattle.std.specs.Prelude.{◌≡◌, ◌<◌, ◌≤◌, length, IfOk, OnOk};
 ghost use Rattle.cca_base.specs.declared.limits.TheConstants.{MAX_CHOICES};
 ghost use Rattle.clause_form.specs.Clauses.{AllBelow};
-ghost use Rattle.consistency.specs.declared.subjects.TheConstants.{MAX_SUBJECTS};
+ghost use Rattle.consistency.specs.declared.subjects.TheConstants.{SET_SUBJECTS};
 ghost use Rattle.consistency.specs.Search.{KeepsAll, IsClashOfAll, KeepsAssumed, KeepsAllAssumed, IsClashOfAssumed, Chooses, KeepsMore, IsClashOfMore};
 
 use crate::domain::Domain;
 use crate::problem::Problem;
 use crate::subjects::{SubjectSet, no_subject, union, with_subject};
-use crate::visit::{Visit, look_at};
+use crate::visit::{Visit, propagate_clause};
 use cca_base::ValueSet;
 use clause_form::Clause;
 use std::alloc::{AllocError, Global};
@@ -25,7 +25,7 @@ fn visit_all(
     ensures clash { IfOk result (IsClashOfAll clauses.now domains.old) }
 {
     for clause in clauses {
-        match look_at(clause.literals.as_slice(), domains) {
+        match propagate_clause(clause.literals.as_slice(), domains) {
             Visit::Same => {}
             Visit::Narrowed(subject) => changed.push(subject)?,
             Visit::Clash(because) => return Ok(Some(because)),
@@ -47,7 +47,7 @@ fn visit_places(
 {
     for place in places {
         if *place < clauses.len() {
-            match look_at(clauses[*place].literals.as_slice(), domains) {
+            match propagate_clause(clauses[*place].literals.as_slice(), domains) {
                 Visit::Same => {}
                 Visit::Narrowed(subject) => changed.push(subject)?,
                 Visit::Clash(because) => return Ok(Some(because)),
@@ -58,7 +58,7 @@ fn visit_places(
 }
 
 /// Looks at the clauses of what has changed, until nothing changes.
-fn settle(
+fn propagate(
     problem: &Problem,
     domains: &mut [Domain],
     changed: &mut Vec<u16>,
@@ -90,15 +90,15 @@ fn assume(
 ) -> Result<(), AllocError>
     requires subject { subject < length domains.old }
     requires assumed { subject < length base.now }
-    requires small { subject < MAX_SUBJECTS }
+    requires small { subject < SET_SUBJECTS }
     ensures { OnOk result (KeepsAssumed base.now domains.old domains.new) }
 {
     let before = domains[subject as usize];
     let values = before.values.common(base[subject as usize]);
     if values != before.values {
         let because = with_subject(&no_subject(), subject);
-        let why = union(&before.why, &because);
-        domains[subject as usize] = Domain { values, why };
+        let reason = union(&before.reason, &because);
+        domains[subject as usize] = Domain { values, reason };
         changed.push(subject)?;
     }
     Ok(())
@@ -114,7 +114,7 @@ pub fn assume_all(
 ) -> Result<Option<SubjectSet>, AllocError>
     requires within { AllBelow (length domains.old) problem.now.clauses }
     requires full { length domains.old ≡ length base.now }
-    requires small { length base.now ≤ MAX_SUBJECTS }
+    requires small { length base.now ≤ SET_SUBJECTS }
     ensures keeps { OnOk result (KeepsAllAssumed problem.now.clauses base.now domains.old domains.new) }
     ensures clash { IfOk result (IsClashOfAssumed problem.now.clauses base.now domains.old) }
 {
@@ -124,7 +124,7 @@ pub fn assume_all(
     }
     for subject in (0..base.len() as u16).rev() {
         assume(base, domains, &mut changed, subject)?;
-        if let Some(because) = settle(problem, domains, &mut changed)? {
+        if let Some(because) = propagate(problem, domains, &mut changed)? {
             return Ok(Some(because));
         }
     }
@@ -134,13 +134,13 @@ pub fn assume_all(
 /// Gives the subject the value, whose reason is the subject itself.
 fn choose(domains: &mut [Domain], subject: u16, value: u8)
     requires subject { subject < length domains.old }
-    requires small { subject < MAX_SUBJECTS }
+    requires small { subject < SET_SUBJECTS }
     requires value { value < MAX_CHOICES }
     ensures { Chooses domains.old subject value domains.new }
 {
     let values = ValueSet::empty().with(value);
-    let why = with_subject(&no_subject(), subject);
-    domains[subject as usize] = Domain { values, why };
+    let reason = with_subject(&no_subject(), subject);
+    domains[subject as usize] = Domain { values, reason };
 }
 
 /// Gives the subject the value, and narrows the domains.
@@ -153,7 +153,7 @@ pub fn extend(
 ) -> Result<Option<SubjectSet>, AllocError>
     requires within { AllBelow (length domains.old) problem.now.clauses }
     requires subject { subject < length domains.old }
-    requires small { subject < MAX_SUBJECTS }
+    requires small { subject < SET_SUBJECTS }
     requires value { value < MAX_CHOICES }
     ensures keeps { OnOk result (KeepsMore problem.now.clauses domains.old subject value domains.new) }
     ensures clash { IfOk result (IsClashOfMore problem.now.clauses domains.old subject value) }
@@ -161,5 +161,5 @@ pub fn extend(
     choose(domains, subject, value);
     let mut changed = Vec::new(alloc);
     changed.push(subject)?;
-    settle(problem, domains, &mut changed)
+    propagate(problem, domains, &mut changed)
 }

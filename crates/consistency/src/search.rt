@@ -3,7 +3,7 @@
 
 ghost use Rattle.std.specs.Prelude.{◌≡◌, ◌++◌, ◌∷◌, [], ◌<◌, ◌≤◌, true, length, ℕ, List, IfOk, IfSome, IsNone, slice_index, nat_lt};
 ghost use Rattle.cca_base.specs.declared.limits.TheConstants.{MAX_CHOICES};
-ghost use Rattle.consistency.specs.Search.{IsSolution, IsFirst, KnowsAll, IsOutcome, AreBounds, values_at};
+ghost use Rattle.consistency.specs.Search.{IsSolution, IsFirst, KnowsAll, IsSearchResult, AreBounds, values_at};
 ghost use Rattle.cca_base.specs.Sets.{has};
 ghost use Rattle.consistency.specs.Problem.{IsProblem};
 
@@ -16,7 +16,7 @@ use cca_base::{List, MAX_CHOICES, ValueSet};
 use std::alloc::{AllocError, Global};
 
 /// What a search comes to.
-pub enum Outcome {
+pub enum SearchResult {
     /// The first solution.
     Found(List<u8>),
     /// There is none; these subjects are to blame.
@@ -25,42 +25,42 @@ pub enum Outcome {
 
 /// The first solution that extends the prefix.
 #[cycle(seeking)]
-fn seek(
+fn search_from(
     alloc: Global,
     problem: &Problem,
     base: &[ValueSet],
     domains: &[Domain],
     prefix: &List<u8>,
-) -> Result<Outcome, AllocError>
+) -> Result<SearchResult, AllocError>
     requires proper { IsProblem problem.now.clauses base.now }
     requires full { length domains.now ≡ length base.now }
     requires room { length prefix.now ≤ length base.now }
     requires known { KnowsAll problem.now.clauses base.now prefix.now domains.now }
-    ensures { IfOk result (IsOutcome problem.now.clauses base.now prefix.now) }
+    ensures { IfOk result (IsSearchResult problem.now.clauses base.now prefix.now) }
 {
     let subject = prefix.len();
     if subject == base.len() {
         if is_solution(problem, base, prefix.as_slice()) {
-            return Ok(Outcome::Found(prefix.copy(alloc)?));
+            return Ok(SearchResult::Found(prefix.copy(alloc)?));
         }
-        return Ok(Outcome::Clash(all_subjects()));
+        return Ok(SearchResult::Clash(all_subjects()));
     }
     let values = domains[subject].values;
-    let mut blame = domains[subject].why;
+    let mut conflict_set = domains[subject].reason;
     for value in 0..MAX_CHOICES as u8 {
         if values.has(value) {
             match attempt(alloc, problem, base, domains, prefix, value)? {
-                Outcome::Found(found) => return Ok(Outcome::Found(found)),
-                Outcome::Clash(subjects) => {
+                SearchResult::Found(found) => return Ok(SearchResult::Found(found)),
+                SearchResult::Clash(subjects) => {
                     if !has_subject(&subjects, subject as u16) {
-                        return Ok(Outcome::Clash(subjects));
+                        return Ok(SearchResult::Clash(subjects));
                     }
-                    blame = union(&blame, &subjects);
+                    conflict_set = union(&conflict_set, &subjects);
                 }
             }
         }
     }
-    Ok(Outcome::Clash(blame))
+    Ok(SearchResult::Clash(conflict_set))
 }
 
 /// The same with one value more. Where no other value is left, nothing is to narrow.
@@ -72,24 +72,24 @@ fn attempt(
     domains: &[Domain],
     prefix: &List<u8>,
     value: u8,
-) -> Result<Outcome, AllocError>
+) -> Result<SearchResult, AllocError>
     requires proper { IsProblem problem.now.clauses base.now }
     requires full { length domains.now ≡ length base.now }
     requires room { length prefix.now < length base.now }
     requires value { value < MAX_CHOICES }
     requires known { KnowsAll problem.now.clauses base.now prefix.now domains.now }
-    ensures { IfOk result (IsOutcome problem.now.clauses base.now (prefix.now ++ value ∷ [])) }
+    ensures { IfOk result (IsSearchResult problem.now.clauses base.now (prefix.now ++ value ∷ [])) }
 {
     let subject = prefix.len();
     let mut longer = prefix.copy(alloc)?;
     longer.push(value)?;
     if domains[subject].values == ValueSet::empty().with(value) {
-        return seek(alloc, problem, base, domains, &longer);
+        return search_from(alloc, problem, base, domains, &longer);
     }
     let mut narrower = Vec::from_slice(alloc, domains)?;
     match extend(alloc, problem, &mut narrower, subject as u16, value)? {
-        Some(because) => Ok(Outcome::Clash(because)),
-        None => seek(alloc, problem, base, &narrower, &longer),
+        Some(because) => Ok(SearchResult::Clash(because)),
+        None => search_from(alloc, problem, base, &narrower, &longer),
     }
 }
 
@@ -102,7 +102,7 @@ fn whole_domains(alloc: Global, subjects: usize) -> Result<Vec<Domain>, AllocErr
     for _ in 0..subjects {
         domains.push(Domain {
             values: ValueSet::full(MAX_CHOICES as u8),
-            why: no_subject(),
+            reason: no_subject(),
         })?;
     }
     Ok(domains)
@@ -124,16 +124,20 @@ pub fn bounds(
 
 /// The first solution, or the subjects that are to blame that there is none: where these have values of their sets,
 /// whatever the other subjects have, some clause is false.
-pub fn solve(alloc: Global, problem: &Problem, base: &[ValueSet]) -> Result<Outcome, AllocError>
+pub fn solve(
+    alloc: Global,
+    problem: &Problem,
+    base: &[ValueSet],
+) -> Result<SearchResult, AllocError>
     requires { IsProblem problem.now.clauses base.now }
-    ensures { IfOk result (IsOutcome problem.now.clauses base.now []) }
+    ensures { IfOk result (IsSearchResult problem.now.clauses base.now []) }
 {
     let mut domains = whole_domains(alloc, base.len())?;
     if let Some(because) = assume_all(alloc, problem, base, &mut domains)? {
-        return Ok(Outcome::Clash(because));
+        return Ok(SearchResult::Clash(because));
     }
     let prefix = List::new(alloc);
-    seek(alloc, problem, base, &domains, &prefix)
+    search_from(alloc, problem, base, &domains, &prefix)
 }
 
 /// The first solution.
@@ -147,7 +151,7 @@ pub fn first_solution(
     ensures none { IfOk result (λ o. IsNone o → (xs : List ℕ) → IsSolution problem.now.clauses base.now xs → ⊥) }
 {
     match solve(alloc, problem, base)? {
-        Outcome::Found(values) => Ok(Some(values)),
-        Outcome::Clash(_) => Ok(None),
+        SearchResult::Found(values) => Ok(Some(values)),
+        SearchResult::Clash(_) => Ok(None),
     }
 }

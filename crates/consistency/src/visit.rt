@@ -37,7 +37,7 @@ fn reasons(literals: &[Literal], domains: &[Domain], skip: usize) -> SubjectSet
     let mut all = no_subject();
     for (i, literal) in literals.iter().enumerate() {
         if i != skip {
-            all = union(&all, &domains[literal.subject as usize].why);
+            all = union(&all, &domains[literal.subject as usize].reason);
         }
     }
     all
@@ -54,7 +54,7 @@ pub enum Visit {
 }
 
 /// Narrows the domain of the one subject that can still make the clause true.
-pub fn look_at(literals: &[Literal], domains: &mut [Domain]) -> Visit
+pub fn propagate_clause(literals: &[Literal], domains: &mut [Domain]) -> Visit
     requires { AreBelow (length domains.old) literals.now }
     ensures keeps { Keeps literals.now domains.old domains.new }
     ensures clash { IsVisit literals.now domains.old result }
@@ -73,7 +73,7 @@ pub fn look_at(literals: &[Literal], domains: &mut [Domain]) -> Visit
     if values == before.values {
         return Visit::Same;
     }
-    let why = union(&before.why, &because);
-    domains[subject] = Domain { values, why };
+    let reason = union(&before.reason, &because);
+    domains[subject] = Domain { values, reason };
     Visit::Narrowed(literal.subject)
 }

@@ -25,6 +25,15 @@ pub struct Worlds {
     pub(crate) rules: Problem,
 }
 
+impl std::marker::Model for Worlds {
+    ghost use Rattle.clause_form.specs.declared.clause.Clauses.{Clauses};
+    ghost use Rattle.consistency.specs.Problem.{clauses_in};
+
+    ghost Value = { Clauses };
+
+    ghost view = { λ w. clauses_in w.rules };
+}
+
 /// The first state and world that fit and have the denied formula false, if there is one.
 fn first_found(
     alloc: Global,

@@ -6,16 +6,17 @@ use Rattle.std.proofs.lemmas.List.{get_or_default, get_or-map, drop-take, drop-d
 use Rattle.std.proofs.lemmas.List.Sums.{sum_by-le, sum_by-set}
 use Rattle.std.proofs.lemmas.List.Elements.{All-nil, All-cons, All-head, All-tail}
 use Rattle.std.proofs.lemmas.Slice.Zip.{AllZip-long}
+use Rattle.cca_base.specs.declared.limits.TheConstants.{MAX_ROWS, MAX_COST}
 use Rattle.cca_base.proofs.Members.{contains_cases, contains_here, contains_none}
 use Rattle.cca_base.specs.declared.choice.Choice.{Choice}
 use Rattle.cost_search.specs.declared.part.Span.{Span}
 use Rattle.cca_base.specs.Choices.{IsRow, AreRows}
-use Rattle.cost_search.specs.Parts.{nothing, box, head_of, heads, size, row_at, IsSpan, AreSpans}
+use Rattle.cost_search.specs.SearchParts.{nothing, box, head_of, heads, size, row_at, IsSpan, AreSpans}
 
 pub spans-long : (rows : List (List Choice)) (spans : List Span) → AllZip IsSpan rows spans → length rows ≡ length spans
 spans-long rows spans h = sym (AllZip-long IsSpan rows spans h)
 
-pub box-set : (rows : List (List Choice)) (spans : List Span) (i : ℕ) (s : Span) → length rows ≡ length spans
+box-set : (rows : List (List Choice)) (spans : List Span) (i : ℕ) (s : Span) → length rows ≡ length spans
     → box rows (set spans i s) ≡ set (box rows spans) i (slice_range (get_or rows i []) s.from s.to)
 box-set [] [] i s e = refl
 box-set [] (x ∷ spans) i s e = absurd (omega arith)
@@ -23,7 +24,7 @@ box-set (row ∷ rows) [] i s e = absurd (omega arith)
 box-set (row ∷ rows) (x ∷ spans) zero s e = refl
 box-set (row ∷ rows) (x ∷ spans) (suc i) s e = ap (λ b. slice_range row x.from x.to ∷ b) (box-set rows spans i s (omega arith))
 
-pub box-at : (rows : List (List Choice)) (spans : List Span) (i : ℕ) (d : Span) → length rows ≡ length spans → i < length rows
+box-at : (rows : List (List Choice)) (spans : List Span) (i : ℕ) (d : Span) → length rows ≡ length spans → i < length rows
     → row_at (box rows spans) i ≡ slice_range (get_or rows i []) (get_or spans i d).from (get_or spans i d).to
 box-at [] [] i d e h = absurd (omega arith)
 box-at [] (x ∷ spans) i d e h = absurd (omega arith)
@@ -37,32 +38,32 @@ length-box [] (x ∷ spans) e = absurd (omega arith)
 length-box (row ∷ rows) [] e = absurd (omega arith)
 length-box (row ∷ rows) (x ∷ spans) e = let l : length rows ≡ length spans = omega arith in ap suc (length-box rows spans l)
 
-pub heads-set : (b : List (List Choice)) (i : ℕ) (row : List Choice) → heads (set b i row) ≡ set (heads b) i (head_of row)
+heads-set : (b : List (List Choice)) (i : ℕ) (row : List Choice) → heads (set b i row) ≡ set (heads b) i (head_of row)
 heads-set b i row = map-set head_of b i row
 
 -- what a span of a row begins with
 pub head_of-range : (row : List Choice) (from to : ℕ) → from < to → head_of (slice_range row from to) ≡ get_or row from nothing
 head_of-range row from to h = get_or-take (to - from) (drop from row) 0 nothing (omega arith) ∙ get_or-drop from row 0 nothing ∙ ap (λ n. get_or row n nothing) (add-zero from)
 
-pub rest_of-range : (row : List Choice) (from to : ℕ) → from < to → slice_range row (from + 1) to ≡ drop 1 (slice_range row from to)
+rest_of-range : (row : List Choice) (from to : ℕ) → from < to → slice_range row (from + 1) to ≡ drop 1 (slice_range row from to)
 rest_of-range row from to h =
     let m = to - (from + 1) in
     let k : to - from ≡ 1 + m = omega arith in
     ap (take m) (sym (drop-drop 1 from row)) ∙ sym (drop-take 1 m (drop from row)) ∙ ap (λ n. drop 1 (take n (drop from row))) (sym k)
 
-pub first_of-range : (row : List Choice) (from to : ℕ) → from < to → slice_range row from (from + 1) ≡ take 1 (slice_range row from to)
+first_of-range : (row : List Choice) (from to : ℕ) → from < to → slice_range row from (from + 1) ≡ take 1 (slice_range row from to)
 first_of-range row from to h =
     let k : (from + 1) - from ≡ 1 = omega arith in
     ap (λ n. take n (drop from row)) k ∙ sym (take-take 1 (to - from) (drop from row) (omega arith))
 
-pub spans-set : (rows : List (List Choice)) (spans : List Span) (i : ℕ) (s : Span) → AllZip IsSpan rows spans → IsSpan (get_or rows i []) s → AllZip IsSpan rows (set spans i s)
+spans-set : (rows : List (List Choice)) (spans : List Span) (i : ℕ) (s : Span) → AllZip IsSpan rows spans → IsSpan (get_or rows i []) s → AllZip IsSpan rows (set spans i s)
 spans-set [] [] i s h k = h
 spans-set [] (x ∷ spans) i s h k = absurd h
 spans-set (row ∷ rows) [] i s h k = absurd h
 spans-set (row ∷ rows) (x ∷ spans) zero s h k = (k, h.1)
 spans-set (row ∷ rows) (x ∷ spans) (suc i) s h k = (h.0, spans-set rows spans i s h.1 k)
 
-pub span-at : (rows : List (List Choice)) (spans : List Span) (i : ℕ) (d : Span) → AllZip IsSpan rows spans → i < length rows → IsSpan (get_or rows i []) (get_or spans i d)
+span-at : (rows : List (List Choice)) (spans : List Span) (i : ℕ) (d : Span) → AllZip IsSpan rows spans → i < length rows → IsSpan (get_or rows i []) (get_or spans i d)
 span-at [] [] i d h k = absurd (omega arith)
 span-at [] (x ∷ spans) i d h k = absurd h
 span-at (row ∷ rows) [] i d h k = absurd h
@@ -91,48 +92,36 @@ picks-split (row ∷ b) (y ∷ picks) (suc i) h k = elim (picks-split b picks i 
   | inr rest ↦ inr ((k.0, rest.0), rest.1)
 ]
 
--- what narrower rows have
-pub picks-weaker : (b : List (List Choice)) (picks : List Choice) (i : ℕ) → AllZip Contains (set b i (take 1 (row_at b i))) picks → AllZip Contains b picks
-picks-weaker [] picks i k = k
-picks-weaker (row ∷ b) [] zero k = absurd k
-picks-weaker (row ∷ b) [] (suc i) k = absurd k
-picks-weaker ([] ∷ b) (y ∷ picks) zero k = k
-picks-weaker ((x ∷ row) ∷ b) (y ∷ picks) zero k = elim (contains_cases x y [] k.0) [
-  | inl e ↦ (contains_here x y row e, k.1)
-  | inr there ↦ absurd (contains_none y there)
-]
-picks-weaker (row ∷ b) (y ∷ picks) (suc i) k = (k.0, picks-weaker b picks i k.1)
-
 -- ---- spans
 
 pub span-is : (rows : List (List Choice)) (spans : List Span) (i : ℕ) (s : Span) → AllZip IsSpan rows spans → i < length rows → s ≡ get_or spans i s → IsSpan (get_or rows i []) s
 span-is rows spans i s h k e = subst (IsSpan (get_or rows i [])) (sym e) (span-at rows spans i s h k)
 
-pub row-is : (rows : List (List Choice)) (spans : List Span) (i : ℕ) (s : Span) → AllZip IsSpan rows spans → i < length rows → s ≡ get_or spans i s
+row-is : (rows : List (List Choice)) (spans : List Span) (i : ℕ) (s : Span) → AllZip IsSpan rows spans → i < length rows → s ≡ get_or spans i s
     → row_at (box rows spans) i ≡ slice_range (get_or rows i []) s.from s.to
 row-is rows spans i s h k e = box-at rows spans i s (spans-long rows spans h) k ∙ ap (λ (x : Span). slice_range (get_or rows i []) x.from x.to) (sym e)
 
 -- a state's choices cost at most so much
-pub heads-cheap : (rows : List (List Choice)) (spans : List Span) → All IsRow rows → AllZip IsSpan rows spans → All (λ x. x.cost ≤ 1000000) (heads (box rows spans))
-heads-cheap [] [] each h = All-nil (λ x. x.cost ≤ 1000000)
+heads-cheap : (rows : List (List Choice)) (spans : List Span) → All IsRow rows → AllZip IsSpan rows spans → All (λ x. x.cost ≤ MAX_COST) (heads (box rows spans))
+heads-cheap [] [] each h = All-nil (λ x. x.cost ≤ MAX_COST)
 heads-cheap [] (s ∷ spans) each h = absurd h
 heads-cheap (row ∷ rows) [] each h = absurd h
 heads-cheap (row ∷ rows) (s ∷ spans) each h =
     let own = All-head IsRow row rows each in
     let some = h.0.some in
     let within = h.0.within in
-    let first : (get_or row s.from nothing).cost ≤ 1000000 = own.cheap s.from nothing (omega arith) in
-    All-cons (λ x. x.cost ≤ 1000000) (head_of (slice_range row s.from s.to)) (heads (box rows spans))
-    (subst (λ (x : Choice). x.cost ≤ 1000000) (sym (head_of-range row s.from s.to some)) first)
+    let first : (get_or row s.from nothing).cost ≤ MAX_COST = own.cheap s.from nothing (omega arith) in
+    All-cons (λ x. x.cost ≤ MAX_COST) (head_of (slice_range row s.from s.to)) (heads (box rows spans))
+    (subst (λ (x : Choice). x.cost ≤ MAX_COST) (sym (head_of-range row s.from s.to some)) first)
     (heads-cheap rows spans (All-tail IsRow row rows each) h.1)
 
-pub length-heads : (rows : List (List Choice)) (spans : List Span) → AllZip IsSpan rows spans → length (heads (box rows spans)) ≡ length rows
+length-heads : (rows : List (List Choice)) (spans : List Span) → AllZip IsSpan rows spans → length (heads (box rows spans)) ≡ length rows
 length-heads rows spans h = length-map (box rows spans) head_of ∙ length-box rows spans (spans-long rows spans h)
 
-pub cost-small : (rows : List (List Choice)) (cost : ℕ) (modes : List ℕ) (spans : List Span) → AreRows rows → AreSpans rows cost modes spans → cost ≤ 65536000000
+pub cost-small : (rows : List (List Choice)) (cost : ℕ) (modes : List ℕ) (spans : List Span) → AreRows rows → AreSpans rows cost modes spans → cost ≤ MAX_ROWS * MAX_COST
 cost-small rows cost modes spans a p =
     let few = a.few in
-    let le : sum_by (λ x. x.cost) (heads (box rows spans)) ≤ length (heads (box rows spans)) * 1000000 = sum_by-le (λ x. x.cost) 1000000 (heads (box rows spans)) (heads-cheap rows spans a.each p.each) in
+    let le : sum_by (λ x. x.cost) (heads (box rows spans)) ≤ length (heads (box rows spans)) * MAX_COST = sum_by-le (λ x. x.cost) MAX_COST (heads (box rows spans)) (heads-cheap rows spans a.each p.each) in
     let l = length-heads rows spans p.each in
     let e = p.costs in
     omega arith
@@ -211,8 +200,8 @@ one_choice rows spans i s h k e one =
     let l : length (slice_range (get_or rows i []) s.from s.to) ≤ 1 = omega (arith, length-take (s.to - s.from) (drop s.from (get_or rows i []))) in
     subst (λ r. length r ≤ 1) (sym (row-is rows spans i s h k e)) l
 
-pub cheap-at : (rows : List (List Choice)) (i k : ℕ) (x : Choice) → AreRows rows → i < length rows → k < length (get_or rows i []) → x ≡ get_or (get_or rows i []) k x → x.cost ≤ 1000000
-cheap-at rows i k x a h l e = let own : IsRow (get_or rows i []) = a.each i [] h in subst (λ (z : Choice). z.cost ≤ 1000000) (sym e) (own.cheap k x l)
+pub cheap-at : (rows : List (List Choice)) (i k : ℕ) (x : Choice) → AreRows rows → i < length rows → k < length (get_or rows i []) → x ≡ get_or (get_or rows i []) k x → x.cost ≤ MAX_COST
+cheap-at rows i k x a h l e = let own : IsRow (get_or rows i []) = a.each i [] h in subst (λ (z : Choice). z.cost ≤ MAX_COST) (sym e) (own.cheap k x l)
 
 pub row-read : (rows : List (List Choice)) (i : ℕ) (row : List Choice) → i < length rows → row ≡ get_or rows i row → row ≡ get_or rows i []
 row-read rows i row h e = e ∙ get_or_default rows i row [] h

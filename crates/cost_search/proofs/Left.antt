@@ -40,7 +40,7 @@ strictly_fewer true b e f = absurd (cc)
 strictly_fewer false true e f = omega arith
 strictly_fewer false false e f = absurd (cc)
 
-pub count-lt : (rows : List (List Choice)) (test more : List Choice → Bool) (picks : List Choice) → ((ps : List Choice) → test ps ≡ true → more ps ≡ true) → AllZip Contains rows picks
+count-lt : (rows : List (List Choice)) (test more : List Choice → Bool) (picks : List Choice) → ((ps : List Choice) → test ps ≡ true → more ps ≡ true) → AllZip Contains rows picks
     → test picks ≡ false → more picks ≡ true → count_states rows test < count_states rows more
 count-lt [] test more [] f has out inside = strictly_fewer (test []) (more []) out inside
 count-lt [] test more (y ∷ picks) f has out inside = absurd has

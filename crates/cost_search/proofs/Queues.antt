@@ -7,13 +7,14 @@ use Rattle.std.proofs.lemmas.Slice.Zip.{AllZip-long}
 use Rattle.std.proofs.lemmas.List.Sums.{sum_by-append}
 use Rattle.std.proofs.lemmas.List.Sorted.{Contains-permutation, All-permutation, sum_by-IsPermutation, sum_by_popped}
 use Rattle.std.proofs.lemmas.List.Elements.{All-append, All-tail, Contains-append_left, Contains-append_right, All-contains}
+use Rattle.cca_base.specs.declared.limits.TheConstants.{MAX_ROWS}
 use Rattle.cca_base.proofs.Members.{all_from, contains_cases, contains_here, contains_there, contains_none}
 use Rattle.cca_base.specs.declared.cube.Pair.{Pair}
 use Rattle.cca_base.specs.State.{Extends}
 use Rattle.cca_base.specs.declared.choice.Choice.{Choice}
 use Rattle.cost_search.specs.declared.costed.Costed.{Costed}
 use Rattle.cost_search.specs.declared.part.Part.{Part}
-use Rattle.cost_search.specs.Parts.{IsPart, IsReplaced, AreInstead, KeepsFirst, nothing, head_of, heads, box_of, size, size_of}
+use Rattle.cost_search.specs.SearchParts.{IsPart, IsReplaced, AreInstead, KeepsFirst, nothing, head_of, heads, box_of, size, size_of}
 use Rattle.cost_search.specs.Search.{IsAfterLast}
 use Rattle.cca_base.specs.Choices.{AreRows}
 use Rattle.cost_search.proofs.Boxes.{length-modes}
@@ -61,12 +62,12 @@ item_among (q ∷ cube) p h = elim (contains_cases q p cube h) [
 -- ---- a blocked first state, and those that agree with it
 
 -- a mode of the state that choices make
-pub mode-at : (picks : List Choice) (c : ℕ) → c < length picks → slice_get (modes_of picks) c ≡ Some (get_or picks c nothing).mode
+mode-at : (picks : List Choice) (c : ℕ) → c < length picks → slice_get (modes_of picks) c ≡ Some (get_or picks c nothing).mode
 mode-at picks c h =
     let long : c < length (modes_of picks) = omega (arith, length-map picks (λ (x : Choice). x.mode)) in
     slice_get-get_or (modes_of picks) c 0 long ∙ ap Some (get_or-map (λ (x : Choice). x.mode) picks c nothing 0 h)
 
-pub same_mode : (b : List (List Choice)) (components : List ℕ) (picks : List Choice) (c v : ℕ) → length picks ≡ length b → KeepsFirst b components picks → Contains components c
+same_mode : (b : List (List Choice)) (components : List ℕ) (picks : List Choice) (c v : ℕ) → length picks ≡ length b → KeepsFirst b components picks → Contains components c
     → slice_get (modes_of (heads b)) c ≡ Some v → slice_get (modes_of picks) c ≡ Some v
 same_mode b components picks c v long keeps among e =
     let within : c < length (modes_of (heads b)) = slice_get_within (modes_of (heads b)) c v e in
@@ -75,7 +76,7 @@ same_mode b components picks c v long keeps among e =
     mode-at picks c of_picks ∙ ap (λ (x : Choice). Some x.mode) (All-contains (λ d. get_or picks d nothing ≡ get_or (heads b) d nothing) components c keeps among)
     ∙ sym (mode-at (heads b) c of_heads) ∙ e
 
-pub length-picks : (b : List (List Choice)) (picks : List Choice) → AllZip Contains b picks → length picks ≡ length b
+length-picks : (b : List (List Choice)) (picks : List Choice) → AllZip Contains b picks → length picks ≡ length b
 length-picks b picks h = AllZip-long Contains b picks h
 
 all_first : (b : List (List Choice)) (components : List ℕ) (picks : List Choice) → length picks ≡ length b → KeepsFirst b components picks → ((c : ℕ) → c < length b → Contains components c)
@@ -85,7 +86,7 @@ all_first b components picks long keeps all =
     ext_get_or nothing picks (heads b) (omega arith)
     (λ c h. All-contains (λ d. get_or picks d nothing ≡ get_or (heads b) d nothing) components c keeps (all c (omega arith)))
 
-pub blocked_closed : (rows : List (List Choice)) (last : Option Costed) (cuts : List (List Pair)) (p : Part) (components : List ℕ) (picks : List Choice) → IsPart rows p
+blocked_closed : (rows : List (List Choice)) (last : Option Costed) (cuts : List (List Pair)) (p : Part) (components : List ℕ) (picks : List Choice) → IsPart rows p
     → AllZip Contains (box_of rows p) picks → KeepsFirst (box_of rows p) components picks → IsBlocked last cuts p.modes p.cost components → IsOpen last cuts (modes_of picks) (cost_of picks) → ⊥
 blocked_closed rows last cuts p components picks part has keeps (inl (given, all)) left =
     let b = box_of rows p in
@@ -119,7 +120,7 @@ replaces rows last cuts old pieces p components some first part blocked instead 
 pub top-part : (rows : List (List Choice)) (parts : List Part) (p : Part) → All (IsPart rows) parts → 0 < length parts → p ≡ get_or parts 0 p → IsPart rows p
 top-part rows parts p each some e = subst (IsPart rows) (sym e) (each 0 p some)
 
-pub modes-few : (rows : List (List Choice)) (parts : List Part) (p : Part) → AreRows rows → All (IsPart rows) parts → 0 < length parts → p ≡ get_or parts 0 p → length p.modes ≤ 65536
+pub modes-few : (rows : List (List Choice)) (parts : List Part) (p : Part) → AreRows rows → All (IsPart rows) parts → 0 < length parts → p ≡ get_or parts 0 p → length p.modes ≤ MAX_ROWS
 modes-few rows parts p a each some e =
     let part = top-part rows parts p each some e in
     omega (arith, length-modes rows p.cost p.modes p.spans part, a.few)

@@ -11,26 +11,22 @@ use Rattle.std.proofs.lemmas.Cmp.{tied_itself}
 use Rattle.std.proofs.lemmas.List.{get_or-take, get_or-drop, get_or_default, length-take}
 use Rattle.std.proofs.lemmas.List.Sums.{sum_by-cons}
 use Rattle.std.proofs.lemmas.List.Elements.{All-head, All-tail, Contains-get_or}
+use Rattle.std.proofs.lemmas.Map.Lookups.{exact_unsigned}
+use Rattle.list_laws.proofs.Orders.{then_equal, nat_cmp-same}
 use Rattle.cca_base.specs.Estimates.{IsEarlier}
 use Rattle.cca_base.specs.declared.choice.Choice.{Choice}
 use Rattle.cost_search.specs.declared.part.Span.{Span}
 use Rattle.cost_search.specs.Search.{rank_cmp, IsBefore, IsUpTo}
 use Rattle.cca_base.specs.Choices.{choice_cmp, IsRow}
-use Rattle.cost_search.specs.Parts.{box, heads, head_of, nothing, IsSpan}
+use Rattle.cost_search.specs.SearchParts.{box, heads, head_of, nothing, IsSpan}
 use Rattle.cost_search.specs.Queue.{modes_of, cost_of}
 use Rattle.cost_search.proofs.Boxes.{head_of-range}
 
 nat_less : (x y : ℕ) → nat_cmp x y ≡ Less → x < y
 nat_less x y e = grind (arith, nat_tests)
 
-nat_equal : (x y : ℕ) → nat_cmp x y ≡ Equal → x ≡ y
-nat_equal x y e = grind (arith, nat_tests)
-
 less_nat : (x y : ℕ) → x < y → nat_cmp x y ≡ Less
 less_nat x y h = grind (arith, nat_tests)
-
-equal_nat : (x y : ℕ) → x ≡ y → nat_cmp x y ≡ Equal
-equal_nat x y h = grind (arith, nat_tests)
 
 -- ---- two orders, the one after the other
 
@@ -38,11 +34,6 @@ then_cases : (a b : Ordering) → ordering_then a b ≡ Less → (a ≡ Less) �
 then_cases Less b e = inl refl
 then_cases Equal b e = inr (refl, e)
 then_cases Greater b e = absurd (cc)
-
-then_equal : (a b : Ordering) → ordering_then a b ≡ Equal → (a ≡ Equal) × (b ≡ Equal)
-then_equal Less b e = absurd (cc)
-then_equal Equal b e = (refl, e)
-then_equal Greater b e = absurd (cc)
 
 then_first : (a b : Ordering) → a ≡ Less → ordering_then a b ≡ Less
 then_first a b e = ap (λ o. ordering_then o b) e
@@ -56,21 +47,21 @@ same_list [] (y ∷ ys) e = absurd (cc)
 same_list (x ∷ xs) [] e = absurd (cc)
 same_list (x ∷ xs) (y ∷ ys) e =
     let both = then_equal (nat_cmp x y) (slice_cmp nat_cmp xs ys) e in
-    let first : x ≡ y = nat_equal x y both.0 in
+    let first : x ≡ y = exact_unsigned x y both.0 in
     let rest : xs ≡ ys = same_list xs ys both.1 in cc
 
 -- ---- costs and modes together
 
-pub before_by_cost : (a b : ℕ) (s t : List ℕ) → a < b → IsBefore a s b t
+before_by_cost : (a b : ℕ) (s t : List ℕ) → a < b → IsBefore a s b t
 before_by_cost a b s t h = then_first (nat_cmp a b) (slice_cmp nat_cmp s t) (less_nat a b h)
 
-pub before_by_modes : (a b : ℕ) (s t : List ℕ) → a ≡ b → IsEarlier s t → IsBefore a s b t
-before_by_modes a b s t e h = then_second (nat_cmp a b) (slice_cmp nat_cmp s t) (equal_nat a b e) h
+before_by_modes : (a b : ℕ) (s t : List ℕ) → a ≡ b → IsEarlier s t → IsBefore a s b t
+before_by_modes a b s t e h = then_second (nat_cmp a b) (slice_cmp nat_cmp s t) (nat_cmp-same a b e) h
 
-pub before_cases : (a b : ℕ) (s t : List ℕ) → IsBefore a s b t → (a < b) ⊎ ((a ≡ b) × IsEarlier s t)
+before_cases : (a b : ℕ) (s t : List ℕ) → IsBefore a s b t → (a < b) ⊎ ((a ≡ b) × IsEarlier s t)
 before_cases a b s t h = elim (then_cases (nat_cmp a b) (slice_cmp nat_cmp s t) h) [
   | inl e ↦ inl (nat_less a b e)
-  | inr both ↦ inr (nat_equal a b both.0, both.1)
+  | inr both ↦ inr (exact_unsigned a b both.0, both.1)
 ]
 
 rank_total : IsTotalOrder (λ (x y : ℕ × List ℕ). ordering_then (nat_cmp x.0 y.0) (slice_cmp nat_cmp x.1 y.1))
@@ -84,10 +75,6 @@ upto-trans a b c s t u (inl e) k = subst (λ m. IsUpTo m s c u) e.1 (subst (λ l
 upto-trans a b c s t u (inr h) (inl e) = inr (subst (λ m. IsBefore a s m u) (sym e.1) (subst (λ l. IsBefore a s b l) (sym e.0) h))
 upto-trans a b c s t u (inr h) (inr k) = inr (before-trans a b c s t u h k)
 
-pub before-upto : (a b c : ℕ) (s t u : List ℕ) → IsBefore a s b t → IsUpTo b t c u → IsBefore a s c u
-before-upto a b c s t u h (inl e) = subst (λ m. IsBefore a s m u) (sym e.1) (subst (λ l. IsBefore a s b l) (sym e.0) h)
-before-upto a b c s t u h (inr k) = before-trans a b c s t u h k
-
 pub upto_cost : (a b : ℕ) (s t : List ℕ) → IsUpTo a s b t → a ≤ b
 upto_cost a b s t (inl e) = omega (arith, e.1)
 upto_cost a b s t (inr h) = elim (before_cases a b s t h) [ inl less ↦ omega arith | inr both ↦ omega (arith, both.0) ]
@@ -96,7 +83,7 @@ upto_by : (o : Ordering) (a b : ℕ) (s t : List ℕ) → rank_cmp b t a s ≡ o
 upto_by Less a b s t e f = absurd (cc)
 upto_by Equal a b s t e f =
     let both = then_equal (nat_cmp b a) (slice_cmp nat_cmp t s) e in
-    inl (same_list t s both.1, nat_equal b a both.0)
+    inl (same_list t s both.1, exact_unsigned b a both.0)
 upto_by Greater a b s t e f = inr (rank_total.antisymm (a, s) (b, t) ∙ ap ordering_reverse e)
 
 -- what does not come before comes after, or is the same
@@ -114,7 +101,7 @@ choice_upto row from k y own le h e =
     ]
 
 -- a choice of a span comes no earlier than the first
-pub span_upto : (row : List Choice) (s : Span) (y : Choice) → IsRow row → IsSpan row s → Contains (slice_range row s.from s.to) y
+span_upto : (row : List Choice) (s : Span) (y : Choice) → IsRow row → IsSpan row s → Contains (slice_range row s.from s.to) y
     → (head_of (slice_range row s.from s.to) ≡ y) ⊎ (choice_cmp (head_of (slice_range row s.from s.to)) y ≡ Less)
 span_upto row s y own is (k, within, e) =
     let some = is.some in
@@ -135,13 +122,13 @@ more_upto x y xs ys (inl same) (inr h) =
     inr (elim (before_cases (cost_of xs) (cost_of ys) (modes_of xs) (modes_of ys) h) [
       | inl less ↦ before_by_cost (x.cost + cost_of xs) (y.cost + cost_of ys) (x.mode ∷ modes_of xs) (y.mode ∷ modes_of ys) (omega arith)
       | inr both ↦ before_by_modes (x.cost + cost_of xs) (y.cost + cost_of ys) (x.mode ∷ modes_of xs) (y.mode ∷ modes_of ys) (omega (arith, both.0))
-          (then_second (nat_cmp x.mode y.mode) (slice_cmp nat_cmp (modes_of xs) (modes_of ys)) (equal_nat x.mode y.mode modes) both.1)
+          (then_second (nat_cmp x.mode y.mode) (slice_cmp nat_cmp (modes_of xs) (modes_of ys)) (nat_cmp-same x.mode y.mode modes) both.1)
     ])
 more_upto x y xs ys (inr less) u =
     let rest : cost_of xs ≤ cost_of ys = upto_cost (cost_of xs) (cost_of ys) (modes_of xs) (modes_of ys) u in
     inr (elim (then_cases (nat_cmp x.cost y.cost) (nat_cmp x.mode y.mode) less) [
       | inl cost ↦ (let lt : x.cost < y.cost = nat_less x.cost y.cost cost in before_by_cost (x.cost + cost_of xs) (y.cost + cost_of ys) (x.mode ∷ modes_of xs) (y.mode ∷ modes_of ys) (omega arith))
-      | inr both ↦ (let same : x.cost ≡ y.cost = nat_equal x.cost y.cost both.0 in
+      | inr both ↦ (let same : x.cost ≡ y.cost = exact_unsigned x.cost y.cost both.0 in
           let cases : (cost_of xs < cost_of ys) ⊎ (cost_of xs ≡ cost_of ys) = grind arith in
           elim cases [
             | inl lt ↦ before_by_cost (x.cost + cost_of xs) (y.cost + cost_of ys) (x.mode ∷ modes_of xs) (y.mode ∷ modes_of ys) (omega arith)

@@ -1,29 +1,26 @@
 -- What a search gives, and what stays.
-use Rattle.std.proofs.Common.{◌≡◌, ℕ, ◌<◌, false, List, [], ◌∷◌, ◌++◌, length, get_or, All, Some, None, Option, sym, subst, arith}
+use Rattle.std.proofs.Common.{◌≡◌, ℕ, ◌<◌, false, List, [], ◌∷◌, ◌++◌, length, get_or, Some, None, Option, sym, subst, arith}
 use Rattle.std.specs.Ordering.{is_lt}
 use Rattle.std.specs.BinaryHeap.{IsUpperBound}
-use Rattle.std.proofs.lemmas.List.{get_or_append_left, length-append}
 use Rattle.std.proofs.lemmas.List.Elements.{All-contains, All-from_recursion}
+use Rattle.list_laws.proofs.Elements.{all_left}
 use Rattle.cca_base.specs.declared.cube.Pair.{Pair}
 use Rattle.cca_base.specs.State.{Extends}
 use Rattle.cca_base.specs.declared.choice.Choice.{Choice}
 use Rattle.cost_search.specs.declared.costed.Costed.{Costed}
 use Rattle.cost_search.specs.declared.part.Part.{Part}
 use Rattle.cost_search.specs.Search.{IsLeft, IsNext, NoneLeft, IsUpTo, IsBefore, IsAfterLast, IsUncut}
-use Rattle.cost_search.specs.Parts.{IsPart, IsIn, heads, box_of, part_cmp}
+use Rattle.cost_search.specs.SearchParts.{IsPart, IsIn, heads, box_of, part_cmp}
 use Rattle.cost_search.specs.Queue.{IsSearch, IsQueue, IsOpen, Covers, modes_of, cost_of}
 use Rattle.cost_search.proofs.Ranks.{heads_chosen, heads_upto, upto_from_test, upto-trans, before-trans}
 use Rattle.cost_search.proofs.Queues.{top-part}
-
-all_front : {X : Type 0} (P : X → Type 0) (xs ys : List X) → All P (xs ++ ys) → All P xs
-all_front P xs ys h = λ k d within. subst P (get_or_append_left xs ys d k within) (h k d (omega (arith, length-append xs ys)))
 
 pub cut_search : (rows : List (List Choice)) (last : Option Costed) (cuts : List (List Pair)) (parts : List Part) (cube : List Pair) → IsSearch rows last cuts parts
     → IsSearch rows last (cuts ++ cube ∷ []) parts
 cut_search rows last cuts parts cube s = record {
   rows_fit = s.rows_fit;
   queue = s.queue;
-  covers = λ picks has left. s.covers picks has (record { after = left.after; uncut = all_front (λ c. Extends (modes_of picks) c → ⊥) cuts (cube ∷ []) left.uncut });
+  covers = λ picks has left. s.covers picks has (record { after = left.after; uncut = all_left (λ c. Extends (modes_of picks) c → ⊥) cuts (cube ∷ []) left.uncut });
 }
 
 pub settled : (rows rows2 : List (List Choice)) (last : Option Costed) (cuts cuts2 : List (List Pair)) (old new : List Part) → rows2 ≡ rows → cuts2 ≡ cuts → IsSearch rows last cuts old

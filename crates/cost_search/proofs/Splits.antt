@@ -9,7 +9,7 @@ use Rattle.std.proofs.lemmas.List.Elements.{All-cons, All-head, All-tail, All-pu
 use Rattle.cca_base.proofs.Members.{contains_here, contains_there, contains_none}
 use Rattle.cca_base.specs.declared.choice.Choice.{Choice}
 use Rattle.cost_search.specs.declared.part.Part.{Part}
-use Rattle.cost_search.specs.Parts.{nothing, box_of, heads, size, row_at, IsPart, Gains, IsSplit, AreInstead}
+use Rattle.cost_search.specs.SearchParts.{nothing, box_of, heads, size, row_at, IsPart, Gains, IsSplit, AreInstead}
 use Rattle.cost_search.proofs.Boxes.{size-split, picks-split, heads-narrowed}
 
 pub gains_piece : (rows : List (List Choice)) (pieces more : List Part) (b : List (List Choice)) (p : Part) → All (IsPart rows) pieces → IsPart rows p → box_of rows p ≡ b

@@ -13,28 +13,25 @@ use Rattle.std.proofs.lemmas.List.Sums.{sum_by_push}
 use Rattle.cca_base.proofs.Members.{contains_none}
 use Rattle.cca_base.specs.declared.choice.Choice.{Choice}
 use Rattle.cost_search.specs.declared.part.Span.{Span}
-use Rattle.cost_search.specs.Parts.{nothing, box, head_of, heads, IsSpan, AreSpans}
+use Rattle.cost_search.specs.SearchParts.{nothing, box, head_of, heads, IsSpan, AreSpans}
 
--- the first choices of a row have as many modes, each below 256
-pub few_choices : (row : List Choice) (i : ℕ) → AllPairs (λ x y. x.mode ≢ y.mode) row → All (λ x. x.mode < 256) (take i row) → i ≤ length row → i ≤ 256
-few_choices row i once small within =
+-- the first choices of a row have as many modes, so if each is below a number there are no more
+pub few_choices : (most : ℕ) (row : List Choice) (i : ℕ) → AllPairs (λ x y. x.mode ≢ y.mode) row → All (λ x. x.mode < most) (take i row) → i ≤ length row → i ≤ most
+few_choices most row i once small within =
     let some : List Choice = take i row in
     let mode : Choice → ℕ = λ x. x.mode in
     let long : length (map mode some) ≡ length some = length-map some mode in
     let apart : AllPairs (λ x y. x ≢ y) (map mode some) = λ a b d before inside e.
     AllPairs-take (λ x y. x.mode ≢ y.mode) i row once a b nothing before (omega (arith, inside, long))
     (sym (get_or-map mode some a nothing d (omega (arith, before, inside, long))) ∙ (e ∙ get_or-map mode some b nothing d (omega (arith, inside, long)))) in
-    let le = length-le_from_distinct_below (map mode some) 256 (IsDistinct-from_AllPairs Decides-eqb (map mode some) apart)
-    (λ q h. All-contains (λ n. n < 256) (map mode some) q (All-map (λ n. n < 256) mode some small) (Contains-from_any eqb-true q (map mode some) h)) in
+    let le = length-le_from_distinct_below (map mode some) most (IsDistinct-from_AllPairs Decides-eqb (map mode some) apart)
+    (λ q h. All-contains (λ n. n < most) (map mode some) q (All-map (λ n. n < most) mode some small) (Contains-from_any eqb-true q (map mode some) h)) in
     omega (arith, le, long, length-take i row)
 
 -- spans of whole rows
 pub record AreWhole (rows : List (List Choice)) (cost : ℕ) (modes : List ℕ) (spans : List Span) : Type 0 where
   pub fits : AreSpans rows cost modes spans
   pub whole : box rows spans ≡ rows
-
-pub whole_none : AreWhole [] 0 [] []
-whole_none = record { fits = record { each = tt; starts = refl; costs = refl }; whole = refl }
 
 spans-push : (rows : List (List Choice)) (spans : List Span) (row : List Choice) (s : Span) → AllZip IsSpan rows spans → IsSpan row s → AllZip IsSpan (rows ++ row ∷ []) (spans ++ s ∷ [])
 spans-push [] [] row s h k = (k, tt)

@@ -9,7 +9,7 @@ use Rattle.cost_search.specs.declared.costed.Costed.{Costed}
 use Rattle.cost_search.specs.declared.part.Part.{Part}
 use Rattle.cost_search.specs.Search.{IsAfterLast, IsUncut}
 use Rattle.cca_base.specs.Choices.{AreRows}
-use Rattle.cost_search.specs.Parts.{IsPart, IsIn, box_of, size, size_of, part_cmp}
+use Rattle.cost_search.specs.SearchParts.{IsPart, IsIn, box_of, size, size_of, part_cmp}
 
 -- parts of the rows, the greatest first
 pub record IsQueue (rows : List (List Choice)) (parts : List Part) : Type 0 where

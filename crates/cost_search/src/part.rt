@@ -5,7 +5,7 @@ ghost use Rattle.std.specs.Cmp.{partial_order_from_own_ties};
 ghost use Rattle.std.specs.Cmp.Rules.{comparing};
 ghost use Rattle.std.specs.Ordering.{as_partial_cmp};
 ghost use Rattle.std.proofs.Common.{rules};
-ghost use Rattle.cost_search.specs.Parts.{part_eq, part_cmp};
+ghost use Rattle.cost_search.specs.SearchParts.{part_eq, part_cmp};
 
 use cca_base::List;
 use std::alloc::{AllocError, Global};

@@ -2,8 +2,9 @@
 
 ghost use Rattle.std.specs.Prelude.{◌≡◌, ◌<◌, ◌≤◌, ◌↔◌, map, IsTrue, IfOk, OnOk, IfSome, IsNone, All, Contains, length, ℕ};
 ghost use Rattle.std.specs.BinaryHeap.{IsHeap, heap_items, heap_len};
+ghost use Rattle.cca_base.specs.declared.limits.TheConstants.{MAX_ROWS};
 ghost use Rattle.cca_base.specs.Relations.{numbers_below};
-ghost use Rattle.cost_search.specs.Parts.{IsPart, part_cmp};
+ghost use Rattle.cost_search.specs.SearchParts.{IsPart, part_cmp};
 ghost use Rattle.cost_search.specs.Queue.{Covers, IsBlocked, IsOpen, IsQueue, Replaces, TopIsOpen};
 ghost use Rattle.cost_search.specs.Search.{IsAfterLast};
 ghost use Rattle.cca_base.specs.Choices.{AreRows};
@@ -45,7 +46,7 @@ fn components_of(alloc: Global, cube: &[Pair]) -> Result<Vec<u16>, AllocError>
 
 /// The numbers below this.
 fn all_below(alloc: Global, count: usize) -> Result<Vec<u16>, AllocError>
-    requires { count ≤ 65536 }
+    requires { count ≤ MAX_ROWS }
     ensures { IfOk result (λ v. v.items ≡ numbers_below count) }
 {
     let mut numbers = Vec::new(alloc);
@@ -62,7 +63,7 @@ fn blocked_by(
     last: &Option<Costed>,
     cuts: &[Cube],
 ) -> Result<Option<Vec<u16>>, AllocError>
-    requires { length part.now.modes ≤ 65536 }
+    requires { length part.now.modes ≤ MAX_ROWS }
     ensures some { IfOk result (λ o. IfSome o (λ v. IsBlocked last.now cuts.now part.now.modes part.now.cost v.items)) }
     ensures within { IfOk result (λ o. IfSome o (λ v. All (λ c. c < length part.now.modes) v.items)) }
     ensures none { IfOk result (λ o. IsNone o → IsOpen last.now cuts.now part.now.modes part.now.cost) }
@@ -104,7 +105,7 @@ fn pieces_of_top(
 
 /// Splits parts until the greatest one's first state is still to be given, or no part is left. Also after an error no
 /// state that is still to be given is lost.
-pub fn settle(
+pub fn settle_part(
     alloc: Global,
     rows: &[List<Choice>],
     parts: &mut BinaryHeap<Part>,

@@ -7,7 +7,7 @@ ghost use Rattle.cca_base.specs.Choices.{AreRows};
 
 use crate::costed::Costed;
 use crate::part::Part;
-use crate::queue::settle;
+use crate::queue::settle_part;
 use crate::whole::all_states;
 use cca_base::{Choices, Cube, List, State};
 use std::alloc::{AllocError, Global};
@@ -69,7 +69,7 @@ impl Search {
         ensures stays { IfOk result (λ o. IsNone o → self.new ≡ self.old) }
         ensures err { OnErr result (self.new ≡ self.old) }
     {
-        settle(
+        settle_part(
             self.alloc,
             self.choices.rows.as_slice(),
             &mut self.parts,

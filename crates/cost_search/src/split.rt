@@ -2,7 +2,7 @@
 
 ghost use Rattle.std.specs.Prelude.{◌≡◌, ◌≤◌, ◌<◌, IfOk, OnOk, OnErr, IfSome, IsNone, All, length, drop, take, slice_set};
 ghost use Rattle.std.specs.BinaryHeap.{IsHeap, heap_items, heap_len};
-ghost use Rattle.cost_search.specs.Parts.{AreInstead, Gains, IsPart, IsReplaced, box_of, part_cmp, row_at};
+ghost use Rattle.cost_search.specs.SearchParts.{AreInstead, Gains, IsPart, IsReplaced, box_of, part_cmp, row_at};
 ghost use Rattle.cca_base.specs.Choices.{AreRows};
 
 use crate::part::{Part, Span};

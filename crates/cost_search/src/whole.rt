@@ -1,9 +1,9 @@
 //! The part of all states, with which a search begins.
 
-ghost use Rattle.std.specs.Prelude.{◌≡◌, IfOk, IfSome, IsNone, Contains, List, length, ◌<◌};
+ghost use Rattle.std.specs.Prelude.{◌≡◌, IfOk, IfSome, IsNone, Contains, List, length, ◌<◌, ◌^◌};
 ghost use Rattle.std.specs.List.{AllZip};
 ghost use Rattle.cca_base.specs.declared.choice.Choice.{Choice};
-ghost use Rattle.cost_search.specs.Parts.{IsIn, IsPart, box_of};
+ghost use Rattle.cost_search.specs.SearchParts.{IsIn, IsPart, box_of};
 ghost use Rattle.cost_search.specs.Queue.{IsQueue};
 ghost use Rattle.std.specs.BinaryHeap.{heap_items};
 ghost use Rattle.cca_base.specs.Choices.{AreRows, IsRow};
@@ -13,9 +13,9 @@ use cca_base::{Choice, List};
 use std::alloc::{AllocError, Global};
 use std::collections::BinaryHeap;
 
-/// The choice's mode, one of 256.
+/// The choice's mode, which is a byte.
 fn mode_of(choice: &Choice) -> u8
-    ensures { choice.now.mode < 256 }
+    ensures { choice.now.mode < 2 ^ 8 }
 {
     choice.mode
 }

@@ -1,5 +1,5 @@
-pub mod ProjectLemmas
-pub mod RowLemmas
-pub mod ValueLemmas
+pub mod ProjectionExact
+pub mod DenseClauseLaws
+pub mod PartialValueLaws
 pub mod Projected
-pub mod SubjectLemmas
+pub mod SubjectProjected

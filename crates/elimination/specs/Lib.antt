@@ -1,3 +1,3 @@
 pub mod Partial
 pub mod Projection
-pub mod Rows
+pub mod DenseClauses

@@ -4,7 +4,7 @@ use Rattle.std.specs.List.{list_all}
 use Rattle.clause_form.specs.declared.clause.Clauses.{Clauses}
 use Rattle.clause_form.specs.Clauses.{AreValues, all_met}
 use Rattle.elimination.specs.Partial.{Partial, IsWithin}
-use Rattle.elimination.specs.Rows.{all_open, any_below, fix_row, is_wide, is_zero}
+use Rattle.elimination.specs.DenseClauses.{all_unfalsified, any_below, fix_row, is_wide, is_zero}
 
 -- with some values of the subjects from keep on, all clauses are true
 abbrev pub CanBeMet : Clauses → ℕ → List ℕ → Type 0
@@ -18,7 +18,7 @@ IsProjection all keep kept = (xs : List ℕ) → AreValues (take keep all.sizes)
 pub record Projects (sizes : List ℕ) (x : ℕ) (old new : List (List ℕ)) : Type 0 where
   pub wide : list_all (is_wide (length sizes)) new ≡ true
   pub zero : (y : ℕ) → list_all (λ row. is_zero y (fix_row x row)) old ≡ true → list_all (is_zero y) new ≡ true
-  pub «open» : (q : Partial) → IsWithin sizes q → all_open q new ≡ any_below (slice_index sizes x) (λ v. all_open (slice_set q x (Some v)) old)
+  pub unfalsified : (q : Partial) → IsWithin sizes q → all_unfalsified q new ≡ any_below (slice_index sizes x) (λ v. all_unfalsified (slice_set q x (Some v)) old)
 
 -- true exactly where some value of the subject makes all of the first clauses true
 abbrev pub IsWithout : Clauses → ℕ → Clauses → Type 0

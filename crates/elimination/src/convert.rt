@@ -1,23 +1,26 @@
+//! Clauses to dense rows of value sets, and back.
+
 ghost use Rattle.std.specs.Prelude.{◌≡◌, ℕ, true, ◌≤◌, ◌<◌, ◌||◌, All, IfOk, OnOk, length, nat_le, slice_index, take};
 ghost use Rattle.std.specs.List.{list_all};
+ghost use Rattle.cca_base.specs.declared.limits.TheConstants.{MAX_ROWS};
 ghost use Rattle.clause_form.specs.Clauses.{AreBelow, AreClauses, all_met, is_met, is_true, meets};
 ghost use Rattle.cca_base.specs.Sets.{has};
 ghost use Rattle.elimination.specs.Partial.{Values, given};
-ghost use Rattle.elimination.specs.Rows.{all_open, row_open, is_wide, is_zero};
+ghost use Rattle.elimination.specs.DenseClauses.{all_unfalsified, row_unfalsified, is_wide, is_zero};
 
-use crate::row::{Row, never};
-use crate::rows::add_all;
+use crate::dense_clause::{DenseClause, never};
+use crate::dense_clauses::add_all;
 use cca_base::{List, ValueSet};
 use clause_form::{Clause, Clauses, Literal};
 use std::alloc::{AllocError, Global};
 
 /// The rows of the clauses.
-pub fn rows_of(alloc: Global, clauses: &Clauses) -> Result<Vec<Row>, AllocError>
+pub fn rows_of(alloc: Global, clauses: &Clauses) -> Result<Vec<DenseClause>, AllocError>
     requires { AreClauses clauses.now }
     ensures wide { IfOk result (λ r. list_all (is_wide (length clauses.now.sizes)) r.items ≡ true) }
-    ensures open { IfOk result (λ r. (xs : Values) → length xs ≡ length clauses.now.sizes
-        → all_open (given xs) r.items ≡ all_met xs clauses.now.clauses) }
-    ensures zero { IfOk result (λ r. (y : ℕ) → 65536 ≤ y → list_all (is_zero y) r.items ≡ true) }
+    ensures unfalsified { IfOk result (λ r. (xs : Values) → length xs ≡ length clauses.now.sizes
+        → all_unfalsified (given xs) r.items ≡ all_met xs clauses.now.clauses) }
+    ensures zero { IfOk result (λ r. (y : ℕ) → MAX_ROWS ≤ y → list_all (is_zero y) r.items ≡ true) }
 {
     let mut rows = Vec::new(alloc);
     for clause in clauses.clauses.as_slice() {
@@ -27,12 +30,12 @@ pub fn rows_of(alloc: Global, clauses: &Clauses) -> Result<Vec<Row>, AllocError>
 }
 
 /// The rows of the clauses, without those that say no more than another.
-pub fn least_rows_of(alloc: Global, clauses: &Clauses) -> Result<Vec<Row>, AllocError>
+pub fn least_rows_of(alloc: Global, clauses: &Clauses) -> Result<Vec<DenseClause>, AllocError>
     requires { AreClauses clauses.now }
     ensures wide { IfOk result (λ r. list_all (is_wide (length clauses.now.sizes)) r.items ≡ true) }
-    ensures open { IfOk result (λ r. (xs : Values) → length xs ≡ length clauses.now.sizes
-        → all_open (given xs) r.items ≡ all_met xs clauses.now.clauses) }
-    ensures zero { IfOk result (λ r. (y : ℕ) → 65536 ≤ y → list_all (is_zero y) r.items ≡ true) }
+    ensures unfalsified { IfOk result (λ r. (xs : Values) → length xs ≡ length clauses.now.sizes
+        → all_unfalsified (given xs) r.items ≡ all_met xs clauses.now.clauses) }
+    ensures zero { IfOk result (λ r. (y : ℕ) → MAX_ROWS ≤ y → list_all (is_zero y) r.items ≡ true) }
 {
     let all = rows_of(alloc, clauses)?;
     let mut least = Vec::new(alloc);
@@ -41,12 +44,12 @@ pub fn least_rows_of(alloc: Global, clauses: &Clauses) -> Result<Vec<Row>, Alloc
 }
 
 // The row of a clause over `n` subjects.
-fn row_of(alloc: Global, n: usize, clause: &Clause) -> Result<Row, AllocError>
+fn row_of(alloc: Global, n: usize, clause: &Clause) -> Result<DenseClause, AllocError>
     requires { AreBelow n clause.now.literals }
     ensures wide { IfOk result (λ r. is_wide n r ≡ true) }
-    ensures open { IfOk result (λ r. (xs : Values) → length xs ≡ n
-        → row_open (given xs) r ≡ meets xs clause.now) }
-    ensures zero { IfOk result (λ r. (y : ℕ) → 65536 ≤ y → is_zero y r ≡ true) }
+    ensures unfalsified { IfOk result (λ r. (xs : Values) → length xs ≡ n
+        → row_unfalsified (given xs) r ≡ meets xs clause.now) }
+    ensures zero { IfOk result (λ r. (y : ℕ) → MAX_ROWS ≤ y → is_zero y r ≡ true) }
 {
     let mut row = never(alloc, n)?;
     for literal in clause.literals.as_slice() {
@@ -56,12 +59,12 @@ fn row_of(alloc: Global, n: usize, clause: &Clause) -> Result<Row, AllocError>
 }
 
 // Lets the row be true with the literal too.
-fn or_literal(row: &mut Row, literal: &Literal)
+fn or_literal(row: &mut DenseClause, literal: &Literal)
     requires { literal.now.subject < length row.old }
     ensures wide { length row.new ≡ length row.old }
-    ensures open { (xs : Values) → length xs ≡ length row.old
-        → row_open (given xs) row.new ≡ (row_open (given xs) row.old || is_true xs literal.now) }
-    ensures zero { (y : ℕ) → 65536 ≤ y → is_zero y row.old ≡ true → is_zero y row.new ≡ true }
+    ensures unfalsified { (xs : Values) → length xs ≡ length row.old
+        → row_unfalsified (given xs) row.new ≡ (row_unfalsified (given xs) row.old || is_true xs literal.now) }
+    ensures zero { (y : ℕ) → MAX_ROWS ≤ y → is_zero y row.old ≡ true → is_zero y row.new ≡ true }
 {
     let subject = literal.subject as usize;
     let both = row.get(subject).union(literal.values);
@@ -69,12 +72,16 @@ fn or_literal(row: &mut Row, literal: &Literal)
 }
 
 /// The clauses of rows over the subjects below `keep`.
-pub fn clauses_of(alloc: Global, rows: &[Row], keep: u16) -> Result<List<Clause>, AllocError>
+pub fn clauses_of(
+    alloc: Global,
+    rows: &[DenseClause],
+    keep: u16,
+) -> Result<List<Clause>, AllocError>
     requires { list_all (λ row. nat_le keep (length row)) rows.now ≡ true }
     ensures subjects { IfOk result (All (λ clause. All (λ literal.
         literal.subject < keep) clause.literals)) }
     ensures met { IfOk result (λ clauses. (xs : Values) → length xs ≡ keep
-        → all_met xs clauses ≡ list_all (λ row. row_open (given xs) (take keep row)) rows.now) }
+        → all_met xs clauses ≡ list_all (λ row. row_unfalsified (given xs) (take keep row)) rows.now) }
 {
     let mut clauses = List::new(alloc);
     for row in rows {
@@ -84,12 +91,12 @@ pub fn clauses_of(alloc: Global, rows: &[Row], keep: u16) -> Result<List<Clause>
 }
 
 // The clause of a row over the subjects below `keep`.
-fn clause_of(alloc: Global, row: &Row, keep: u16) -> Result<Clause, AllocError>
+fn clause_of(alloc: Global, row: &DenseClause, keep: u16) -> Result<Clause, AllocError>
     requires { keep ≤ length row.now }
     ensures subjects { IfOk result (λ clause. All (λ literal.
         literal.subject < keep) clause.literals) }
     ensures met { IfOk result (λ clause. (xs : Values) → length xs ≡ keep
-        → meets xs clause ≡ row_open (given xs) (take keep row.now)) }
+        → meets xs clause ≡ row_unfalsified (given xs) (take keep row.now)) }
 {
     let mut literals = List::new(alloc);
     for subject in 0..keep {

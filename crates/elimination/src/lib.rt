@@ -3,15 +3,15 @@
 #![tactic(auto)]
 
 mod convert;
+mod dense_clause;
+mod dense_clauses;
 mod gathering;
 mod projection;
-mod row;
-mod rows;
 mod subject;
 
 pub use convert::least_rows_of;
+pub use dense_clause::{DenseClause, are_unfalsified};
+pub use dense_clauses::{add_all, naming};
 pub use gathering::gather;
 pub use projection::project;
-pub use row::{Row, is_open};
-pub use rows::{add_all, naming};
 pub use subject::project_subject;

@@ -1,14 +1,17 @@
+//! Subjects projected away one by one, by resolution.
+
 ghost use Rattle.std.specs.Prelude.{◌≡◌, ℕ, true, ◌≤◌, ◌<◌, All, IfOk, OnOk, length, take};
 ghost use Rattle.std.specs.List.{list_all};
+ghost use Rattle.cca_base.specs.declared.limits.TheConstants.{MAX_CHOICES};
 ghost use Rattle.clause_form.specs.Clauses.{AreClauses};
 ghost use Rattle.elimination.specs.Partial.{Partial, IsWithin, HasOutside};
-ghost use Rattle.elimination.specs.Rows.{all_open, CanMeet, is_wide, is_zero};
+ghost use Rattle.elimination.specs.DenseClauses.{all_unfalsified, CanMeet, is_wide, is_zero};
 ghost use Rattle.elimination.specs.Projection.{IsProjection, Projects};
 
 use crate::convert::{clauses_of, first_sizes, rows_of};
+use crate::dense_clause::DenseClause;
+use crate::dense_clauses::{add_all, are_unnamed, keep_others, naming};
 use crate::gathering::gather;
-use crate::row::Row;
-use crate::rows::{add_all, are_unnamed, keep_others, naming};
 use clause_form::Clauses;
 use std::alloc::{AllocError, Global};
 
@@ -32,19 +35,19 @@ pub fn project(alloc: Global, clauses: &Clauses, keep: u16) -> Result<Clauses, A
 fn project_rows(
     alloc: Global,
     sizes: &[u8],
-    mut rows: Vec<Row>,
+    mut rows: Vec<DenseClause>,
     keep: usize,
-) -> Result<Vec<Row>, AllocError>
-    requires small { All (λ n. n ≤ 16) sizes.now }
+) -> Result<Vec<DenseClause>, AllocError>
+    requires small { All (λ n. n ≤ MAX_CHOICES) sizes.now }
     requires subject { keep ≤ length sizes.now }
     requires wide { list_all (is_wide (length sizes.now)) rows.items ≡ true }
     ensures wide { IfOk result (λ r. list_all (is_wide (length sizes.now)) r.items ≡ true) }
     ensures zero { IfOk result (λ r. (y : ℕ) → keep ≤ y → list_all (is_zero y) r.items ≡ true) }
     ensures sound { IfOk result (λ r. (a : Partial) → IsWithin sizes.now a
-        → HasOutside keep (length sizes.now) a → all_open a r.items ≡ true
+        → HasOutside keep (length sizes.now) a → all_unfalsified a r.items ≡ true
         → CanMeet sizes.now rows.items keep (length sizes.now) a) }
     ensures complete { IfOk result (λ r. (a : Partial) → IsWithin sizes.now a
-        → CanMeet sizes.now rows.items keep (length sizes.now) a → all_open a r.items ≡ true) }
+        → CanMeet sizes.now rows.items keep (length sizes.now) a → all_unfalsified a r.items ≡ true) }
 {
     for x in (keep..sizes.len()).rev() {
         project_one(alloc, sizes, &mut rows, x)?;
@@ -56,10 +59,10 @@ fn project_rows(
 pub(crate) fn project_one(
     alloc: Global,
     sizes: &[u8],
-    rows: &mut Vec<Row>,
+    rows: &mut Vec<DenseClause>,
     x: usize,
 ) -> Result<(), AllocError>
-    requires small { All (λ n. n ≤ 16) sizes.now }
+    requires small { All (λ n. n ≤ MAX_CHOICES) sizes.now }
     requires subject { x < length sizes.now }
     requires wide { list_all (is_wide (length sizes.now)) rows.old.items ≡ true }
     ensures { OnOk result (Projects sizes.now x rows.old.items rows.new.items) }
@@ -74,10 +77,10 @@ pub(crate) fn project_one(
 fn project_named(
     alloc: Global,
     sizes: &[u8],
-    rows: &mut Vec<Row>,
+    rows: &mut Vec<DenseClause>,
     x: usize,
 ) -> Result<(), AllocError>
-    requires small { All (λ n. n ≤ 16) sizes.now }
+    requires small { All (λ n. n ≤ MAX_CHOICES) sizes.now }
     requires subject { x < length sizes.now }
     requires wide { list_all (is_wide (length sizes.now)) rows.old.items ≡ true }
     ensures { OnOk result (Projects sizes.now x rows.old.items rows.new.items) }

@@ -1,4 +1,7 @@
+//! One subject alone projected away.
+
 ghost use Rattle.std.specs.Prelude.{◌≡◌, ◌≤◌, ◌<◌, IfOk, length};
+ghost use Rattle.cca_base.specs.declared.limits.TheConstants.{MAX_SUBJECTS};
 ghost use Rattle.clause_form.specs.Clauses.{AreClauses};
 ghost use Rattle.elimination.specs.Projection.{IsWithout};
 
@@ -15,7 +18,7 @@ pub fn project_subject(
     subject: u16,
 ) -> Result<Clauses, AllocError>
     requires clauses { AreClauses clauses.now }
-    requires few { length clauses.now.sizes ≤ 65535 }
+    requires few { length clauses.now.sizes ≤ MAX_SUBJECTS }
     requires subject { subject < length clauses.now.sizes }
     ensures clauses { IfOk result AreClauses }
     ensures sizes { IfOk result (λ r. r.sizes ≡ clauses.now.sizes) }

@@ -1,8 +1,8 @@
-pub mod FixedLemmas
-pub mod MarkLemmas
-pub mod CompletionLemmas
-pub mod RelevantLemmas
-pub mod MeaningLemmas
-pub mod AskedLemmas
-pub mod SharedLemmas
-pub mod WorldLemmas
+pub mod ConditionedClauses
+pub mod MarkLaws
+pub mod Completions
+pub mod RelevantExact
+pub mod WaysMeaning
+pub mod AskedOfState
+pub mod SharedClauses
+pub mod WorldsOfStates

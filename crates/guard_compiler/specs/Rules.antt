@@ -2,7 +2,7 @@
 use Rattle.std.specs.Prelude.{◌≡◌, ◌≤◌, ◌<◌, ◌⊎◌, ◌++◌, ℕ, Bool, true, false, not, is_some, IsTrue, List, length, map, Option, Some, None, All, Contains, slice_index}
 use Rattle.std.specs.List.{list_all}
 use Rattle.std.specs.Option.{ForSome}
-use Rattle.cca_base.specs.Automata.{Automata}
+use Rattle.cca_base.specs.PlantModel.{PlantModel}
 use Rattle.cca_base.specs.Model.{mode_counts, value_counts}
 use Rattle.cca_base.specs.Formula.{truth}
 use Rattle.clause_form.specs.declared.clause.Clause.{Clause}
@@ -45,7 +45,7 @@ AreCompletable sizes n rules = (set : ℕ → Bool) (xs : List ℕ) → AreValue
     → (ys : List ℕ) × AreValues sizes ys × DifferAtOwners set rules xs ys × IsTrue (all_met ys (clauses_in rules))
 
 -- clauses over the components and then the variables, which are all true exactly where every rule is; the owners are variables, and their values can be chosen
-pub record AreRulesOf (m : Automata) (rules : List RuleClause) : Type 0 where
+pub record AreRulesOf (m : PlantModel) (rules : List RuleClause) : Type 0 where
   pub subjects : AreRulesBelow (length (mode_counts m ++ value_counts m)) rules
   pub owners : All (λ rule. ForSome rule.owner (λ x. length m.components ≤ x)) rules
   pub meaning : (modes values : List ℕ) → AreValues (mode_counts m) modes → AreValues (value_counts m) values

@@ -1,3 +1,5 @@
+//! Clauses once a subject has a value.
+
 ghost use Rattle.std.specs.Prelude.{◌≡◌, ◌||◌, ◌&&◌, ◌==◌, ◌<◌, ℕ, All, IfOk, OnOk, filter, length, not, slice_set};
 ghost use Rattle.std.specs.List.{list_any};
 ghost use Rattle.cca_base.specs.Sets.{has};

@@ -1,3 +1,5 @@
+//! The prime implicants of a move's guard, over states that have a world.
+
 ghost use Rattle.std.specs.Prelude.{◌<◌, ◌≤◌, IfErr, IfOk, IsErr, IsTrue, length};
 ghost use Rattle.cca_base.specs.Accepted.{AreWays};
 ghost use Rattle.cca_base.specs.Formula.{is_within};
@@ -10,14 +12,12 @@ ghost use Rattle.cca_base.specs.State.{HasWorlds};
 use crate::fixed::with_value;
 use crate::relevant::with_relevant;
 use crate::rules::{RuleClause, rules_of};
+use cca_base::codes::WAYS;
 use cca_base::{Cube, Detail, Formula, List, MAX_WAYS, Model, Refusal, Stop};
 use clause_form::{Clauses, denied_clauses};
 use elimination::project;
 use prime_implicants::{Primes, primes};
 use std::alloc::{AllocError, Global};
-
-/// The code of a move with too many prime implicants.
-const MANY_WAYS: u8 = 10;
 
 /// Clauses that can be met with the modes of a state exactly where a world of the state has the guard false.
 fn asked_of(
@@ -61,7 +61,7 @@ pub fn ways_of(
     match primes(alloc, &states, MAX_WAYS as u32)? {
         Primes::Every(cubes) => Ok(cubes),
         Primes::More => Err(Stop::Refused(Refusal {
-            code: MANY_WAYS,
+            code: WAYS,
             detail: Detail::OfMove(move_number),
         })),
     }

@@ -1,3 +1,5 @@
+//! Marks of subjects, set one by one.
+
 ghost use Rattle.std.specs.Prelude.{◌≡◌, ◌<◌, All, MatchBool, length};
 ghost use Rattle.clause_form.specs.Clauses.{AreBelow, AllBelow};
 ghost use Rattle.guard_compiler.specs.Marks.{SetsMore};

@@ -1,5 +1,7 @@
+//! Clauses of the rules that one variable owns: where the others are true, its value makes them true.
+
 ghost use Rattle.std.specs.Prelude.{◌≡◌, ◌++◌, ◌<◌, ◌≤◌, ◌==◌, All, IfOk, List, MatchBool, OnOk, filter, length};
-ghost use Rattle.cca_base.specs.declared.limits.TheConstants.{MAX_CHOICES};
+ghost use Rattle.cca_base.specs.declared.limits.TheConstants.{MAX_CHOICES, MAX_SUBJECTS};
 ghost use Rattle.clause_form.specs.Clauses.{AllBelow};
 ghost use Rattle.clause_form.specs.declared.clause.Clause.{Clause};
 ghost use Rattle.guard_compiler.specs.Naming.{names_one};
@@ -85,7 +87,7 @@ fn share(
     rules: &mut List<RuleClause>,
 ) -> Result<bool, AllocError>
     requires sizes { All (λ n. n ≤ MAX_CHOICES) sizes.now }
-    requires few { length sizes.now ≤ 65535 }
+    requires few { length sizes.now ≤ MAX_SUBJECTS }
     requires variable { components ≤ x }
     requires subject { x < length sizes.now }
     requires below { AllBelow (length sizes.now) left.old.items }
@@ -113,13 +115,13 @@ fn share(
 }
 
 /// The number at place `k` from `first` to `end`, upwards, or else downwards.
-fn number_at(k: u16, first: u16, end: u16, up: bool) -> u16
-    requires above { first ≤ k }
-    requires below { k < end }
+fn number_at(place: u16, first: u16, end: u16, up: bool) -> u16
+    requires above { first ≤ place }
+    requires below { place < end }
     ensures above { first ≤ result }
     ensures below { result < end }
 {
-    if up { k } else { end - 1 - (k - first) }
+    if up { place } else { end - 1 - (place - first) }
 }
 
 /// Tries each variable as an owner, the first or the last first, and says whether one got clauses.
@@ -133,7 +135,7 @@ pub(crate) fn share_round(
     rules: &mut List<RuleClause>,
 ) -> Result<bool, AllocError>
     requires sizes { All (λ n. n ≤ MAX_CHOICES) sizes.now }
-    requires few { length sizes.now ≤ 65535 }
+    requires few { length sizes.now ≤ MAX_SUBJECTS }
     requires below { AllBelow (length sizes.now) left.old.items }
     ensures below { OnOk result (AllBelow (length sizes.now) left.new.items) }
     ensures fewer { IfOk result (λ found. MatchBool found

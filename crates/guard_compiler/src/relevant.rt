@@ -1,3 +1,5 @@
+//! The clauses of the rules that bear on a guard, directly or through others.
+
 ghost use Rattle.std.specs.Prelude.{◌≡◌, ◌++◌, All, IfOk, OnOk, filter, length};
 ghost use Rattle.clause_form.specs.Clauses.{AllBelow};
 ghost use Rattle.cca_base.specs.Flags.{is_set};

@@ -1,5 +1,7 @@
+//! The clauses of a model's rules, made once for all guards.
+
 ghost use Rattle.std.specs.Prelude.{◌≡◌, ◌≤◌, ◌++◌, All, IfOk, OnOk, length};
-ghost use Rattle.cca_base.specs.declared.limits.TheConstants.{MAX_CHOICES};
+ghost use Rattle.cca_base.specs.declared.limits.TheConstants.{MAX_CHOICES, MAX_SUBJECTS};
 ghost use Rattle.clause_form.specs.Clauses.{AllBelow};
 ghost use Rattle.guard_compiler.specs.Rules.{AreRulesOf};
 ghost use Rattle.guard_compiler.specs.Shared.{AreShared, unowned};
@@ -42,7 +44,7 @@ fn shared_out(
     clauses: &[Clause],
 ) -> Result<List<RuleClause>, AllocError>
     requires sizes { All (λ n. n ≤ MAX_CHOICES) sizes.now }
-    requires few { length sizes.now ≤ 65535 }
+    requires few { length sizes.now ≤ MAX_SUBJECTS }
     requires below { AllBelow (length sizes.now) clauses.now }
     ensures { IfOk result (AreShared sizes.now components clauses.now) }
 {

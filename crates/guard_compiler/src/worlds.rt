@@ -1,6 +1,8 @@
+//! Which states have a world, as clauses over the components.
+
 ghost use Rattle.std.specs.Prelude.{◌≡◌, IfOk, filter};
 ghost use Rattle.guard_compiler.specs.Rules.{AreRulesOf, clauses_in, is_unowned};
-ghost use Rattle.guard_compiler.specs.Worlds.{AreWorldsOf};
+ghost use Rattle.guard_compiler.specs.Worlds.{AreStateClauses};
 
 use crate::owners::copy_of;
 use crate::rules::RuleClause;
@@ -30,7 +32,7 @@ pub fn worlds_of(
     rules: &List<RuleClause>,
 ) -> Result<Clauses, AllocError>
     requires { AreRulesOf model.now rules.now }
-    ensures { IfOk result (AreWorldsOf model.now) }
+    ensures { IfOk result (AreStateClauses model.now) }
 {
     let unowned = Clauses {
         sizes: sizes_of(alloc, model)?,

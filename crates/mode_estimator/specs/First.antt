@@ -1,7 +1,7 @@
 -- The first of the states that may be chosen and that agree with what is seen.
 use Rattle.std.specs.Prelude.{◌≡◌, ℕ, List}
 use Rattle.cca_base.specs.declared.cube.Pair.{Pair}
-use Rattle.cca_base.specs.Automata.{Automata}
+use Rattle.cca_base.specs.PlantModel.{PlantModel}
 use Rattle.cca_base.specs.Shown.{CanShow}
 use Rattle.cca_base.specs.declared.choice.Choice.{Choice}
 use Rattle.cost_search.specs.Search.{Searched, IsChosen, IsLeft, IsUpTo}
@@ -9,17 +9,17 @@ use Rattle.mode_estimator.specs.declared.answer.Estimate.{Estimate}
 use Rattle.mode_estimator.specs.declared.answer.Estimate.TheVariants.{Found, Unexplained}
 
 -- a state of this cost that may be chosen, with a world that agrees with what is seen
-pub record Shows (m : Automata) (rows : List (List Choice)) (seen : List Pair) (s : List ℕ) (cost : ℕ) : Type 0 where
+pub record Shows (m : PlantModel) (rows : List (List Choice)) (seen : List Pair) (s : List ℕ) (cost : ℕ) : Type 0 where
   pub chosen : IsChosen rows s cost
   pub shows : CanShow m s seen
 
 -- the first such state by cost and then in mode order, or there is none
-abbrev pub IsFirstShown : Automata → List (List Choice) → List Pair → Estimate → Type 0
+abbrev pub IsFirstShown : PlantModel → List (List Choice) → List Pair → Estimate → Type 0
 IsFirstShown m rows seen (Found state cost) =
     Shows m rows seen state.modes cost × ((t : List ℕ) (more : ℕ) → Shows m rows seen t more → IsUpTo cost state.modes more t)
 IsFirstShown m rows seen Unexplained = (s : List ℕ) (cost : ℕ) → Shows m rows seen s cost → ⊥
 
 -- each such state is still to be given
-pub record KeepsShown (m : Automata) (rows : List (List Choice)) (seen : List Pair) (v : Searched) : Type 0 where
+pub record KeepsShown (m : PlantModel) (rows : List (List Choice)) (seen : List Pair) (v : Searched) : Type 0 where
   pub same : v.rows ≡ rows
   pub left : (s : List ℕ) (cost : ℕ) → Shows m rows seen s cost → IsLeft v s cost

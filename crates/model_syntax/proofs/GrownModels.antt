@@ -6,7 +6,7 @@ use Rattle.cca_base.specs.declared.model.Component.{Component}
 use Rattle.cca_base.specs.declared.model.Variable.{Variable}
 use Rattle.cca_base.specs.declared.model.Move.{Move}
 use Rattle.cca_base.specs.declared.model.Failure.{Failure}
-use Rattle.cca_base.specs.Automata.{Automata}
+use Rattle.cca_base.specs.PlantModel.{PlantModel}
 use Rattle.cca_base.specs.Model.{WellFormed, with_component, with_variable, with_rule, with_move, with_failure}
 use Rattle.text_base.specs.Lexemes.{Lexeme, word, number}
 use Rattle.model_syntax.specs.Printing.{joined, component_said, variable_said, formula_said, move_said, failure_said, lines_said}
@@ -58,14 +58,14 @@ same_page a b c d e v w x y z p q r s t = cc
 
 -- ---- one item more
 
-module _ (m : Automata) (h : WellFormed m) where
+module _ (m : PlantModel) (h : WellFormed m) where
   abbrev cs : Lines
   cs = map component_said m.components
 
   abbrev vs : Lines
   vs = map variable_said m.variables
 
-  abbrev rule_said : Automata → Formula → List Lexeme
+  abbrev rule_said : PlantModel → Formula → List Lexeme
   rule_said n f = word (codes "rule") ∷ formula_said n f
 
   abbrev rs : Lines
@@ -150,7 +150,7 @@ module _ (m : Automata) (h : WellFormed m) where
       }
 
   -- a move may bring a command with it
-  pub move_adds : (k : Automata) (x : Move) (text : List ℕ) → Grows m (with_move k x) → k.components ≡ m.components → k.variables ≡ m.variables → k.rules ≡ m.rules → k.moves ≡ m.moves → k.failures ≡ m.failures
+  pub move_adds : (k : PlantModel) (x : Move) (text : List ℕ) → Grows m (with_move k x) → k.components ≡ m.components → k.variables ≡ m.variables → k.rules ≡ m.rules → k.moves ≡ m.moves → k.failures ≡ m.failures
       → length (joined (move_said (with_move k x) x)) ≤ length text → AddsLine m (with_move k x) text
   move_adds k x text g ec ev er em ef short =
       let n = with_move k x in

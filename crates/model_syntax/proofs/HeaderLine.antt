@@ -1,10 +1,10 @@
 -- A line that begins a reading is no shorter than the header's printed line.
 use Rattle.std.proofs.Common.{◌≡◌, ℕ, ◌≤◌, Bool, true, false, List, [], ◌∷◌, length, map, Option, Some, None, Result, Ok, Err, refl, sym, ap, subst, ◌∙◌, arith}
-use Rattle.cca_base.specs.Automata.{Automata}
+use Rattle.cca_base.specs.PlantModel.{PlantModel}
 use Rattle.text_base.specs.Lexemes.{Lexeme, lexeme}
 use Rattle.text_base.specs.Tokens.{Tok, tokens_of}
 use Rattle.model_syntax.specs.Items.{Item, Header, Component, Variable, Rule, Move, Failure, Script, item_of}
-use Rattle.model_syntax.specs.Lines.{Reading, Reads, opening, LeadsByForm, LeadsByTokens}
+use Rattle.model_syntax.specs.Lines.{ModelSoFar, Reads, opening, LeadsByForm, LeadsByTokens}
 use Rattle.model_syntax.specs.Printing.{joined, header_said}
 use Rattle.model_syntax.specs.Shorter.{HeaderIsNoLonger}
 use Rattle.model_syntax.proofs.ItemGrammar.{item_written}
@@ -13,7 +13,7 @@ use Rattle.model_syntax.proofs.LineWidths.{line_width}
 use Rattle.model_syntax.proofs.Widths.{joined_width}
 
 -- no other item is read first
-first_is : (m : Automata) (form : Option Item) (t : Reading) → Reads t ≡ opening m form → form ≡ Some Header
+first_is : (m : PlantModel) (form : Option Item) (t : ModelSoFar) → Reads t ≡ opening m form → form ≡ Some Header
 first_is m None t e = absurd cc
 first_is m (Some Header) t e = refl
 first_is m (Some (Component name modes start)) t e = absurd cc
@@ -24,7 +24,7 @@ first_is m (Some (Failure ends cost)) t e = absurd cc
 first_is m (Some Script) t e = absurd cc
 
 -- a line with tokens has exactly the header's
-by_form : (s t : Reading) (text : List ℕ) (ls : List Lexeme) (begun : Bool) → begun ≡ false → HasRoom text ls → LeadsByForm begun s.model (item_of ls) (Reads t) → length (joined header_said) ≤ length text
+by_form : (s t : ModelSoFar) (text : List ℕ) (ls : List Lexeme) (begun : Bool) → begun ≡ false → HasRoom text ls → LeadsByForm begun s.model (item_of ls) (Reads t) → length (joined header_said) ≤ length text
 by_form s t text ls true b room h = absurd cc
 by_form s t text ls false b room h =
     let written = item_written ls Header (first_is s.model (item_of ls) t h) in
@@ -32,9 +32,9 @@ by_form s t text ls false b room h =
     omega (arith, joined_width header_said, fits)
 
 -- a line without tokens doesn't begin a reading
-by_tokens : (s t : Reading) (text : List ℕ) (read : Result (List Tok) ℕ) → tokens_of text ≡ read → s.begun ≡ false → t.begun ≡ true → LeadsByTokens s read (Reads t) → length (joined header_said) ≤ length text
+by_tokens : (s t : ModelSoFar) (text : List ℕ) (read : Result (List Tok) ℕ) → tokens_of text ≡ read → s.begun ≡ false → t.begun ≡ true → LeadsByTokens s read (Reads t) → length (joined header_said) ≤ length text
 by_tokens s t text (Err at) r b c h = absurd cc
-by_tokens s t text (Ok []) r b c h = absurd (let e : t ≡ s = cc in let f = sym b ∙ (sym (ap (λ (x : Reading). x.begun) e) ∙ c) in cc)
+by_tokens s t text (Ok []) r b c h = absurd (let e : t ≡ s = cc in let f = sym b ∙ (sym (ap (λ (x : ModelSoFar). x.begun) e) ∙ c) in cc)
 by_tokens s t text (Ok (x ∷ xs)) r b c h = by_form s t text (map lexeme (x ∷ xs)) s.begun b (line_width text (x ∷ xs) r) h
 
 pub header_is_no_longer : HeaderIsNoLonger

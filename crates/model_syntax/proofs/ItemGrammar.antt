@@ -1,9 +1,9 @@
 -- An item is read from its spelling, and from nothing else.
 use Rattle.std.proofs.Common.{◌≡◌, ℕ, Bool, true, false, cond, codes, List, [], ◌∷◌, ◌++◌, Option, Some, None, refl, sym, ap, subst, ◌∙◌, arith}
 use Rattle.text_base.specs.Lexemes.{Lexeme, word, number, symbol, comma, is_lexeme, next_is, name_word_at, names_at}
-use Rattle.model_syntax.specs.Chain.{◌>>=◌}
+use Rattle.formula_syntax.specs.Chain.{◌>>=◌}
 use Rattle.model_syntax.specs.Items.{Ends, Item, Header, Component, Variable, Rule, Move, Failure, Script, ended, number_at, ends_at, header_at, component_at, sensed_at, variable_at, move_at, failure_at, item_of, list_spelled, names_spelled, ends_spelled, sensed_spelled, move_word, line_spelled, AreNameWords, IsSpelled}
-use Rattle.model_syntax.proofs.Lexing.{cond_either, some_is, lexeme_is}
+use Rattle.formula_syntax.proofs.Lexing.{cond_either, some_is, lexeme_is}
 use Rattle.model_syntax.proofs.ListGrammar.{bind_some, then, next_read, cond_some, after, reads_name, name_read, reads_names, names_read, number_read}
 
 abbrev equals_sign : Lexeme

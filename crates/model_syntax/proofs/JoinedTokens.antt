@@ -5,7 +5,7 @@ use Rattle.std.specs.Str.{bytes_eq}
 use Rattle.std.specs.Char.{is_ascii_digit, is_ascii_lowercase}
 use Rattle.std.proofs.Math.Seq.{take-append_seam}
 use Rattle.std.proofs.Math.Dec.{leb}
-use Rattle.std.proofs.lemmas.Bool.{and_parts, ne_eqb, leb-true, lt-leb}
+use Rattle.std.proofs.lemmas.Bool.{and_parts, ne_eqb, leb-true, lt-leb, or_parts}
 use Rattle.std.proofs.lemmas.Slice.Eq.{bytes_eq-Decides}
 use Rattle.cca_base.specs.Names.{is_word_byte, is_word}
 use Rattle.text_base.specs.declared.token.Kind.{Kind}
@@ -15,7 +15,6 @@ use Rattle.text_base.specs.Tokens.{Tok, piece_of, with_first, tokens_of_piece, t
 use Rattle.text_base.specs.Lexemes.{Lexeme, lexeme, symbol}
 use Rattle.model_syntax.specs.Printing.{joined}
 use Rattle.model_syntax.specs.RoundTrip.{AreOfTheirKinds, AreTokens}
-use Rattle.model_syntax.proofs.AdditionLemmas.{or_parts}
 use Rattle.model_syntax.proofs.PrintedText.{joined_behind, joined_first}
 
 -- bytes that belong to what came before are skipped

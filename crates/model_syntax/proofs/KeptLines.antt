@@ -1,26 +1,27 @@
 -- The printed lines of a model that grows.
-use Rattle.std.proofs.Common.{◌≡◌, ℕ, zero, suc, ◌<◌, ◌^◌, Bool, true, ◌&&◌, All, List, [], ◌∷◌, ◌++◌, length, map, codes, Some, slice_get, slice_index, get_or, refl, sym, ap, subst, ◌∙◌, arith}
-use Rattle.std.specs.Prelude.{nat_le, nat_lt}
+use Rattle.std.proofs.Common.{◌≡◌, ℕ, zero, suc, ◌<◌, Bool, true, ◌&&◌, All, List, [], ◌∷◌, ◌++◌, length, map, codes, Some, slice_get, slice_index, get_or, refl, sym, ap, subst, ◌∙◌, arith}
+use Rattle.std.specs.Prelude.{nat_le}
 use Rattle.std.specs.List.{list_all}
 use Rattle.std.specs.Option.{option_map_or}
 use Rattle.std.specs.Fmt.{decimal}
 use Rattle.std.proofs.lemmas.Option.{slice_get-get_or}
-use Rattle.std.proofs.lemmas.Bool.{ltb-true, and_parts}
+use Rattle.std.proofs.lemmas.Bool.{and_parts}
 use Rattle.std.proofs.lemmas.List.Elements.{All-head, All-tail}
 use Rattle.cca_base.specs.declared.formula.Subject.{Subject}
-use Rattle.cca_base.specs.declared.formula.Subject.TheVariants.{Component, Variable}
+use Rattle.cca_base.specs.declared.formula.Subject.TheVariants as subjects
 use Rattle.cca_base.specs.declared.formula.Formula.{Formula}
 use Rattle.cca_base.specs.declared.formula.Formula.TheOpen.{Formula-F}
 use Rattle.cca_base.specs.declared.formula.Formula.TheFolds.{fold-roll-Formula, ind-Formula, map-Formula}
-use Rattle.cca_base.specs.declared.model.Component.{Component as Part}
-use Rattle.cca_base.specs.declared.model.Variable.{Variable as Quantity}
+use Rattle.cca_base.specs.declared.model.Component.{Component}
+use Rattle.cca_base.specs.declared.model.Variable.{Variable}
 use Rattle.cca_base.specs.declared.model.Move.{Move}
 use Rattle.cca_base.specs.declared.model.Failure.{Failure}
-use Rattle.cca_base.specs.Automata.{Automata}
+use Rattle.cca_base.specs.PlantModel.{PlantModel}
 use Rattle.cca_base.specs.Formula.{fits, fits_step, is_choice_of, subject_value}
 use Rattle.cca_base.specs.Model.{HasMode, IsFormula, IsMove, IsFailure, mode_counts, value_counts}
+use Rattle.cca_base.proofs.Within.{choice_positive}
 use Rattle.text_base.specs.Lexemes.{Lexeme, word, number, symbol}
-use Rattle.model_syntax.specs.Lookups.{choices_of}
+use Rattle.formula_syntax.specs.Lookups.{choices_of}
 use Rattle.model_syntax.specs.Items.{move_word}
 use Rattle.model_syntax.specs.Printing.{Said, among_said, said_step, names_in, name_of, name_at, formula_said, ends_said, move_said, failure_said}
 use Rattle.model_syntax.proofs.SaidWidths.{said}
@@ -38,7 +39,7 @@ keeps_push (z ∷ xs) y zero x h = h
 keeps_push (z ∷ xs) y (suc k) x h = keeps_push xs y k x h
 
 -- the second model has what the first has, in the same places, and maybe more
-pub record Grows (m n : Automata) : Type 0 where
+pub record Grows (m n : PlantModel) : Type 0 where
   pub components : Keeps m.components n.components
   pub variables : Keeps m.variables n.variables
   pub commands : Keeps m.commands n.commands
@@ -53,21 +54,17 @@ counted f (x ∷ xs) (suc k) h = counted f xs k h
 stays : {X A : Type 0} (f : X → A) (xs ys : List X) (k : ℕ) (d : A) → Keeps xs ys → (x : X) × (slice_get xs k ≡ Some x) → option_map_or f (slice_get ys k) d ≡ option_map_or f (slice_get xs k) d
 stays f xs ys k d h p = ap (λ o. option_map_or f o d) (h k p.0 p.1 ∙ sym p.1)
 
-choice_positive : (n set : ℕ) → is_choice_of n set ≡ true → 0 < n
-choice_positive zero set h = let parts = and_parts (nat_lt 0 set) (nat_lt set (2 ^ 0)) h in absurd (omega (arith, ltb-true 0 set parts.0, ltb-true set (2 ^ 0) parts.1))
-choice_positive (suc n) set h = omega arith
-
-module _ (m n : Automata) (grows : Grows m n) where
+module _ (m n : PlantModel) (grows : Grows m n) where
   abbrev IsDeclared : Subject → Type 0
   IsDeclared s = 0 < subject_value s (mode_counts m) (value_counts m)
 
   name_stays : (s : Subject) → IsDeclared s → name_of n s ≡ name_of m s
-  name_stays (Component c) h = stays (λ (x : Part). x.name) m.components n.components c [] grows.components (counted (λ (x : Part). length x.modes) m.components c h)
-  name_stays (Variable v) h = stays (λ (x : Quantity). x.name) m.variables n.variables v [] grows.variables (counted (λ (x : Quantity). length x.values) m.variables v h)
+  name_stays (subjects.Component c) h = stays (λ (x : Component). x.name) m.components n.components c [] grows.components (counted (λ (x : Component). length x.modes) m.components c h)
+  name_stays (subjects.Variable v) h = stays (λ (x : Variable). x.name) m.variables n.variables v [] grows.variables (counted (λ (x : Variable). length x.values) m.variables v h)
 
   choices_stay : (s : Subject) → IsDeclared s → choices_of n s ≡ choices_of m s
-  choices_stay (Component c) h = stays (λ (x : Part). x.modes) m.components n.components c [] grows.components (counted (λ (x : Part). length x.modes) m.components c h)
-  choices_stay (Variable v) h = stays (λ (x : Quantity). x.values) m.variables n.variables v [] grows.variables (counted (λ (x : Quantity). length x.values) m.variables v h)
+  choices_stay (subjects.Component c) h = stays (λ (x : Component). x.modes) m.components n.components c [] grows.components (counted (λ (x : Component). length x.modes) m.components c h)
+  choices_stay (subjects.Variable v) h = stays (λ (x : Variable). x.values) m.variables n.variables v [] grows.variables (counted (λ (x : Variable). length x.values) m.variables v h)
 
   -- ---- formulas
 
@@ -80,7 +77,7 @@ module _ (m n : Automata) (grows : Grows m n) where
   abbrev layer_fits : Formula-F Formula → Bool
   layer_fits x = fits_step (mode_counts m) (value_counts m) (map-Formula Formula Bool (fits (mode_counts m) (value_counts m)) x)
 
-  abbrev layer_said : Automata → Formula-F Formula → Said
+  abbrev layer_said : PlantModel → Formula-F Formula → Said
   layer_said k x = said_step k (map-Formula Formula Said (said k) x)
 
   abbrev LayerStays : Formula-F Formula → Type 0
@@ -139,9 +136,9 @@ module _ (m n : Automata) (grows : Grows m n) where
 
   pub ends_stay : (c a b : ℕ) (rest : List Lexeme) → 0 < slice_index (mode_counts m) c → ends_said n c a b rest ≡ ends_said m c a b rest
   ends_stay c a b rest h =
-      let choices = choices_of n (Component c) in
-      ap (λ (x : List ℕ). word x ∷ word (name_at choices a) ∷ symbol (codes "->") ∷ word (name_at choices b) ∷ rest) (name_stays (Component c) h)
-      ∙ ap (λ (x : List (List ℕ)). word (name_of m (Component c)) ∷ word (name_at x a) ∷ symbol (codes "->") ∷ word (name_at x b) ∷ rest) (choices_stay (Component c) h)
+      let choices = choices_of n (subjects.Component c) in
+      ap (λ (x : List ℕ). word x ∷ word (name_at choices a) ∷ symbol (codes "->") ∷ word (name_at choices b) ∷ rest) (name_stays (subjects.Component c) h)
+      ∙ ap (λ (x : List (List ℕ)). word (name_of m (subjects.Component c)) ∷ word (name_at x a) ∷ symbol (codes "->") ∷ word (name_at x b) ∷ rest) (choices_stay (subjects.Component c) h)
 
   pub rules_stay : (fs : List Formula) → All (IsFormula m) fs → map (λ f. word (codes "rule") ∷ formula_said n f) fs ≡ map (λ f. word (codes "rule") ∷ formula_said m f) fs
   rules_stay = same_lines (IsFormula m) (λ f. word (codes "rule") ∷ formula_said n f) (λ f. word (codes "rule") ∷ formula_said m f) (λ f h. ap (λ (x : List Lexeme). word (codes "rule") ∷ x) (formula_stays f h.fits))

@@ -1,10 +1,11 @@
 -- The tokens of a line, printed, are no longer than the line.
-use Rattle.std.proofs.Common.{◌≡◌, ℕ, zero, suc, ◌+◌, ◌≤◌, Bool, true, false, cond, not, ◌||◌, List, [], ◌∷◌, length, map, take, Option, Some, None, Result, Ok, Err, refl, sym, ap, subst, ◌∙◌, arith, nat_eq}
+use Rattle.std.proofs.Common.{◌≡◌, ℕ, zero, suc, ◌+◌, ◌≤◌, Bool, true, false, cond, not, List, [], ◌∷◌, length, map, take, Option, Some, None, Result, Ok, Err, refl, sym, ap, subst, ◌∙◌, arith, nat_eq}
 use Rattle.std.specs.Prelude.{position}
 use Rattle.std.specs.List.{prefix_len}
 use Rattle.std.specs.Char.{is_ascii_digit, is_ascii_lowercase}
 use Rattle.std.proofs.lemmas.List.{length-take-le}
 use Rattle.std.proofs.lemmas.List.Sums.{prefix_len-le-length}
+use Rattle.std.proofs.lemmas.Bool.{or_left, or_right}
 use Rattle.cca_base.specs.Names.{is_word_byte}
 use Rattle.text_base.specs.declared.token.Kind.{Kind}
 use Rattle.text_base.specs.declared.token.Kind.TheVariants.{Word, Number, Symbol}
@@ -13,6 +14,7 @@ use Rattle.text_base.specs.declared.token.Piece.TheVariants.{Blank, Comment, Run
 use Rattle.text_base.specs.Bytes.{is_blank, is_symbol, is_comment_byte}
 use Rattle.text_base.specs.Lexemes.{Lexeme, lexeme, same_kind}
 use Rattle.text_base.specs.Tokens.{Tok, is_pair, piece_of, comment_end, with_first, tokens_of_piece, tokens_from, tokens_of}
+use Rattle.text_base.proofs.Spans.{oks}
 use Rattle.model_syntax.proofs.Widths.{blank, blank_right, width, width_left}
 
 -- nothing
@@ -59,19 +61,11 @@ pair_piece : (b : ℕ) (bs : List ℕ) (y : Piece) → IsPiece b bs y → IsPiec
 pair_piece b [] y q = q
 pair_piece b (c ∷ bs) y q = choose b (c ∷ bs) (is_pair b (c ∷ bs)) (Run Symbol 1) y (λ e. omega arith) q
 
-first_of_two : (a b : Bool) → a ≡ true → (a || b) ≡ true
-first_of_two true b e = refl
-first_of_two false b e = absurd cc
-
-second_of_two : (a b : Bool) → b ≡ true → (a || b) ≡ true
-second_of_two true b e = refl
-second_of_two false b e = e
-
 letter : (b : ℕ) → is_ascii_lowercase b ≡ true → is_word_byte b ≡ true
-letter b e = first_of_two _ _ (first_of_two _ _ e)
+letter b e = or_left _ _ (or_left _ _ e)
 
 digit : (b : ℕ) → is_ascii_digit b ≡ true → is_word_byte b ≡ true
-digit b e = first_of_two _ _ (second_of_two (is_ascii_lowercase b) _ e)
+digit b e = or_left _ _ (or_right (is_ascii_lowercase b) _ e)
 
 is_piece : (b : ℕ) (bs : List ℕ) → IsPiece b bs (piece_of b bs)
 is_piece b bs =
@@ -85,9 +79,6 @@ is_piece b bs =
 -- the tokens behind a word or a number, or behind something else, need no more than the bytes do
 abbrev FitsFrom : ℕ → List ℕ → Bool → ℕ → List Tok → Type 0
 FitsFrom at bs l k ts = tokens_from k at bs ≡ Ok ts → k ≤ length bs → (l ≡ true → Ends k bs) → numbers_end (map lexeme ts) ≡ true → width l (map lexeme ts) false + k ≤ length bs
-
-oks : (ts us : List Tok) → (let r : Result (List Tok) ℕ = Ok ts in r) ≡ Ok us → ts ≡ us
-oks ts us e = cc
 
 -- a line with this first token
 abbrev FirstFits : ℕ → List ℕ → Bool → List Tok → Type 0

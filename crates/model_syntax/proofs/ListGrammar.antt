@@ -4,9 +4,9 @@ use Rattle.cca_base.specs.Names.{is_reserved}
 use Rattle.text_base.specs.declared.token.Kind.{Kind}
 use Rattle.text_base.specs.declared.token.Kind.TheVariants.{Number}
 use Rattle.text_base.specs.Lexemes.{Lexeme, word, number, comma, same_kind, is_lexeme, is_name_word, next_is, name_word_at, with_name, names_at}
-use Rattle.model_syntax.specs.Chain.{◌>>=◌}
+use Rattle.formula_syntax.specs.Chain.{◌>>=◌}
 use Rattle.model_syntax.specs.Items.{names_spelled, list_spelled, AreNameWords, number_at}
-use Rattle.model_syntax.proofs.Lexing.{cond_either, some_is, kind_is, lexeme_is, name_word_is}
+use Rattle.formula_syntax.proofs.Lexing.{cond_either, some_is, kind_is, lexeme_is, name_word_is}
 
 pub cond_some : {A : Type 0} (b : Bool) (o : Option A) (y : A) → cond b o None ≡ Some y → (b ≡ true) × (o ≡ Some y)
 cond_some true o y e = (refl, e)

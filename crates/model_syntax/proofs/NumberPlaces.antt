@@ -1,7 +1,7 @@
 -- In the tokens of formulas and lists no number stands before the end.
 use Rattle.std.proofs.Common.{◌≡◌, ℕ, Bool, true, false, List, [], ◌∷◌, ◌++◌, codes, refl, ◌∙◌}
 use Rattle.text_base.specs.Lexemes.{Lexeme, word, symbol}
-use Rattle.model_syntax.specs.Grammar.{NameWord, Factor, Conjunction, Disjunction, Whole, True, False, Equal, Differs, In, Not, Parens, Single, And, Case, Or, Plain, Implies, Iff, values_spelled, factor_spelled, conjunction_spelled, disjunction_spelled, whole_spelled}
+use Rattle.formula_syntax.specs.Grammar.{NameWord, Factor, Conjunction, Disjunction, Whole, True, False, Equal, Differs, In, Not, Parens, Single, And, Case, Or, Plain, Implies, Iff, values_spelled, factor_spelled, conjunction_spelled, disjunction_spelled, whole_spelled}
 use Rattle.model_syntax.specs.Items.{names_spelled, list_spelled, sensed_spelled}
 use Rattle.model_syntax.proofs.LineWidths.{numbers_end}
 

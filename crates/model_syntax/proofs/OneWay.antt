@@ -3,12 +3,12 @@ use Rattle.std.proofs.Common.{◌≡◌, ℕ, ◌^◌, ◌<◌, inl, inr, Bool, 
 use Rattle.std.specs.Fmt.{decimal}
 use Rattle.std.specs.Str.Parse.{digits_value}
 use Rattle.std.proofs.lemmas.Fmt.{decimal_is_IsNumeral_wide}
-use Rattle.cca_base.specs.Automata.{Automata}
+use Rattle.cca_base.specs.PlantModel.{PlantModel}
 use Rattle.text_base.specs.Tokens.{Tok, tokens_of}
 use Rattle.text_base.specs.Lexemes.{Lexeme, lexeme}
-use Rattle.model_syntax.specs.Grammar.{Whole}
+use Rattle.formula_syntax.specs.Grammar.{Whole}
 use Rattle.model_syntax.specs.Items.{Item, Header, Component, Variable, Rule, Move, Failure, Script, item_of}
-use Rattle.model_syntax.specs.Lines.{Next, IsNextOfText, IsNextOfNumber, IsNextOfItem, IsNextOfForm, Reading, Outcome, outcome, LeadsByForm, LeadsByTokens, LeadOneWay, rule_next, move_next, failure_next}
+use Rattle.model_syntax.specs.Lines.{Next, IsNextOfText, IsNextOfNumber, IsNextOfItem, IsNextOfForm, ModelSoFar, LineOutcome, outcome, LeadsByForm, LeadsByTokens, LeadOneWay, rule_next, move_next, failure_next}
 
 -- a number has one spelling, and no other number has it
 same_number : (n k : ℕ) → n < 2 ^ 128 → k < 2 ^ 128 → decimal n ≡ decimal k → n ≡ k
@@ -30,7 +30,7 @@ number_once digits f a b (inl (n, small, e, h)) (inr (none, i)) = absurd (none n
 number_once digits f a b (inr (none, h)) (inl (k, less, g, i)) = absurd (none k less g)
 number_once digits f a b (inr (none, h)) (inr (other, i)) = h ∙ sym i
 
-item_once : (m : Automata) (item : Item) (a b : Next) → IsNextOfItem m item a → IsNextOfItem m item b → a ≡ b
+item_once : (m : PlantModel) (item : Item) (a b : Next) → IsNextOfItem m item a → IsNextOfItem m item b → a ≡ b
 item_once m Header a b h k = h ∙ sym k
 item_once m (Component name modes start) a b h k = h ∙ sym k
 item_once m (Variable name values sensed) a b h k = h ∙ sym k
@@ -39,15 +39,15 @@ item_once m (Move repair ends command guard) a b h k = text_once guard (move_nex
 item_once m (Failure ends cost) a b h k = number_once cost (failure_next m ends) a b h k
 item_once m Script a b h k = h ∙ sym k
 
-form_next_once : (m : Automata) (form : Option Item) (a b : Next) → IsNextOfForm m form a → IsNextOfForm m form b → a ≡ b
+form_next_once : (m : PlantModel) (form : Option Item) (a b : Next) → IsNextOfForm m form a → IsNextOfForm m form b → a ≡ b
 form_next_once m None a b h k = h ∙ sym k
 form_next_once m (Some item) a b h k = item_once m item a b h k
 
-form_once : (begun : Bool) (m : Automata) (form : Option Item) (a b : Outcome) → LeadsByForm begun m form a → LeadsByForm begun m form b → a ≡ b
+form_once : (begun : Bool) (m : PlantModel) (form : Option Item) (a b : LineOutcome) → LeadsByForm begun m form a → LeadsByForm begun m form b → a ≡ b
 form_once true m form a b (x, h, e) (y, k, g) = e ∙ ap outcome (form_next_once m form x y h k) ∙ sym g
 form_once false m form a b h k = h ∙ sym k
 
-tokens_once : (s : Reading) (ts : Result (List Tok) ℕ) (a b : Outcome) → LeadsByTokens s ts a → LeadsByTokens s ts b → a ≡ b
+tokens_once : (s : ModelSoFar) (ts : Result (List Tok) ℕ) (a b : LineOutcome) → LeadsByTokens s ts a → LeadsByTokens s ts b → a ≡ b
 tokens_once s (Err at) a b h k = h ∙ sym k
 tokens_once s (Ok []) a b h k = h ∙ sym k
 tokens_once s (Ok (t ∷ ts)) a b h k = form_once s.begun s.model (item_of (map lexeme (t ∷ ts))) a b h k

@@ -2,32 +2,21 @@
 use Rattle.std.proofs.Common.{◌≡◌, ◌≢◌, ℕ, ◌<◌, Bool, true, false, not, ◌&&◌, ◌||◌, List, [], ◌∷◌, ◌++◌, length, IsTrue, All, Contains, get_or, refl, sym, ap, subst, ◌∙◌, arith, eqb, append_assoc, length-append}
 use Rattle.std.specs.List.{list_any}
 use Rattle.std.proofs.Math.Seq.{get_or-append_seam}
-use Rattle.std.proofs.lemmas.Bool.{and_parts, eqb-true, eq-eqb}
+use Rattle.std.proofs.lemmas.Bool.{and_parts, eqb-true, eq-eqb, or_parts, or_from, not-true, both_ways}
 use Rattle.std.proofs.lemmas.List.{get_or_default, get_or_append_left}
 use Rattle.std.proofs.lemmas.List.Folds.{list_any-append, list_any_none}
 use Rattle.std.proofs.lemmas.List.Elements.{All-head}
+use Rattle.list_laws.proofs.Elements.{all_left, all_right}
+use Rattle.list_laws.proofs.Tests.{either}
 use Rattle.cca_base.specs.declared.model.Move.{Move}
 use Rattle.cca_base.specs.Model.{is_repair_of, is_broken, IsNext, RepairsFit, CommandsFit}
 use Rattle.model_syntax.specs.Codes.{is_ambiguous, leads_to, is_into_broken, leaves_unmarked, is_unmarked_exit, mends_elsewhere, mends_twice}
-use Rattle.model_syntax.proofs.AdditionLemmas.{or_parts}
-use Rattle.model_syntax.proofs.PrintedDeclarations.{or_no}
-use Rattle.model_syntax.proofs.PrintedNames.{all_left, all_right, pairs_across}
+use Rattle.model_syntax.proofs.PrintedNames.{pairs_across}
 
 no_and : (a b : Bool) → (a ≡ true → b ≡ true → ⊥) → (a && b) ≡ false
 no_and true true h = absurd (h refl refl)
 no_and true false h = refl
 no_and false b h = refl
-
-off : (b : Bool) → b ≡ true → b ≡ false → ⊥
-off b e f = let k : ◌≡◌ {A = Bool} true false = sym e ∙ f in absurd cc
-
-not_on : (b : Bool) → not b ≡ true → b ≡ false
-not_on true e = absurd cc
-not_on false e = refl
-
-one_of_two : {P : Type 0} (a b : Bool) → (a || b) ≡ true → (a ≡ true → P) → (b ≡ true → P) → P
-one_of_two true b e f g = f refl
-one_of_two false b e f g = g e
 
 any_front : {X : Type 0} (p : X → Bool) (xs ys : List X) → list_any p (xs ++ ys) ≡ false → list_any p xs ≡ false
 any_front p xs ys h = (or_parts (list_any p xs) (list_any p ys) (sym (list_any-append p xs ys) ∙ h)).0
@@ -61,7 +50,7 @@ module _ (front : List Move) (x : Move) (rest : List Move) (repairs : RepairsFit
   own_command : (y : Move) → (y.command ≡ x.command → (y.component ≡ x.component) × (y.source ≢ x.source)) → (eqb y.command x.command && (not (eqb y.component x.component) || eqb y.source x.source)) ≡ false
   own_command y h = no_and _ _ (λ a b.
       let k = h (eqb-true y.command x.command a) in
-      one_of_two (not (eqb y.component x.component)) (eqb y.source x.source) b (λ e. off (eqb y.component x.component) (eq-eqb y.component x.component k.0) (not_on (eqb y.component x.component) e)) (λ e. k.1 (eqb-true y.source x.source e)))
+      either (not (eqb y.component x.component)) (eqb y.source x.source) b (λ e. both_ways (eqb y.component x.component) (not-true (eqb y.component x.component) e) (eq-eqb y.component x.component k.0)) (λ e. k.1 (eqb-true y.source x.source e)))
 
   pub not_ambiguous : is_ambiguous front x ≡ false
   not_ambiguous =
@@ -87,7 +76,7 @@ module _ (front : List Move) (x : Move) (rest : List Move) (repairs : RepairsFit
 
   leads_elsewhere : x.repair ≡ true → (y : Move) → IntoWhole y → leads_to c x.source y ≡ false
   leads_elsewhere e y h = no_and _ _ (λ a b.
-      off (is_broken moves c x.source) (source_broken e) (same_mode y.component c y.target x.source false (eqb-true y.component c a) (eqb-true y.target x.source b) h))
+      both_ways (is_broken moves c x.source) (same_mode y.component c y.target x.source false (eqb-true y.component c a) (eqb-true y.target x.source b) h) (source_broken e))
 
   none_leads : x.repair ≡ true → list_any (leads_to c x.source) (front ++ x ∷ []) ≡ false
   none_leads e =
@@ -99,7 +88,7 @@ module _ (front : List Move) (x : Move) (rest : List Move) (repairs : RepairsFit
   only_if false v h = refl
 
   pub not_into_broken : is_into_broken front x ≡ false
-  not_into_broken = or_no _ _ not_into (only_if x.repair _ none_leads)
+  not_into_broken = or_from _ _ not_into (only_if x.repair _ none_leads)
 
   -- ---- ways out of broken modes
 
@@ -112,12 +101,12 @@ module _ (front : List Move) (x : Move) (rest : List Move) (repairs : RepairsFit
   ordinary : not x.repair ≡ true → is_broken front c x.source ≡ false
   ordinary e =
       any_front (is_repair_of c x.source) front (x ∷ rest)
-      (elim (is_broken moves c x.source) as (λ b. is_broken moves c x.source ≡ b → b ≡ false) [ true ↦ (λ k. absurd (off x.repair (marked k) (not_on x.repair e))) | false ↦ (λ k. refl) ] refl)
+      (elim (is_broken moves c x.source) as (λ b. is_broken moves c x.source ≡ b → b ≡ false) [ true ↦ (λ k. absurd (both_ways x.repair (not-true x.repair e) (marked k))) | false ↦ (λ k. refl) ] refl)
 
   leaves_marked : x.repair ≡ true → (y : Move) → LeavesMarked y → leaves_unmarked c x.source y ≡ false
   leaves_marked e y h = no_and _ _ (λ a b.
       let p = and_parts (eqb y.component c) (eqb y.source x.source) b in
-      off y.repair (h (same_mode c y.component x.source y.source true (sym (eqb-true y.component c p.0)) (sym (eqb-true y.source x.source p.1)) (source_broken e))) (not_on y.repair a))
+      both_ways y.repair (not-true y.repair a) (h (same_mode c y.component x.source y.source true (sym (eqb-true y.component c p.0)) (sym (eqb-true y.source x.source p.1)) (source_broken e))))
 
   none_unmarked : x.repair ≡ true → list_any (leaves_unmarked c x.source) front ≡ false
   none_unmarked e =
@@ -125,7 +114,7 @@ module _ (front : List Move) (x : Move) (rest : List Move) (repairs : RepairsFit
       list_any_none (leaves_unmarked c x.source) front (λ k d lt. leaves_marked e (get_or front k d) (each k d lt))
 
   pub not_unmarked_exit : is_unmarked_exit front x ≡ false
-  not_unmarked_exit = or_no _ _ (only_if (not x.repair) _ ordinary) (only_if x.repair _ none_unmarked)
+  not_unmarked_exit = or_from _ _ (only_if (not x.repair) _ ordinary) (only_if x.repair _ none_unmarked)
 
   -- ---- mended modes
 
@@ -135,7 +124,7 @@ module _ (front : List Move) (x : Move) (rest : List Move) (repairs : RepairsFit
       let q = and_parts (eqb y.component c) (eqb y.source x.source) p.0 in
       let first : IsNext moves c x.source y.target = record { repair = y; of_model = h; mends = rw (a, q.0, q.1) refl; target = refl } in
       let second : IsNext moves c x.source x.target = record { repair = x; of_model = seam_in front x rest; mends = rw (e, eq-eqb c c refl, eq-eqb x.source x.source refl) refl; target = refl } in
-      off (eqb y.target x.target) (eq-eqb y.target x.target (repairs.one_target c x.source y.target x.target first second)) (not_on (eqb y.target x.target) p.1))
+      both_ways (eqb y.target x.target) (not-true (eqb y.target x.target) p.1) (eq-eqb y.target x.target (repairs.one_target c x.source y.target x.target first second)))
 
   pub not_mended_twice : mends_twice front x ≡ false
   not_mended_twice = only_if x.repair _ (λ e. list_any_none (mends_elsewhere c x.source x.target) front (λ k d lt. mended_alike e (get_or front k d) (front_in front (x ∷ rest) k d lt)))

@@ -7,15 +7,15 @@ use Rattle.cca_base.specs.declared.formula.Formula.{Formula, roll-Formula}
 use Rattle.cca_base.specs.declared.formula.Formula.TheOpen.{Formula-F}
 use Rattle.cca_base.specs.declared.formula.Formula.TheFolds.{fold-roll-Formula, ind-Formula, map-Formula}
 use Rattle.cca_base.specs.declared.formula.Subject.{Subject}
-use Rattle.cca_base.specs.Automata.{Automata}
+use Rattle.cca_base.specs.PlantModel.{PlantModel}
 use Rattle.cca_base.specs.Names.{is_name}
 use Rattle.cca_base.specs.Formula.{fits, fits_step, is_choice_of, subject_value, Printed, printed_step}
 use Rattle.cca_base.specs.Model.{mode_counts, value_counts}
 use Rattle.text_base.specs.Lexemes.{Lexeme, word, symbol, comma}
-use Rattle.model_syntax.specs.Grammar.{NameWord, True, False, Equal, Differs, In, Implies, Iff, values_spelled}
+use Rattle.formula_syntax.specs.Grammar.{NameWord, True, False, Equal, Differs, In, Implies, Iff, values_spelled}
 use Rattle.model_syntax.specs.Items.{names_spelled}
-use Rattle.model_syntax.specs.Lookups.{choices_of}
-use Rattle.model_syntax.specs.Meanings.{Comparison, words, lacks_value, is_unknown, has_twice, has_among, is_among}
+use Rattle.formula_syntax.specs.Lookups.{choices_of}
+use Rattle.formula_syntax.specs.Meanings.{Comparison, words, lacks_value, is_unknown, has_twice, has_among, is_among}
 use Rattle.model_syntax.specs.Printing.{Said, said, said_step, among_said, name_of, names_in}
 use Rattle.model_syntax.proofs.PrintedParts.{printed, or_false, kinds_append, name_parts, word_kind, names_kinds, IsAtom, WholeText, whole_at, IsPrintedAs, by_not}
 use Rattle.model_syntax.proofs.PrintedRows.{Part, firsts, conjunction_of, disjunction_of, sides}
@@ -37,7 +37,7 @@ words_same : (names : List (List ℕ)) (h : list_all is_name names ≡ true) →
 words_same [] h = refl
 words_same (n ∷ ns) h = ap (λ xs. n ∷ xs) (words_same ns (and_parts (is_name n) (list_all is_name ns) h).1)
 
-module _ (m : Automata) where
+module _ (m : PlantModel) where
   module _ (s : Subject) (set : ℕ) where
     abbrev name : List ℕ
     name = name_of m s
@@ -55,14 +55,14 @@ module _ (m : Automata) where
       is_once : list_any (λ c. has_twice c.values) (let c : Comparison = record { name = name; values = names } in c ∷ []) ≡ false
       is_once = or_false _ false h.once refl
 
-    among_text : (names : List (List ℕ)) → IsAtom m s set names → IsPrintedAs m (among_said name names) (record { loose = 0; depth = 1 }) atom
+    among_text : (names : List (List ℕ)) → IsAtom m s set names → IsPrintedAs m (among_said name names) (record { precedence = 0; depth = 1 }) atom
     among_text [] h = let e = h.gives in let k = h.some in absurd (omega (arith, e, k))
     among_text (v ∷ []) h =
         let n = named name h.name in
         let w = and_parts (is_name v) true h.named in
         let value = named v w.0 in
         record {
-          loose = refl;
+          precedence = refl;
           text = (
             Equal n value,
             record {
@@ -179,4 +179,4 @@ module _ (m : Automata) where
 
     -- a formula of the model has a text that is spelled as it is printed and is read as it
     pub printed_text : (f : Formula) → fits (mode_counts m) (value_counts m) f ≡ true → WholeText m (said m f).tokens f (printed f).depth
-    printed_text f h = let p = formula_printed f h in whole_at m (said m f).loose (said m f).tokens f (printed f).depth p.text
+    printed_text f h = let p = formula_printed f h in whole_at m (said m f).precedence (said m f).tokens f (printed f).depth p.text

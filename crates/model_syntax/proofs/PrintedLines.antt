@@ -1,73 +1,74 @@
 -- A printed line is read as its item, and leads to the model with it.
-use Rattle.std.proofs.Common.{◌≡◌, ◌≢◌, ℕ, zero, suc, ◌<◌, ◌^◌, Bool, true, false, not, ◌&&◌, ◌||◌, List, [], ◌∷◌, ◌++◌, length, map, Option, Some, None, Result, Ok, Err, IsTrue, All, slice_get, refl, sym, ap, subst, ◌∙◌, arith, append_assoc, rules}
+use Rattle.std.proofs.Common.{◌≡◌, ◌≢◌, ℕ, zero, suc, ◌<◌, ◌^◌, Bool, true, false, not, ◌&&◌, ◌||◌, List, [], ◌∷◌, ◌++◌, length, map, Option, Some, None, Result, Ok, Err, IsTrue, All, slice_get, refl, sym, ap, subst, ◌∙◌, arith, append_assoc}
 use Rattle.std.specs.Prelude.{nat_le}
 use Rattle.std.specs.List.{list_all, list_any}
 use Rattle.std.specs.Option.{option_map_or}
 use Rattle.std.specs.Fmt.{decimal}
 use Rattle.std.specs.Char.{is_ascii_digit}
 use Rattle.std.specs.Str.{bytes_eq}
-use Rattle.std.proofs.lemmas.Str.Parse.{IsDigitsTest, numerals_by_value}
+use Rattle.std.proofs.lemmas.Str.Parse.{numerals_by_value}
 use Rattle.std.proofs.lemmas.Fmt.{decimal_is_IsNumeral_wide}
 use Rattle.std.proofs.lemmas.Bool.{and_parts, and_from, le-ltb, leb-true}
 use Rattle.std.proofs.lemmas.List.{append-nil}
 use Rattle.std.proofs.lemmas.List.Elements.{All-head, All-tail}
 use Rattle.cca_base.specs.declared.formula.Formula.{Formula}
 use Rattle.cca_base.specs.declared.limits.TheConstants.{MAX_NAME, MAX_DEPTH}
-use Rattle.cca_base.specs.Automata.{Automata}
+use Rattle.cca_base.specs.PlantModel.{PlantModel}
 use Rattle.cca_base.specs.Names.{is_name, is_word, is_reserved, AreNames, AreDifferent}
 use Rattle.cca_base.specs.Model.{IsFormula}
 use Rattle.cca_base.proofs.Pairwise.{AllPairs-tail, AllPairs-head}
 use Rattle.text_base.specs.Tokens.{Tok, tokens_of, is_digits}
 use Rattle.text_base.specs.Lexemes.{Lexeme}
-use Rattle.model_syntax.specs.declared.reading.Reading.TheVariants.{Sound}
-use Rattle.model_syntax.specs.Grammar.{Whole, spelling}
+use Rattle.text_base.proofs.NumberTexts.{tells_list_all}
+use Rattle.formula_syntax.specs.declared.read_part.ReadPart.TheVariants.{Sound}
+use Rattle.formula_syntax.specs.Grammar.{Whole, spelling}
 use Rattle.model_syntax.specs.Items.{Item, Header, item_of, line_spelled, IsSpelled, AreNameWords}
-use Rattle.model_syntax.specs.Lookups.{place_of}
-use Rattle.model_syntax.specs.Meanings.{has_twice, verdict, reading_of, whole_depth, whole_formula}
-use Rattle.model_syntax.specs.Codes.{is_long, names_unknown, lists_twice, is_deep}
-use Rattle.model_syntax.specs.Lines.{Next, Reading, Reads, Leads, LeadsByForm, LeadsByTokens, IsNextOfItem, outcome}
+use Rattle.formula_syntax.specs.Lookups.{place_of}
+use Rattle.formula_syntax.specs.Meanings.{has_twice, verdict, reading_of, whole_depth, whole_formula, names_unknown, lists_twice, is_deep}
+use Rattle.model_syntax.specs.Codes.{is_long}
+use Rattle.model_syntax.specs.Lines.{Next, ModelSoFar, Reads, LineLeads, LeadsByForm, LeadsByTokens, IsNextOfItem, outcome}
 use Rattle.model_syntax.specs.Printing.{formula_said, joined, name_at}
 use Rattle.model_syntax.specs.RoundTrip.{AreOfTheirKinds, AreTokens, ReadsTo}
-use Rattle.model_syntax.proofs.FormulaLemmas.{one_way}
+use Rattle.formula_syntax.proofs.FormulaReadWhole.{one_way}
 use Rattle.model_syntax.proofs.ItemGrammar.{item_again}
 use Rattle.model_syntax.proofs.JoinedTokens.{joined_read}
-use Rattle.model_syntax.proofs.LookupLemmas.{different_text}
+use Rattle.formula_syntax.proofs.UnknownNames.{different_text}
 use Rattle.model_syntax.proofs.PrintedFormulas.{printed_text}
 use Rattle.model_syntax.proofs.PrintedNames.{HasNames, atom_read, place_found, member_at}
 use Rattle.model_syntax.proofs.PrintedParts.{name_parts}
 
 -- a reader behind `titan 1`
-abbrev pub begun : Automata → Reading
+abbrev pub begun : PlantModel → ModelSoFar
 begun m = record { model = m; begun = true }
 
 -- ---- from lexemes to lines
 
-tokens_lead : (n : Automata) (r : Result (List Tok) ℕ) (ls : List Lexeme) (i : Item) (next : Next) → AreTokens ls r → item_of ls ≡ Some i → IsNextOfItem n i next → LeadsByTokens (begun n) r (outcome next)
+tokens_lead : (n : PlantModel) (r : Result (List Tok) ℕ) (ls : List Lexeme) (i : Item) (next : Next) → AreTokens ls r → item_of ls ≡ Some i → IsNextOfItem n i next → LeadsByTokens (begun n) r (outcome next)
 tokens_lead n (Err at) ls i next h e k = absurd h
 tokens_lead n (Ok []) ls i next h e k = let none : None ≡ Some i = ap item_of h ∙ e in absurd cc
 tokens_lead n (Ok (t ∷ ts)) ls i next h e k =
     subst (λ form. LeadsByForm true n form (outcome next)) (sym (ap item_of h ∙ e)) (next, k, refl)
 
 -- an item's printed line leads to what the item leads to
-pub line_leads : (n : Automata) (ls : List Lexeme) (i : Item) (next : Next) → AreOfTheirKinds ls → ls ≡ line_spelled i → IsSpelled i → IsNextOfItem n i next → Leads (begun n) (joined ls) (outcome next)
+pub line_leads : (n : PlantModel) (ls : List Lexeme) (i : Item) (next : Next) → AreOfTheirKinds ls → ls ≡ line_spelled i → IsSpelled i → IsNextOfItem n i next → LineLeads (begun n) (joined ls) (outcome next)
 line_leads n ls i next kinds e spelled k = tokens_lead n (tokens_of (joined ls)) ls i next (joined_read ls kinds) (ap item_of e ∙ item_again i spelled) k
 
-header_tokens : (r : Result (List Tok) ℕ) (ls : List Lexeme) (m : Automata) → AreTokens ls r → item_of ls ≡ Some Header → LeadsByTokens (record { model = m; begun = false }) r (Reads (begun m))
+header_tokens : (r : Result (List Tok) ℕ) (ls : List Lexeme) (m : PlantModel) → AreTokens ls r → item_of ls ≡ Some Header → LeadsByTokens (record { model = m; begun = false }) r (Reads (begun m))
 header_tokens (Err at) ls m h e = absurd h
 header_tokens (Ok []) ls m h e = let none : None ≡ Some Header = ap item_of h ∙ e in absurd cc
 header_tokens (Ok (t ∷ ts)) ls m h e = subst (λ form. LeadsByForm false m form (Reads (begun m))) (sym (ap item_of h ∙ e)) refl
 
-pub header_leads : (m : Automata) → Leads (record { model = m; begun = false }) (joined (line_spelled Header)) (Reads (begun m))
+pub header_leads : (m : PlantModel) → LineLeads (record { model = m; begun = false }) (joined (line_spelled Header)) (Reads (begun m))
 header_leads m = header_tokens (tokens_of (joined (line_spelled Header))) (line_spelled Header) m (joined_read (line_spelled Header) refl) (item_again Header tt)
 
 -- lines, and then others
-pub reads_on : (s t u : Reading) (ls ms : List (List ℕ)) → ReadsTo s ls t → ReadsTo t ms u → ReadsTo s (ls ++ ms) u
+pub reads_on : (s t u : ModelSoFar) (ls ms : List (List ℕ)) → ReadsTo s ls t → ReadsTo t ms u → ReadsTo s (ls ++ ms) u
 reads_on s t u [] ms h k = subst (λ r. ReadsTo r ms u) (sym h) k
 reads_on s t u (l ∷ ls) ms h k = (h.0, h.1, reads_on h.0 t u ls ms h.2 k)
 
 -- the lines of a list's elements, where each line leads from the model with those before to the one with it besides
-pub run_leads : {X : Type 0} (say : X → List Lexeme) (model : List X → Automata) (all : List X)
-    → ((front : List X) (x : X) (rest : List X) → front ++ x ∷ rest ≡ all → Leads (begun (model front)) (joined (say x)) (Reads (begun (model (front ++ x ∷ [])))))
+pub run_leads : {X : Type 0} (say : X → List Lexeme) (model : List X → PlantModel) (all : List X)
+    → ((front : List X) (x : X) (rest : List X) → front ++ x ∷ rest ≡ all → LineLeads (begun (model front)) (joined (say x)) (Reads (begun (model (front ++ x ∷ [])))))
     → (front rest : List X) → front ++ rest ≡ all → ReadsTo (begun (model front)) (map joined (map say rest)) (begun (model all))
 run_leads say model all leads front [] e = ap (λ xs. begun (model xs)) (sym (append-nil front) ∙ e)
 run_leads say model all leads front (x ∷ rest) e =
@@ -123,9 +124,6 @@ all_are_names (y ∷ ys) h = and_from (is_name y) _ (All-head (λ name. IsTrue (
 
 -- ---- numbers
 
-tells_list_all : IsDigitsTest (λ ds. list_all is_ascii_digit ds ≡ true)
-tells_list_all = search rules
-
 some_digits : (ds : List ℕ) → 0 < length ds → list_all is_ascii_digit ds ≡ true → is_digits ds ≡ true
 some_digits [] some h = absurd (omega arith)
 some_digits (b ∷ bs) some h = h
@@ -142,7 +140,7 @@ sound_parts false false true f g n k e = absurd cc
 sound_parts false false false f g n k e = (refl, refl, refl, cc)
 
 -- however these lexemes are read as a formula's text, they are read as the formula
-pub record IsReadAs (n : Automata) (ls : List Lexeme) (f : Formula) : Type 0 where
+pub record IsReadAs (n : PlantModel) (ls : List Lexeme) (f : Formula) : Type 0 where
   pub some : (t : Whole) × (ls ≡ spelling t)
   pub kinds : AreOfTheirKinds ls
   pub each : (t : Whole) → ls ≡ spelling t → (names_unknown n t ≡ false) × (lists_twice t ≡ false) × (is_deep t ≡ false) × (whole_formula n t ≡ f)
@@ -150,15 +148,15 @@ pub record IsReadAs (n : Automata) (ls : List Lexeme) (f : Formula) : Type 0 whe
 verdict_sound : (u r d : Bool) (f g : Formula) (n : ℕ) → u ≡ false → r ≡ false → d ≡ false → f ≡ g → verdict u r d (Sound f n) ≡ Sound g n
 verdict_sound u r d f g n a b c e = rw (a, b, c) (ap (λ x. Sound x n) e)
 
-pub formula_read : (n : Automata) → HasNames n → (f : Formula) → IsFormula n f → IsReadAs n (formula_said n f) f
+pub formula_read : (n : PlantModel) → HasNames n → (f : Formula) → IsFormula n f → IsReadAs n (formula_said n f) f
 unfolding reading_of
 formula_read n h f is =
     let x = printed_text n (atom_read n h) f is.fits in
     let same : formula_said n f ≡ spelling x.0 = sym (x.1.same [] ∙ append-nil (formula_said n f)) in
     let shallow : is_deep x.0 ≡ false = let a = x.1.depth in let b = is.shallow in le-ltb MAX_DEPTH (whole_depth x.0) (omega (arith, a, b)) in
-    let sound : reading_of n x.0 ≡ Sound f (whole_depth x.0) = verdict_sound _ _ _ (whole_formula n x.0) f (whole_depth x.0) x.1.known x.1.once shallow x.1.formula in
+    let sound : reading_of true n x.0 ≡ Sound f (whole_depth x.0) = verdict_sound _ _ _ (whole_formula n x.0) f (whole_depth x.0) x.1.known x.1.once shallow x.1.formula in
     record {
       some = (x.0, same);
       kinds = x.1.kinds;
-      each = λ t e. sound_parts (names_unknown n t) (lists_twice t) (is_deep t) (whole_formula n t) f (whole_depth t) (whole_depth x.0) (one_way n t x.0 (sym e ∙ same) ∙ sound);
+      each = λ t e. sound_parts (names_unknown n t) (lists_twice t) (is_deep t) (whole_formula n t) f (whole_depth t) (whole_depth x.0) (one_way true n t x.0 (sym e ∙ same) ∙ sound);
     }

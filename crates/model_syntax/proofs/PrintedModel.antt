@@ -2,32 +2,33 @@
 use Rattle.std.proofs.Common.{◌≡◌, ◌≢◌, ℕ, false, List, [], ◌∷◌, ◌++◌, map, take, IsTrue, All, refl, sym, subst, ◌∙◌, append_assoc}
 use Rattle.std.proofs.lemmas.List.{map-append, take_all}
 use Rattle.std.proofs.lemmas.List.Elements.{All-nil, All-cons, All-append}
-use Rattle.cca_base.specs.declared.model.Component.{Component as Part}
-use Rattle.cca_base.specs.declared.model.Variable.{Variable as Quantity}
-use Rattle.cca_base.specs.Automata.{Automata}
+use Rattle.list_laws.proofs.Elements.{all_left}
+use Rattle.cca_base.specs.declared.model.Component.{Component}
+use Rattle.cca_base.specs.declared.model.Variable.{Variable}
+use Rattle.cca_base.specs.PlantModel.{PlantModel}
 use Rattle.cca_base.specs.Names.{is_name, AreNames}
 use Rattle.cca_base.specs.Model.{WellFormed, IsComplete, empty_model}
 use Rattle.text_base.specs.Lexemes.{Lexeme}
-use Rattle.model_syntax.specs.Lines.{Reading}
+use Rattle.model_syntax.specs.Lines.{ModelSoFar}
 use Rattle.model_syntax.specs.Printing.{joined, header_said, component_said, variable_said, rule_said, move_said, failure_said, lines_said}
 use Rattle.model_syntax.specs.RoundTrip.{ReadsTo, AreOfTheirKinds}
 use Rattle.model_syntax.proofs.PrintedDeclarations.{only_components, component_leads, component_kinds, with_variables, variable_leads, variable_kinds}
 use Rattle.model_syntax.proofs.JoinedBytes.{joined_whole}
 use Rattle.model_syntax.proofs.PrintedLines.{begun, header_leads, reads_on, run_leads}
 use Rattle.model_syntax.proofs.PrintedMoves.{used, all_used, with_moves, move_leads, move_kinds}
-use Rattle.model_syntax.proofs.PrintedNames.{HasNames, all_left, pairs_left}
+use Rattle.model_syntax.proofs.PrintedNames.{HasNames, pairs_left}
 use Rattle.model_syntax.proofs.PrintedRules.{with_rules, rule_leads, rule_kinds, with_failures, failure_leads, failure_kinds}
 
 -- some lines and then others
-both : (s t u : Reading) (ls ms : List (List Lexeme)) → ReadsTo s (map joined ls) t → ReadsTo t (map joined ms) u → ReadsTo s (map joined (ls ++ ms)) u
+both : (s t u : ModelSoFar) (ls ms : List (List Lexeme)) → ReadsTo s (map joined ls) t → ReadsTo t (map joined ms) u → ReadsTo s (map joined (ls ++ ms)) u
 both s t u ls ms h k = subst (λ lines. ReadsTo s lines u) (sym (map-append joined ls ms)) (reads_on s t u (map joined ls) (map joined ms) h k)
 
-module _ (m : Automata) (w : WellFormed m) where
+module _ (m : PlantModel) (w : WellFormed m) where
   abbrev part_names : List (List ℕ)
-  part_names = map (λ (c : Part). c.name) m.components
+  part_names = map (λ (c : Component). c.name) m.components
 
   abbrev quantity_names : List (List ℕ)
-  quantity_names = map (λ (v : Quantity). v.name) m.variables
+  quantity_names = map (λ (v : Variable). v.name) m.variables
 
   named : AreNames part_names
   named = record {
@@ -39,16 +40,16 @@ module _ (m : Automata) (w : WellFormed m) where
   has_names = record { names = w.names; components = w.components; variables = w.variables }
 
   -- the models in between
-  abbrev with_all_components : Automata
+  abbrev with_all_components : PlantModel
   with_all_components = record { components = m.components; variables = []; rules = []; commands = []; moves = []; failures = [] }
 
-  abbrev with_all_variables : Automata
+  abbrev with_all_variables : PlantModel
   with_all_variables = record { components = m.components; variables = m.variables; rules = []; commands = []; moves = []; failures = [] }
 
-  abbrev with_all_rules : Automata
+  abbrev with_all_rules : PlantModel
   with_all_rules = record { components = m.components; variables = m.variables; rules = m.rules; commands = []; moves = []; failures = [] }
 
-  abbrev with_all_moves : Automata
+  abbrev with_all_moves : PlantModel
   with_all_moves = record { components = m.components; variables = m.variables; rules = m.rules; commands = m.commands; moves = m.moves; failures = [] }
 
   components_read : ReadsTo (begun empty_model) (map joined (map component_said m.components)) (begun with_all_components)
@@ -89,9 +90,6 @@ module _ (m : Automata) (w : WellFormed m) where
       )
 
   -- ---- the bytes of the lines
-
-  abbrev WholeLine : List Lexeme → Type 0
-  WholeLine ls = All (λ b. b ≢ 10) (joined ls)
 
   -- what holds of each element's line
   each_line : {X : Type 0} (say : X → List Lexeme) (all : List X) → ((front : List X) (x : X) (rest : List X) → front ++ x ∷ rest ≡ all → AreOfTheirKinds (say x))

@@ -3,38 +3,35 @@ use Rattle.std.proofs.Common.{◌≡◌, ◌≢◌, ℕ, zero, suc, ◌+◌, ◌
 use Rattle.std.specs.Prelude.{is_some, unwrap_or, nat_le}
 use Rattle.std.specs.Option.{option_map_or}
 use Rattle.std.specs.Str.{bytes_eq}
-use Rattle.std.proofs.lemmas.Bool.{lt-leb, cases_lt, eqb-true}
+use Rattle.std.proofs.lemmas.Bool.{lt-leb, cases_lt, eqb-true, or_from}
 use Rattle.std.proofs.lemmas.List.{take-append-drop}
 use Rattle.std.proofs.lemmas.List.Elements.{All-head, All-tail, All-cons, All-nil}
-use Rattle.cca_base.specs.declared.model.Move.{Move as Way}
+use Rattle.list_laws.proofs.Places.{some_at}
+use Rattle.list_laws.proofs.Elements.{all_left, all_right}
+use Rattle.cca_base.specs.declared.model.Move.{Move}
 use Rattle.cca_base.specs.declared.limits.TheConstants.{MAX_MOVES}
-use Rattle.cca_base.specs.Automata.{Automata}
+use Rattle.cca_base.specs.PlantModel.{PlantModel}
 use Rattle.cca_base.specs.Names.{AreDifferent}
 use Rattle.cca_base.specs.Model.{IsMove, RepairsFit, CommandsFit, WellFormed, is_used, with_command, with_move}
 use Rattle.cca_base.proofs.Pairwise.{AllPairs-take}
 use Rattle.text_base.specs.Lexemes.{Lexeme, word}
-use Rattle.model_syntax.specs.Grammar.{Whole, spelling}
-use Rattle.model_syntax.specs.Items.{Ends, Move, move_word}
-use Rattle.model_syntax.specs.Lookups.{place_of}
-use Rattle.model_syntax.specs.Meanings.{whole_formula}
-use Rattle.model_syntax.specs.Codes.{least, is_long, ends_of, command_number, new_move, with_named, move_faults, move_code, move_code_from, names_unknown, lists_twice, is_deep}
-use Rattle.model_syntax.specs.Lines.{Goes, Reads, Leads, unless, with_declared, move_next}
+use Rattle.formula_syntax.specs.Grammar.{Whole, spelling}
+use Rattle.model_syntax.specs.Items.{Ends, move_word}
+use Rattle.model_syntax.specs.Items as items
+use Rattle.formula_syntax.specs.Lookups.{place_of}
+use Rattle.formula_syntax.specs.Meanings.{whole_formula, names_unknown, lists_twice, is_deep}
+use Rattle.model_syntax.specs.Codes.{least, is_long, ends_of, command_number, new_move, with_named, move_faults, move_code, move_code_from}
+use Rattle.model_syntax.specs.Lines.{Goes, Reads, LineLeads, unless, with_declared, move_next}
 use Rattle.model_syntax.specs.Printing.{joined, name_at, formula_said, ends_said, move_said}
 use Rattle.model_syntax.specs.RoundTrip.{AreOfTheirKinds}
-use Rattle.model_syntax.proofs.LookupLemmas.{position_none, different_text}
-use Rattle.model_syntax.proofs.PrintedDeclarations.{or_no}
+use Rattle.formula_syntax.proofs.UnknownNames.{position_none, different_text}
 use Rattle.model_syntax.proofs.PrintedFaults.{not_ambiguous, not_into_broken, not_unmarked_exit, not_mended_twice}
 use Rattle.model_syntax.proofs.PrintedLines.{begun, line_leads, IsAt, name_there, not_too_long, IsReadAs, formula_read}
-use Rattle.model_syntax.proofs.PrintedNames.{HasNames, all_left, all_right, pairs_across, place_found}
+use Rattle.model_syntax.proofs.PrintedNames.{HasNames, pairs_across, place_found}
 use Rattle.model_syntax.proofs.PrintedParts.{name_parts, word_kind}
 use Rattle.model_syntax.proofs.PrintedRules.{ends_words, ends_found, ends_kinds, ends_free}
 
 -- ---- lists by their front
-
-got_within : {X : Type 0} (xs : List X) (k : ℕ) → k < length xs → (x : X) × (slice_get xs k ≡ Some x)
-got_within [] k lt = absurd (omega arith)
-got_within (x ∷ xs) zero lt = (x, refl)
-got_within (x ∷ xs) (suc k) lt = got_within xs k (omega arith)
 
 got_left : {X : Type 0} (xs ys : List X) (k : ℕ) → k < length xs → slice_get (xs ++ ys) k ≡ slice_get xs k
 got_left [] ys k lt = absurd (omega arith)
@@ -66,28 +63,28 @@ got_dropped (x ∷ xs) (suc k) = got_dropped xs k
 -- ---- commands
 
 -- one more than the greatest number of a command
-abbrev pub used : List Way → ℕ
+abbrev pub used : List Move → ℕ
 used [] = 0
 used (x ∷ xs) = max (x.command + 1) (used xs)
 
-used_push : (xs : List Way) (x : Way) → used (xs ++ x ∷ []) ≡ max (used xs) (x.command + 1)
+used_push : (xs : List Move) (x : Move) → used (xs ++ x ∷ []) ≡ max (used xs) (x.command + 1)
 used_push [] x = omega arith
 used_push (y ∷ ys) x = let e = used_push ys x in omega (arith, e)
 
-used_above : (xs : List Way) (k : ℕ) (x : Way) → slice_get xs k ≡ Some x → x.command < used xs
+used_above : (xs : List Move) (k : ℕ) (x : Move) → slice_get xs k ≡ Some x → x.command < used xs
 used_above [] k x e = absurd cc
-used_above (y ∷ ys) zero x e = let same : y ≡ x = cc in let s = ap (λ (z : Way). z.command) same in omega (arith, s)
+used_above (y ∷ ys) zero x e = let same : y ≡ x = cc in let s = ap (λ (z : Move). z.command) same in omega (arith, s)
 used_above (y ∷ ys) (suc k) x e = let h = used_above ys k x e in omega (arith, h)
 
-used_few : (n : ℕ) (xs : List Way) → All (λ (x : Way). x.command < n) xs → used xs ≤ n
+used_few : (n : ℕ) (xs : List Move) → All (λ (x : Move). x.command < n) xs → used xs ≤ n
 used_few n [] h = omega arith
 used_few n (x ∷ xs) h =
-    let a = All-head (λ (y : Way). y.command < n) x xs h in
-    let b = used_few n xs (All-tail (λ (y : Way). y.command < n) x xs h) in
+    let a = All-head (λ (y : Move). y.command < n) x xs h in
+    let b = used_few n xs (All-tail (λ (y : Move). y.command < n) x xs h) in
     omega (arith, a, b)
 
 -- a command that a move has is below
-used_has : (xs : List Way) (k : ℕ) → is_used xs k ≡ true → k < used xs
+used_has : (xs : List Move) (k : ℕ) → is_used xs k ≡ true → k < used xs
 used_has [] k h = absurd cc
 used_has (x ∷ xs) k h =
     elim (eqb x.command k) as (λ b. eqb x.command k ≡ b → (b || is_used xs k) ≡ true → k < used (x ∷ xs)) [
@@ -96,24 +93,24 @@ used_has (x ∷ xs) k h =
     ] refl h
 
 -- all commands, where each is used
-pub all_used : (commands : List (List ℕ)) (xs : List Way) → ((k : ℕ) → k < length commands → IsTrue (is_used xs k)) → length commands ≤ used xs
+pub all_used : (commands : List (List ℕ)) (xs : List Move) → ((k : ℕ) → k < length commands → IsTrue (is_used xs k)) → length commands ≤ used xs
 all_used commands xs h = elim (cases_lt (used xs) (length commands)) [
   | inl l ↦ let k = used_has xs (used xs) (h (used xs) l) in absurd (omega (arith, k))
   | inr g ↦ g
 ]
 
 -- the move's number and the model's commands, where the name of its command is read
-record IsNumbered (n : Automata) (text : List ℕ) (number : ℕ) (commands : List (List ℕ)) : Type 0 where
+record IsNumbered (n : PlantModel) (text : List ℕ) (number : ℕ) (commands : List (List ℕ)) : Type 0 where
   number_is : command_number n text ≡ number
   named_is : with_named n text ≡ record n { commands = commands }
 
-numbered_old : (n : Automata) (text : List ℕ) (number : ℕ) → place_of n.commands text ≡ Some number → IsNumbered n text number n.commands
+numbered_old : (n : PlantModel) (text : List ℕ) (number : ℕ) → place_of n.commands text ≡ Some number → IsNumbered n text number n.commands
 numbered_old n text number e = record {
   number_is = ap (λ o. unwrap_or o (length n.commands)) e;
   named_is = ap (λ o. cond (is_some o) n (with_command n text)) e;
 }
 
-numbered_new : (n : Automata) (text : List ℕ) → place_of n.commands text ≡ None → IsNumbered n text (length n.commands) (n.commands ++ text ∷ [])
+numbered_new : (n : PlantModel) (text : List ℕ) → place_of n.commands text ≡ None → IsNumbered n text (length n.commands) (n.commands ++ text ∷ [])
 numbered_new n text e = record {
   number_is = ap (λ o. unwrap_or o (length n.commands)) e;
   named_is = ap (λ o. cond (is_some o) n (with_command n text)) e;
@@ -134,13 +131,13 @@ none_of_seven : (a b c : Bool) (d e f g : Bool) (i j k p q r s : ℕ) → a ≡ 
     → least ((i, a) ∷ (j, b) ∷ (k, c) ∷ (p, d) ∷ (q, e) ∷ (r, f) ∷ (s, g) ∷ []) ≡ None
 none_of_seven a b c d e f g i j k p q r s ha hb hc hd he hf hg = rw (ha, hb, hc, hd, he, hf, hg) refl
 
-module _ (m : Automata) (w : WellFormed m) where
+module _ (m : PlantModel) (w : WellFormed m) where
   -- the model with some of its moves and their commands, and without failures
-  abbrev pub with_moves : List Way → Automata
+  abbrev pub with_moves : List Move → PlantModel
   with_moves xs = record { components = m.components; variables = m.variables; rules = m.rules; commands = take (used xs) m.commands; moves = xs; failures = [] }
 
-  module _ (front : List Way) (x : Way) (rest : List Way) (e : front ++ x ∷ rest ≡ m.moves) where
-    abbrev n : Automata
+  module _ (front : List Move) (x : Move) (rest : List Move) (e : front ++ x ∷ rest ≡ m.moves) where
+    abbrev n : PlantModel
     n = with_moves front
 
     named : HasNames n
@@ -156,7 +153,7 @@ module _ (m : Automata) (w : WellFormed m) where
     called = name_there m.commands x.command w.command_names sound.command
 
     the_name : slice_get m.commands x.command ≡ Some command
-    the_name = let g = got_within m.commands x.command sound.command in g.1 ∙ ap (λ t. Some t) (sym (ap (λ o. option_map_or (λ name. name) o []) g.1))
+    the_name = let g = some_at m.commands x.command sound.command in g.1 ∙ ap (λ t. Some t) (sym (ap (λ o. option_map_or (λ name. name) o []) g.1))
 
     few_used : used front ≤ length m.commands
     few_used =
@@ -217,14 +214,14 @@ module _ (m : Automata) (w : WellFormed m) where
 
     new_is : (t : Whole) → whole_formula n t ≡ x.guard → new_move n x.repair (x.component, x.source, x.target) command (whole_formula n t) ≡ x
     new_is t g =
-        ap (λ k. let y : Way = record { component = x.component; source = x.source; target = x.target; command = k; repair = x.repair; guard = whole_formula n t } in y) numbered.number_is
-        ∙ ap (λ f. let y : Way = record { component = x.component; source = x.source; target = x.target; command = x.command; repair = x.repair; guard = f } in y) g
+        ap (λ k. let y : Move = record { component = x.component; source = x.source; target = x.target; command = k; repair = x.repair; guard = whole_formula n t } in y) numbered.number_is
+        ∙ ap (λ f. let y : Move = record { component = x.component; source = x.source; target = x.target; command = x.command; repair = x.repair; guard = f } in y) g
 
     no_code : (t : Whole) → names_unknown n t ≡ false → lists_twice t ≡ false → is_deep t ≡ false → whole_formula n t ≡ x.guard
         → move_code_from n x.repair (Some (x.component, x.source, x.target)) command t ≡ None
     no_code t a b d g =
         ap (λ y. least ((2, names_unknown n t) ∷ (3, lists_twice t) ∷ (4, is_deep t || (is_long command || nat_le MAX_MOVES (length front))) ∷ move_faults n y)) (new_is t g)
-        ∙ none_of_seven _ _ _ _ _ _ _ 2 3 4 5 6 7 8 a b (or_no _ _ d (or_no _ _ (not_too_long command called.name) room))
+        ∙ none_of_seven _ _ _ _ _ _ _ 2 3 4 5 6 7 8 a b (or_from _ _ d (or_from _ _ (not_too_long command called.name) room))
         (not_ambiguous front x rest repairs commands) (not_into_broken front x rest repairs commands) (not_unmarked_exit front x rest repairs commands) (not_mended_twice front x rest repairs commands)
 
     next_is : (t : Whole) → formula_said m x.guard ≡ spelling t → Goes (with_moves (front ++ x ∷ [])) ≡ move_next n x.repair words command t
@@ -246,8 +243,8 @@ module _ (m : Automata) (w : WellFormed m) where
         move_kind x.repair (ends_said n x.component x.source x.target rest)
         (ends_kinds n named x.component x.source x.target sound.source sound.target rest (word_kind command (word (codes "when") ∷ formula_said m x.guard) called.name guard.kinds))
 
-    pub move_leads : Leads (begun n) (joined (move_said m x)) (Reads (begun (with_moves (front ++ x ∷ []))))
+    pub move_leads : LineLeads (begun n) (joined (move_said m x)) (Reads (begun (with_moves (front ++ x ∷ []))))
     move_leads =
-        line_leads n (move_said m x) (Move x.repair words command (formula_said m x.guard)) (Goes (with_moves (front ++ x ∷ []))) move_kinds refl
+        line_leads n (move_said m x) (items.Move x.repair words command (formula_said m x.guard)) (Goes (with_moves (front ++ x ∷ []))) move_kinds refl
         (ends_free n named x.component x.source x.target sound.source sound.target (command ∷ []) ((name_parts command called.name).1, tt))
         (record { of_text = next_is; or_none = inl guard.some })

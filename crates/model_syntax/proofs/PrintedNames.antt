@@ -12,36 +12,29 @@ use Rattle.std.proofs.lemmas.Nat.Bits.{same_from_bits, bit_at-lt}
 use Rattle.std.proofs.lemmas.Option.{slice_get_within, get_or_from_slice_get, unwrap_or-slice_get, slice_get-map}
 use Rattle.std.proofs.lemmas.List.Elements.{All-head, All-tail, All-cons, All-nil}
 use Rattle.std.proofs.lemmas.Slice.Eq.{bytes_eq-Decides}
+use Rattle.list_laws.proofs.Elements.{all_left, all_right}
 use Rattle.cca_base.specs.declared.formula.Subject.{Subject}
-use Rattle.cca_base.specs.declared.formula.Subject.TheVariants.{Component, Variable}
-use Rattle.cca_base.specs.declared.model.Component.{Component as Part}
-use Rattle.cca_base.specs.declared.model.Variable.{Variable as Quantity}
-use Rattle.cca_base.specs.Automata.{Automata}
+use Rattle.cca_base.specs.declared.formula.Subject.TheVariants as subjects
+use Rattle.cca_base.specs.declared.model.Component.{Component}
+use Rattle.cca_base.specs.declared.model.Variable.{Variable}
+use Rattle.cca_base.specs.PlantModel.{PlantModel}
 use Rattle.cca_base.specs.Names.{is_name, AreNames, AreDifferent}
 use Rattle.cca_base.specs.Sets.{has, with_number}
 use Rattle.cca_base.specs.Formula.{is_choice_of, subject_value}
 use Rattle.cca_base.specs.Model.{AreChoices, IsComponent, mode_counts, value_counts, names_of}
 use Rattle.cca_base.proofs.Pairwise.{AllPairs-tail, AllPairs-head, AllPairs-take}
-use Rattle.cca_base.proofs.SetLemmas.{has-with_number, has-empty, has_above}
-use Rattle.model_syntax.specs.Lookups.{place_of, subject_of, value_of, choices_of, or_else}
-use Rattle.model_syntax.specs.Meanings.{has_twice, with_found, with_numbers}
+use Rattle.cca_base.proofs.SetLaws.{has-with_number, has-empty, has_above}
+use Rattle.formula_syntax.specs.Lookups.{place_of, subject_of, value_of, choices_of, or_else}
+use Rattle.formula_syntax.specs.Meanings.{has_twice, with_found, with_numbers}
 use Rattle.model_syntax.specs.Printing.{name_of, names_in}
-use Rattle.model_syntax.proofs.LookupLemmas.{position_none, different_text}
-use Rattle.model_syntax.proofs.PositionLemmas.{position_map, position_cons}
+use Rattle.formula_syntax.proofs.UnknownNames.{position_none, different_text}
+use Rattle.model_syntax.proofs.FirstPlaces.{position_map, position_cons}
 use Rattle.model_syntax.proofs.PrintedParts.{IsAtom}
 
 -- ---- elements of lists
 
 pub member_at : {X : Type 0} (P : X → Type 0) (xs : List X) (k : ℕ) (x : X) → All P xs → slice_get xs k ≡ Some x → P x
 member_at P xs k x h e = subst P (get_or_from_slice_get xs k x x e) (h k x (slice_get_within xs k x e))
-
-pub all_right : {X : Type 0} (P : X → Type 0) (xs ys : List X) → All P (xs ++ ys) → All P ys
-all_right P [] ys h = h
-all_right P (x ∷ xs) ys h = all_right P xs ys (All-tail P x (xs ++ ys) h)
-
-pub all_left : {X : Type 0} (P : X → Type 0) (xs ys : List X) → All P (xs ++ ys) → All P xs
-all_left P [] ys h = All-nil P
-all_left P (x ∷ xs) ys h = All-cons P x xs (All-head P x (xs ++ ys) h) (all_left P xs ys (All-tail P x (xs ++ ys) h))
 
 pub pairs_left : {X : Type 0} (R : X → X → Type 0) (xs ys : List X) → AllPairs R (xs ++ ys) → AllPairs R xs
 pairs_left R xs ys h = subst (AllPairs R) (take-append_seam xs ys) (AllPairs-take R (length xs) (xs ++ ys) h)
@@ -74,18 +67,18 @@ place_found (y ∷ ys) (suc k) x h e =
     ∙ ap (λ o. option_map (λ n. n + 1) o) (place_found ys k x (AllPairs-tail (λ a b. a ≢ b) y ys h) e)
     ∙ ap (λ n. Some n) (add-one k)
 
-pub not_first : (xs : List Part) (x : List ℕ) → All (λ n. n ≢ x) (map (λ (c : Part). c.name) xs) → All (λ (c : Part). bytes_eq c.name x ≡ false) xs
-not_first [] x h = All-nil (λ (c : Part). bytes_eq c.name x ≡ false)
+pub not_first : (xs : List Component) (x : List ℕ) → All (λ n. n ≢ x) (map (λ (c : Component). c.name) xs) → All (λ (c : Component). bytes_eq c.name x ≡ false) xs
+not_first [] x h = All-nil (λ (c : Component). bytes_eq c.name x ≡ false)
 not_first (c ∷ cs) x h =
-    All-cons (λ (d : Part). bytes_eq d.name x ≡ false) c cs (different_text c.name x (All-head (λ n. n ≢ x) c.name (map (λ (d : Part). d.name) cs) h)) (not_first cs x (All-tail (λ n. n ≢ x) c.name (map (λ (d : Part). d.name) cs) h))
+    All-cons (λ (d : Component). bytes_eq d.name x ≡ false) c cs (different_text c.name x (All-head (λ n. n ≢ x) c.name (map (λ (d : Component). d.name) cs) h)) (not_first cs x (All-tail (λ n. n ≢ x) c.name (map (λ (d : Component). d.name) cs) h))
 
 -- a model's components and variables, and their names, as far as formulas speak of them
-pub record HasNames (m : Automata) : Type 0 where
+pub record HasNames (m : PlantModel) : Type 0 where
   pub names : AreNames (names_of m)
   pub components : All IsComponent m.components
   pub variables : All (λ v. AreChoices v.values) m.variables
 
-module _ (m : Automata) (h : HasNames m) where
+module _ (m : PlantModel) (h : HasNames m) where
   abbrev component_names : List (List ℕ)
   component_names = map (λ c. c.name) m.components
 
@@ -95,20 +88,20 @@ module _ (m : Automata) (h : HasNames m) where
   named_at : {X : Type 0} (f : X → List ℕ) (xs : List X) (k : ℕ) (x : X) → slice_get xs k ≡ Some x → slice_get (map f xs) k ≡ Some (f x)
   named_at f xs k x e = slice_get-map f xs k ∙ ap (option_map f) e
 
-  pub component_found : (c : ℕ) (x : Part) → slice_get m.components c ≡ Some x → subject_of m x.name ≡ Some (Component c)
+  component_found : (c : ℕ) (x : Component) → slice_get m.components c ≡ Some x → subject_of m x.name ≡ Some (subjects.Component c)
   component_found c x e =
       let different = pairs_left (λ a b. a ≢ b) component_names variable_names h.names.different in
-      let found = sym (position_map (λ n. bytes_eq n x.name) (λ (p : Part). p.name) m.components) ∙ place_found component_names c x.name different (named_at (λ (p : Part). p.name) m.components c x e) in
-      ap (λ (o : Option ℕ). or_else (option_map Component o) (option_map Variable (position (λ v. bytes_eq v.name x.name) m.variables))) found
+      let found = sym (position_map (λ n. bytes_eq n x.name) (λ (p : Component). p.name) m.components) ∙ place_found component_names c x.name different (named_at (λ (p : Component). p.name) m.components c x e) in
+      ap (λ (o : Option ℕ). or_else (option_map subjects.Component o) (option_map subjects.Variable (position (λ v. bytes_eq v.name x.name) m.variables))) found
 
-  pub variable_found : (v : ℕ) (x : Quantity) → slice_get m.variables v ≡ Some x → subject_of m x.name ≡ Some (Variable v)
+  variable_found : (v : ℕ) (x : Variable) → slice_get m.variables v ≡ Some x → subject_of m x.name ≡ Some (subjects.Variable v)
   variable_found v x e =
-      let at = named_at (λ (q : Quantity). q.name) m.variables v x e in
+      let at = named_at (λ (q : Variable). q.name) m.variables v x e in
       let different = pairs_right (λ a b. a ≢ b) component_names variable_names h.names.different in
-      let found = sym (position_map (λ n. bytes_eq n x.name) (λ (q : Quantity). q.name) m.variables) ∙ place_found variable_names v x.name different at in
+      let found = sym (position_map (λ n. bytes_eq n x.name) (λ (q : Variable). q.name) m.variables) ∙ place_found variable_names v x.name different at in
       let none = position_none (λ c. bytes_eq c.name x.name) m.components (not_first m.components x.name (pairs_across (λ a b. a ≢ b) component_names variable_names v x.name h.names.different at)) in
-      ap (λ (o : Option ℕ). or_else (option_map Component o) (option_map Variable (position (λ v. bytes_eq v.name x.name) m.variables))) none
-      ∙ ap (λ (o : Option ℕ). or_else None (option_map Variable o)) found
+      ap (λ (o : Option ℕ). or_else (option_map subjects.Component o) (option_map subjects.Variable (position (λ v. bytes_eq v.name x.name) m.variables))) none
+      ∙ ap (λ (o : Option ℕ). or_else None (option_map subjects.Variable o)) found
 
   -- a subject that is there: its name is read as it, and it has these choices
   pub record IsThere (s : Subject) (n : ℕ) : Type 0 where
@@ -120,35 +113,35 @@ module _ (m : Automata) (h : HasNames m) where
   counted : {X : Type 0} (f : X → ℕ) (xs : List X) (k : ℕ) (o : Option X) → slice_get xs k ≡ o → slice_index (map f xs) k ≡ unwrap_or (option_map f o) 0
   counted f xs k o e = sym (unwrap_or-slice_get (map f xs) k 0) ∙ ap (λ x. unwrap_or x 0) (slice_get-map f xs k) ∙ ap (λ x. unwrap_or (option_map f x) 0) e
 
-  component_there : (c n : ℕ) (o : Option Part) → slice_get m.components c ≡ o → slice_index (mode_counts m) c ≡ n → 0 < n → IsThere (Component c) n
-  component_there c n None e k some = let zero_count = counted (λ (p : Part). length p.modes) m.components c None e in absurd (omega (arith, k, some, zero_count))
+  component_there : (c n : ℕ) (o : Option Component) → slice_get m.components c ≡ o → slice_index (mode_counts m) c ≡ n → 0 < n → IsThere (subjects.Component c) n
+  component_there c n None e k some = let zero_count = counted (λ (p : Component). length p.modes) m.components c None e in absurd (omega (arith, k, some, zero_count))
   component_there c n (Some x) e k some =
-      let named = named_at (λ (p : Part). p.name) m.components c x e in
-      let same : name_of m (Component c) ≡ x.name = ap (λ o. option_map_or (λ (p : Part). p.name) o []) e in
-      let modes : choices_of m (Component c) ≡ x.modes = ap (λ o. option_map_or (λ (p : Part). p.modes) o []) e in
+      let named = named_at (λ (p : Component). p.name) m.components c x e in
+      let same : name_of m (subjects.Component c) ≡ x.name = ap (λ o. option_map_or (λ (p : Component). p.name) o []) e in
+      let modes : choices_of m (subjects.Component c) ≡ x.modes = ap (λ o. option_map_or (λ (p : Component). p.modes) o []) e in
       record {
         name = rw same (member_at (λ name. IsTrue (is_name name)) component_names c x.name (all_left (λ name. IsTrue (is_name name)) component_names variable_names h.names.each) named);
         subject = ap (subject_of m) same ∙ component_found c x e;
         choices = subst AreChoices (sym modes) (member_at IsComponent m.components c x h.components e).modes;
-        count = ap length modes ∙ sym (counted (λ (p : Part). length p.modes) m.components c (Some x) e) ∙ k;
+        count = ap length modes ∙ sym (counted (λ (p : Component). length p.modes) m.components c (Some x) e) ∙ k;
       }
 
-  variable_there : (v n : ℕ) (o : Option Quantity) → slice_get m.variables v ≡ o → slice_index (value_counts m) v ≡ n → 0 < n → IsThere (Variable v) n
-  variable_there v n None e k some = let zero_count = counted (λ (q : Quantity). length q.values) m.variables v None e in absurd (omega (arith, k, some, zero_count))
+  variable_there : (v n : ℕ) (o : Option Variable) → slice_get m.variables v ≡ o → slice_index (value_counts m) v ≡ n → 0 < n → IsThere (subjects.Variable v) n
+  variable_there v n None e k some = let zero_count = counted (λ (q : Variable). length q.values) m.variables v None e in absurd (omega (arith, k, some, zero_count))
   variable_there v n (Some x) e k some =
-      let named = named_at (λ (q : Quantity). q.name) m.variables v x e in
-      let same : name_of m (Variable v) ≡ x.name = ap (λ o. option_map_or (λ (q : Quantity). q.name) o []) e in
-      let values : choices_of m (Variable v) ≡ x.values = ap (λ o. option_map_or (λ (q : Quantity). q.values) o []) e in
+      let named = named_at (λ (q : Variable). q.name) m.variables v x e in
+      let same : name_of m (subjects.Variable v) ≡ x.name = ap (λ o. option_map_or (λ (q : Variable). q.name) o []) e in
+      let values : choices_of m (subjects.Variable v) ≡ x.values = ap (λ o. option_map_or (λ (q : Variable). q.values) o []) e in
       record {
         name = rw same (member_at (λ name. IsTrue (is_name name)) variable_names v x.name (all_right (λ name. IsTrue (is_name name)) component_names variable_names h.names.each) named);
         subject = ap (subject_of m) same ∙ variable_found v x e;
-        choices = subst AreChoices (sym values) (member_at (λ (q : Quantity). AreChoices q.values) m.variables v x h.variables e);
-        count = ap length values ∙ sym (counted (λ (q : Quantity). length q.values) m.variables v (Some x) e) ∙ k;
+        choices = subst AreChoices (sym values) (member_at (λ (q : Variable). AreChoices q.values) m.variables v x h.variables e);
+        count = ap length values ∙ sym (counted (λ (q : Variable). length q.values) m.variables v (Some x) e) ∙ k;
       }
 
   pub there : (s : Subject) → 0 < subject_value s (mode_counts m) (value_counts m) → IsThere s (subject_value s (mode_counts m) (value_counts m))
-  there (Component c) some = component_there c _ (slice_get m.components c) refl refl some
-  there (Variable v) some = variable_there v _ (slice_get m.variables v) refl refl some
+  there (subjects.Component c) some = component_there c _ (slice_get m.components c) refl refl some
+  there (subjects.Variable v) some = variable_there v _ (slice_get m.variables v) refl refl some
 
 -- ---- sets of names
 
@@ -165,7 +158,7 @@ one_bit a b h k e = grind (arith, nat_tests)
 same_set : (a b : ℕ) → ((i : ℕ) → has a i ≡ has b i) → a ≡ b
 same_set a b h = same_from_bits a b (λ i. one_bit (bit_at a i) (bit_at b i) (bit_at-lt a i) (bit_at-lt b i) (h i))
 
-module _ (m : Automata) (s : Subject) (set : ℕ) where
+module _ (m : PlantModel) (s : Subject) (set : ℕ) where
   -- each of the names is found at its place, counted from here
   abbrev ArePlaced : ℕ → List (List ℕ) → Type 0
   ArePlaced k [] = Unit {0}
@@ -247,7 +240,7 @@ within_only set n i h = elim (cases_lt i n) [
 ]
 
 -- a set of a formula that fits is read from its names
-pub atom_read : (m : Automata) → HasNames m → (s : Subject) (set : ℕ) → is_choice_of (subject_value s (mode_counts m) (value_counts m)) set ≡ true → IsAtom m s set (names_in 0 (choices_of m s) set)
+pub atom_read : (m : PlantModel) → HasNames m → (s : Subject) (set : ℕ) → is_choice_of (subject_value s (mode_counts m) (value_counts m)) set ≡ true → IsAtom m s set (names_in 0 (choices_of m s) set)
 atom_read m h s set fit =
     let n = subject_value s (mode_counts m) (value_counts m) in
     let some = choice_some n set fit in

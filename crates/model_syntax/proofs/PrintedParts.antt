@@ -9,15 +9,15 @@ use Rattle.cca_base.specs.declared.formula.Formula.TheOpen.{Formula-F}
 use Rattle.cca_base.specs.declared.formula.Formula.TheFolds.{fold-Formula}
 use Rattle.cca_base.specs.declared.formula.Subject.{Subject}
 use Rattle.cca_base.specs.declared.limits.TheConstants.{MAX_NAME}
-use Rattle.cca_base.specs.Automata.{Automata}
+use Rattle.cca_base.specs.PlantModel.{PlantModel}
 use Rattle.cca_base.specs.Names.{is_name, is_word, is_reserved}
 use Rattle.cca_base.specs.Formula.{Printed, part_depth, printed_step}
 use Rattle.text_base.specs.Tokens.{is_of_kind}
 use Rattle.text_base.specs.Lexemes.{Lexeme, word, symbol, comma}
-use Rattle.model_syntax.specs.Grammar.{Factor, Conjunction, Disjunction, Whole, Not, Parens, Single, Case, Plain, factor_spelled, conjunction_spelled, disjunction_spelled, whole_spelled}
+use Rattle.formula_syntax.specs.Grammar.{Factor, Conjunction, Disjunction, Whole, Not, Parens, Single, Case, Plain, factor_spelled, conjunction_spelled, disjunction_spelled, whole_spelled}
 use Rattle.model_syntax.specs.Items.{names_spelled}
-use Rattle.model_syntax.specs.Lookups.{subject_of, value_of}
-use Rattle.model_syntax.specs.Meanings.{Comparison, is_unknown, has_twice, with_numbers, factor_depth, conjunction_depth, disjunction_depth, whole_depth, factor_comparisons, conjunction_comparisons, disjunction_comparisons, whole_comparisons, factor_formula, conjunction_formula, disjunction_formula, whole_formula}
+use Rattle.formula_syntax.specs.Lookups.{subject_of, value_of}
+use Rattle.formula_syntax.specs.Meanings.{Comparison, is_unknown, has_twice, with_numbers, factor_depth, conjunction_depth, disjunction_depth, whole_depth, factor_comparisons, conjunction_comparisons, disjunction_comparisons, whole_comparisons, factor_formula, conjunction_formula, disjunction_formula, whole_formula}
 use Rattle.model_syntax.specs.Printing.{Said, part_said, plainly, name_of}
 use Rattle.model_syntax.specs.RoundTrip.{AreOfTheirKinds}
 
@@ -51,7 +51,7 @@ pub names_kinds : (v : List ℕ) (names : List (List ℕ)) → list_all is_name 
 names_kinds v [] h = word_kind v [] (and_parts (is_name v) true h).0 refl
 names_kinds v (n ∷ ns) h = let p = and_parts (is_name v) (list_all is_name (n ∷ ns)) h in word_kind v (comma ∷ names_spelled n ns) p.0 (names_kinds n ns p.1)
 
-module _ (m : Automata) where
+module _ (m : PlantModel) where
   -- the words of a set are these names, and are read as the set
   pub record IsAtom (s : Subject) (set : ℕ) (names : List (List ℕ)) : Type 0 where
     pub some : 0 < set
@@ -114,7 +114,7 @@ module _ (m : Automata) where
 
   -- a text as a part of another, in parentheses where they are needed
   tight_part : (n : ℕ) (tokens denied : List Lexeme) (f : Formula) (d : ℕ) → AtLevel n tokens f d
-      → FactorText (part_said 0 (record { loose = n; tokens = tokens; denied = denied })) f (part_depth 0 (record { loose = n; depth = d }))
+      → FactorText (part_said 0 (record { precedence = n; tokens = tokens; denied = denied })) f (part_depth 0 (record { precedence = n; depth = d }))
   tight_part zero tokens denied f d x = x
   tight_part (suc zero) tokens denied f d x = enclosed tokens f d (whole_at 1 tokens f d x)
   tight_part (suc (suc zero)) tokens denied f d x = enclosed tokens f d (whole_at 2 tokens f d x)
@@ -122,7 +122,7 @@ module _ (m : Automata) where
   tight_part (suc (suc (suc (suc n)))) tokens denied f d x = absurd x
 
   case_part : (n : ℕ) (tokens denied : List Lexeme) (f : Formula) (d : ℕ) → AtLevel n tokens f d
-      → ConjunctionText (part_said 1 (record { loose = n; tokens = tokens; denied = denied })) f (part_depth 1 (record { loose = n; depth = d }))
+      → ConjunctionText (part_said 1 (record { precedence = n; tokens = tokens; denied = denied })) f (part_depth 1 (record { precedence = n; depth = d }))
   case_part zero tokens denied f d x = (Single x.0, x.1)
   case_part (suc zero) tokens denied f d x = x
   case_part (suc (suc zero)) tokens denied f d x = let y = enclosed tokens f d (whole_at 2 tokens f d x) in (Single y.0, y.1)
@@ -130,7 +130,7 @@ module _ (m : Automata) where
   case_part (suc (suc (suc (suc n)))) tokens denied f d x = absurd x
 
   side_part : (n : ℕ) (tokens denied : List Lexeme) (f : Formula) (d : ℕ) → AtLevel n tokens f d
-      → DisjunctionText (part_said 2 (record { loose = n; tokens = tokens; denied = denied })) f (part_depth 2 (record { loose = n; depth = d }))
+      → DisjunctionText (part_said 2 (record { precedence = n; tokens = tokens; denied = denied })) f (part_depth 2 (record { precedence = n; depth = d }))
   side_part zero tokens denied f d x = (Case (Single x.0), x.1)
   side_part (suc zero) tokens denied f d x = (Case x.0, x.1)
   side_part (suc (suc zero)) tokens denied f d x = x
@@ -139,22 +139,22 @@ module _ (m : Automata) where
 
   -- what is said of a formula is its text, and so is what denies it
   pub record IsPrintedAs (s : Said) (p : Printed) (f : Formula) : Type 0 where
-    pub loose : s.loose ≡ p.loose
-    pub text : AtLevel s.loose s.tokens f p.depth
+    pub precedence : s.precedence ≡ p.precedence
+    pub text : AtLevel s.precedence s.tokens f p.depth
     pub denial : FactorText s.denied (roll-Formula (Formula-F.Not f)) (1 + part_depth 0 p)
 
   module _ (s : Said) (p : Printed) (f : Formula) (h : IsPrintedAs s p f) where
-    same_depth : (allowed : ℕ) → part_depth allowed (record { loose = s.loose; depth = p.depth }) ≡ part_depth allowed p
-    same_depth allowed = ap (λ n. part_depth allowed (record { loose = n; depth = p.depth })) h.loose
+    same_depth : (allowed : ℕ) → part_depth allowed (record { precedence = s.precedence; depth = p.depth }) ≡ part_depth allowed p
+    same_depth allowed = ap (λ n. part_depth allowed (record { precedence = n; depth = p.depth })) h.precedence
 
     pub tight : FactorText (part_said 0 s) f (part_depth 0 p)
-    tight = subst (FactorText (part_said 0 s) f) (same_depth 0) (tight_part s.loose s.tokens s.denied f p.depth h.text)
+    tight = subst (FactorText (part_said 0 s) f) (same_depth 0) (tight_part s.precedence s.tokens s.denied f p.depth h.text)
 
     pub in_case : ConjunctionText (part_said 1 s) f (part_depth 1 p)
-    in_case = subst (ConjunctionText (part_said 1 s) f) (same_depth 1) (case_part s.loose s.tokens s.denied f p.depth h.text)
+    in_case = subst (ConjunctionText (part_said 1 s) f) (same_depth 1) (case_part s.precedence s.tokens s.denied f p.depth h.text)
 
     pub in_side : DisjunctionText (part_said 2 s) f (part_depth 2 p)
-    in_side = subst (DisjunctionText (part_said 2 s) f) (same_depth 2) (side_part s.loose s.tokens s.denied f p.depth h.text)
+    in_side = subst (DisjunctionText (part_said 2 s) f) (same_depth 2) (side_part s.precedence s.tokens s.denied f p.depth h.text)
 
   negated : (tokens : List Lexeme) (f : Formula) (d : ℕ) → FactorText tokens f d → FactorText (word (codes "not") ∷ tokens) (roll-Formula (Formula-F.Not f)) (1 + d)
   negated tokens f d x = (
@@ -170,9 +170,9 @@ module _ (m : Automata) where
   )
 
   -- what is denied by the word `not`
-  pub by_not : (n : ℕ) (tokens : List Lexeme) (f : Formula) (d : ℕ) → AtLevel n tokens f d → IsPrintedAs (plainly n tokens) (record { loose = n; depth = d }) f
+  pub by_not : (n : ℕ) (tokens : List Lexeme) (f : Formula) (d : ℕ) → AtLevel n tokens f d → IsPrintedAs (plainly n tokens) (record { precedence = n; depth = d }) f
   by_not n tokens f d x = record {
-    loose = refl;
+    precedence = refl;
     text = x;
-    denial = negated _ f (part_depth 0 (record { loose = n; depth = d })) (tight_part n tokens [] f d x);
+    denial = negated _ f (part_depth 0 (record { precedence = n; depth = d })) (tight_part n tokens [] f d x);
   }

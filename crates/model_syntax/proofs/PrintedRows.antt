@@ -6,18 +6,18 @@ use Rattle.std.proofs.lemmas.List.{append-nil}
 use Rattle.std.proofs.lemmas.List.Folds.{list_any-append}
 use Rattle.cca_base.specs.declared.formula.Formula.{Formula, roll-Formula}
 use Rattle.cca_base.specs.declared.formula.Formula.TheOpen.{Formula-F}
-use Rattle.cca_base.specs.Automata.{Automata}
+use Rattle.cca_base.specs.PlantModel.{PlantModel}
 use Rattle.cca_base.specs.Formula.{part_depth, deepest}
 use Rattle.text_base.specs.Tokens.{is_of_kind}
 use Rattle.text_base.specs.Lexemes.{Lexeme, word}
-use Rattle.model_syntax.specs.Grammar.{Factor, Conjunction, Disjunction, Whole, Single, And, Case, Or, factor_spelled, conjunction_spelled, disjunction_spelled, whole_spelled}
-use Rattle.model_syntax.specs.Meanings.{Comparison, is_unknown, has_twice, factor_depth, deepest_factor, conjunction_depth, deepest_case, disjunction_depth, whole_depth, factor_comparisons, conjunction_comparisons, disjunction_comparisons, whole_comparisons, factor_formula, conjuncts, conjunction_formula, disjuncts, disjunction_formula, whole_formula}
+use Rattle.formula_syntax.specs.Grammar.{Factor, Conjunction, Disjunction, Whole, Single, And, Case, Or, factor_spelled, conjunction_spelled, disjunction_spelled, whole_spelled}
+use Rattle.formula_syntax.specs.Meanings.{Comparison, is_unknown, has_twice, factor_depth, deepest_factor, conjunction_depth, deepest_case, disjunction_depth, whole_depth, factor_comparisons, conjunction_comparisons, disjunction_comparisons, whole_comparisons, factor_formula, conjuncts, conjunction_formula, disjuncts, disjunction_formula, whole_formula}
 use Rattle.model_syntax.specs.Printing.{said, part_said, parts_said}
 use Rattle.model_syntax.specs.RoundTrip.{AreOfTheirKinds}
-use Rattle.model_syntax.proofs.PrintLemmas.{led, parts_said-led}
+use Rattle.model_syntax.proofs.PrintedTokens.{led, parts_said-led}
 use Rattle.model_syntax.proofs.PrintedParts.{printed, or_false, kinds_append, IsText, ConjunctionText, DisjunctionText, WholeText, IsPrintedAs, tight, in_case, in_side}
 
-module _ (m : Automata) where
+module _ (m : PlantModel) where
   abbrev pub Part : Type 0
   Part = (f : Formula) × IsPrintedAs m (said m f) (printed f) f
 

@@ -2,10 +2,10 @@
 use Rattle.std.proofs.Common.{◌≡◌, ℕ, Bool, false, ◌&&◌, if◌then◌else◌, List, [], ◌∷◌, ◌++◌, map, refl, ap, ◌∙◌, sym, append_assoc}
 use Rattle.std.proofs.lemmas.List.{append-nil}
 use Rattle.text_base.specs.Lexemes.{Lexeme}
-use Rattle.cca_base.specs.Automata.{Automata}
+use Rattle.cca_base.specs.PlantModel.{PlantModel}
 use Rattle.model_syntax.specs.Printing.{is_plain, joined, header_said, component_said, variable_said, rule_said, move_said, failure_said, lines_said, printed_lines, printed_model}
 use Rattle.model_syntax.specs.Drafts.{Draft, blank, with_token, with_tokens, with_end, with_lines}
-use Rattle.model_syntax.proofs.PrintLemmas.{with_lines-append}
+use Rattle.model_syntax.proofs.PrintedTokens.{with_lines-append}
 
 -- the text of tokens behind one that is a word or a number, or is none
 abbrev pub joined_behind : Bool → List Lexeme → List ℕ
@@ -39,7 +39,7 @@ made_behind : (s t u : Draft) (ls ms : List (List Lexeme)) → t ≡ with_lines 
 made_behind s t u ls ms e f = f ∙ ap (λ x. with_lines x ms) e ∙ sym (with_lines-append s ls ms)
 
 -- the lines of a model, made one kind after the other, are the printed model
-pub printed_model-made : (m : Automata) (a b c d e f : Draft) → a ≡ with_lines blank (header_said ∷ []) → b ≡ with_lines a (map component_said m.components)
+pub printed_model-made : (m : PlantModel) (a b c d e f : Draft) → a ≡ with_lines blank (header_said ∷ []) → b ≡ with_lines a (map component_said m.components)
     → c ≡ with_lines b (map variable_said m.variables) → d ≡ with_lines c (map (rule_said m) m.rules) → e ≡ with_lines d (map (move_said m) m.moves) → f ≡ with_lines e (map (failure_said m) m.failures)
     → f.text ≡ printed_model m
 unfolding printed_model

@@ -3,27 +3,27 @@ use Rattle.std.proofs.Common.{◌≡◌, ℕ, ◌+◌, ◌<◌, ◌≤◌, Bool,
 use Rattle.cca_base.specs.declared.formula.Formula.{Formula}
 use Rattle.cca_base.specs.declared.formula.Formula.TheOpen.{Formula-F}
 use Rattle.cca_base.specs.declared.formula.Formula.TheFolds.{fold-Formula, fold-roll-Formula, ind-Formula, map-Formula}
-use Rattle.cca_base.specs.Automata.{Automata}
+use Rattle.cca_base.specs.PlantModel.{PlantModel}
 use Rattle.text_base.specs.Lexemes.{Lexeme, word, symbol}
-use Rattle.model_syntax.specs.Grammar.{NameWord, values_spelled}
+use Rattle.formula_syntax.specs.Grammar.{NameWord, values_spelled}
 use Rattle.model_syntax.specs.Items.{names_spelled}
-use Rattle.model_syntax.specs.Lookups.{choices_of}
-use Rattle.model_syntax.specs.Meanings.{words}
+use Rattle.formula_syntax.specs.Lookups.{choices_of}
+use Rattle.formula_syntax.specs.Meanings.{words}
 use Rattle.model_syntax.specs.Printing.{Said, part_said, parts_said, plainly, names_in, name_of, among_said, said_step}
 use Rattle.model_syntax.proofs.Widths.{blank, blank_few, blank_left, width, NoLonger, same_tokens}
 use Rattle.model_syntax.proofs.SetWidths.{tally}
 
 -- ---- what is denied
 
-abbrev pub said : Automata → Formula → Said
+abbrev pub said : PlantModel → Formula → Said
 said m f = fold-Formula Said (said_step m) f
 
 -- what denies a formula is no longer than `not` before it
 abbrev pub DeniesShortly : Said → Type 0
 DeniesShortly s = NoLonger s.denied (word (codes "not") ∷ part_said 0 s)
 
-plainly_denied : (loose : ℕ) (tokens : List Lexeme) → DeniesShortly (plainly loose tokens)
-plainly_denied loose tokens = same_tokens (plainly loose tokens).denied (word (codes "not") ∷ part_said 0 (plainly loose tokens)) refl
+plainly_denied : (precedence : ℕ) (tokens : List Lexeme) → DeniesShortly (plainly precedence tokens)
+plainly_denied precedence tokens = same_tokens (plainly precedence tokens).denied (word (codes "not") ∷ part_said 0 (plainly precedence tokens)) refl
 
 one_denied : (name value : List ℕ) → DeniesShortly (among_said name (value ∷ []))
 one_denied name value l r = omega arith
@@ -33,7 +33,7 @@ among_denied name [] = plainly_denied 0 (among_said name []).tokens
 among_denied name (value ∷ []) = one_denied name value
 among_denied name (value ∷ next ∷ values) = plainly_denied 0 (among_said name (value ∷ next ∷ values)).tokens
 
-step_denied : (m : Automata) (x : Formula-F Said) → DeniesShortly (said_step m x)
+step_denied : (m : PlantModel) (x : Formula-F Said) → DeniesShortly (said_step m x)
 step_denied m Formula-F.True = plainly_denied 0 (word (codes "true") ∷ [])
 step_denied m Formula-F.False = plainly_denied 0 (word (codes "false") ∷ [])
 step_denied m (Formula-F.Among s set) = among_denied (name_of m s) (names_in 0 (choices_of m s) set)
@@ -43,7 +43,7 @@ step_denied m (Formula-F.Any parts) = plainly_denied 2 (parts_said 1 (word (code
 step_denied m (Formula-F.Implies a b) = plainly_denied 3 (part_said 2 a ++ word (codes "implies") ∷ part_said 2 b)
 step_denied m (Formula-F.Iff a b) = plainly_denied 3 (part_said 2 a ++ word (codes "iff") ∷ part_said 2 b)
 
-pub formula_denied : (m : Automata) (f : Formula) → DeniesShortly (said m f)
+pub formula_denied : (m : PlantModel) (f : Formula) → DeniesShortly (said m f)
 formula_denied m = ind-Formula (λ f. DeniesShortly (said m f)) (λ x y is.
     subst DeniesShortly (sym (fold-roll-Formula Said (said_step m) x)) (step_denied m (map-Formula Formula Said (said m) x)))
 
@@ -52,7 +52,7 @@ formula_denied m = ind-Formula (λ f. DeniesShortly (said m f)) (λ x y is.
 abbrev close : List Lexeme
 close = symbol (codes "}") ∷ []
 
-pub names_width : (name : List ℕ) (names : List (List ℕ)) (r : Bool) → width false (names_spelled name names ++ close) r ≡ tally (name ∷ names)
+names_width : (name : List ℕ) (names : List (List ℕ)) (r : Bool) → width false (names_spelled name names ++ close) r ≡ tally (name ∷ names)
 names_width name [] r = omega (arith, blank_left r)
 names_width name (next ∷ names) r = omega (arith, names_width next names r)
 

@@ -5,11 +5,11 @@ use Rattle.std.proofs.lemmas.Bool.{eqb-true}
 use Rattle.std.proofs.lemmas.List.Quantifiers.{position-Some}
 use Rattle.std.proofs.lemmas.Slice.Eq.{bytes_eq-Decides}
 use Rattle.cca_base.specs.declared.formula.Subject.{Subject}
-use Rattle.cca_base.specs.Automata.{Automata}
+use Rattle.cca_base.specs.PlantModel.{PlantModel}
 use Rattle.cca_base.specs.Sets.{has, with_number}
-use Rattle.cca_base.proofs.SetLemmas.{has-with_number, has-empty}
-use Rattle.model_syntax.specs.Lookups.{choices_of, value_of}
-use Rattle.model_syntax.specs.Meanings.{with_found, with_numbers}
+use Rattle.cca_base.proofs.SetLaws.{has-with_number, has-empty}
+use Rattle.formula_syntax.specs.Lookups.{choices_of, value_of}
+use Rattle.formula_syntax.specs.Meanings.{with_found, with_numbers}
 use Rattle.model_syntax.specs.Printing.{names_in}
 
 -- how long names are, each with a comma
@@ -72,7 +72,7 @@ only_name (name ∷ names) j (suc i) h =
 
 -- ---- sets that are read
 
-module _ (m : Automata) (s : Subject) where
+module _ (m : PlantModel) (s : Subject) where
   abbrev choices : List (List ℕ)
   choices = choices_of m s
 

@@ -1,25 +1,25 @@
 -- A line that is read adds no line that is longer than itself.
 use Rattle.std.proofs.Common.{◌≡◌, ℕ, inl, inr, Bool, true, false, List, [], ◌∷◌, map, Option, Some, None, Result, Ok, Err, refl, sym, ap, subst}
-use Rattle.cca_base.specs.Automata.{Automata}
+use Rattle.cca_base.specs.PlantModel.{PlantModel}
 use Rattle.cca_base.specs.Model.{WellFormed}
 use Rattle.text_base.specs.Lexemes.{Lexeme, lexeme}
 use Rattle.text_base.specs.Tokens.{Tok, tokens_of}
 use Rattle.model_syntax.specs.Items.{Item, Header, Component, Variable, Rule, Move, Failure, Script, item_of}
-use Rattle.model_syntax.specs.Lines.{Next, Goes, Refused, Ended, IsNextOfForm, Reading, Reads, outcome, opening, LeadsByForm, LeadsByTokens}
+use Rattle.model_syntax.specs.Lines.{Next, Goes, Refused, Ended, IsNextOfForm, ModelSoFar, Reads, outcome, opening, LeadsByForm, LeadsByTokens}
 use Rattle.model_syntax.specs.Printing.{lines_said}
 use Rattle.model_syntax.specs.Shorter.{AddsNoLonger, LinesAreNoLonger}
 use Rattle.model_syntax.proofs.LineWidths.{line_width}
 use Rattle.model_syntax.proofs.ItemWidths.{HasRoom, form_adds}
 
-reads_is : (s t : Reading) → Reads s ≡ Reads t → s.model ≡ t.model
-reads_is s t e = let f : s ≡ t = cc in ap (λ (r : Reading). r.model) f
+reads_is : (s t : ModelSoFar) → Reads s ≡ Reads t → s.model ≡ t.model
+reads_is s t e = let f : s ≡ t = cc in ap (λ (r : ModelSoFar). r.model) f
 
 -- a line that leaves the model as it is
-unchanged : (m n : Automata) (text : List ℕ) → m ≡ n → AddsNoLonger m n text
+unchanged : (m n : PlantModel) (text : List ℕ) → m ≡ n → AddsNoLonger m n text
 unchanged m n text e = inl (ap lines_said (sym e))
 
 -- the first line with tokens
-opened : (s t : Reading) (text : List ℕ) (form : Option Item) → Reads t ≡ opening s.model form → AddsNoLonger s.model t.model text
+opened : (s t : ModelSoFar) (text : List ℕ) (form : Option Item) → Reads t ≡ opening s.model form → AddsNoLonger s.model t.model text
 opened s t text None e = absurd cc
 opened s t text (Some Header) e = unchanged s.model t.model text (sym (reads_is t (record { model = s.model; begun = true }) e))
 opened s t text (Some (Component name modes start)) e = absurd cc
@@ -30,18 +30,18 @@ opened s t text (Some (Failure ends cost)) e = absurd cc
 opened s t text (Some Script) e = absurd cc
 
 -- the lines behind it
-went : (s t : Reading) (text : List ℕ) (ls : List Lexeme) (next : Next) → WellFormed s.model → HasRoom text ls → IsNextOfForm s.model (item_of ls) next → Reads t ≡ outcome next → AddsNoLonger s.model t.model text
+went : (s t : ModelSoFar) (text : List ℕ) (ls : List Lexeme) (next : Next) → WellFormed s.model → HasRoom text ls → IsNextOfForm s.model (item_of ls) next → Reads t ≡ outcome next → AddsNoLonger s.model t.model text
 went s t text ls (Goes n) w room h e =
-    subst (λ (x : Automata). AddsNoLonger s.model x text) (sym (reads_is t (record { model = n; begun = true }) e)) (inr (form_adds s.model w text n ls (item_of ls) refl room h))
+    subst (λ (x : PlantModel). AddsNoLonger s.model x text) (sym (reads_is t (record { model = n; begun = true }) e)) (inr (form_adds s.model w text n ls (item_of ls) refl room h))
 went s t text ls (Refused code) w room h e = absurd cc
 went s t text ls Ended w room h e = absurd cc
 
-by_form : (s t : Reading) (text : List ℕ) (ls : List Lexeme) (begun : Bool) → WellFormed s.model → HasRoom text ls → LeadsByForm begun s.model (item_of ls) (Reads t) → AddsNoLonger s.model t.model text
+by_form : (s t : ModelSoFar) (text : List ℕ) (ls : List Lexeme) (begun : Bool) → WellFormed s.model → HasRoom text ls → LeadsByForm begun s.model (item_of ls) (Reads t) → AddsNoLonger s.model t.model text
 by_form s t text ls true w room h = went s t text ls h.0 w room h.1 h.2
 by_form s t text ls false w room h = opened s t text (item_of ls) h
 
 -- all lines
-by_tokens : (s t : Reading) (text : List ℕ) (read : Result (List Tok) ℕ) → tokens_of text ≡ read → WellFormed s.model → LeadsByTokens s read (Reads t) → AddsNoLonger s.model t.model text
+by_tokens : (s t : ModelSoFar) (text : List ℕ) (read : Result (List Tok) ℕ) → tokens_of text ≡ read → WellFormed s.model → LeadsByTokens s read (Reads t) → AddsNoLonger s.model t.model text
 by_tokens s t text (Err at) r w h = absurd cc
 by_tokens s t text (Ok []) r w h = unchanged s.model t.model text (sym (reads_is t s h))
 by_tokens s t text (Ok (x ∷ xs)) r w h = by_form s t text (map lexeme (x ∷ xs)) s.begun w (line_width text (x ∷ xs) r) h

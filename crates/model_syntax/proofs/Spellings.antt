@@ -1,7 +1,7 @@
 -- The spelling of a text, and what stands behind it.
 use Rattle.std.proofs.Common.{◌≡◌, List, [], ◌∷◌, ◌++◌, codes, refl, sym, ap, ◌∙◌}
 use Rattle.text_base.specs.Lexemes.{Lexeme, word, symbol}
-use Rattle.model_syntax.specs.Grammar.{NameWord, name_word, Factor, Conjunction, Disjunction, Whole, True, False, Equal, Differs, In, Not, Parens, Single, And, Case, Or, Plain, Implies, Iff, values_spelled, factor_spelled, conjunction_spelled, disjunction_spelled, whole_spelled}
+use Rattle.formula_syntax.specs.Grammar.{NameWord, name_word, Factor, Conjunction, Disjunction, Whole, True, False, Equal, Differs, In, Not, Parens, Single, And, Case, Or, Plain, Implies, Iff, values_spelled, factor_spelled, conjunction_spelled, disjunction_spelled, whole_spelled}
 
 values_apart : (vs : List NameWord) (rest : List Lexeme) → values_spelled vs rest ≡ values_spelled vs [] ++ rest
 values_apart [] rest = refl

@@ -2,27 +2,27 @@
 use Rattle.std.proofs.Common.{◌≡◌, ℕ, ◌<◌, true, false, not, List, [], ◌∷◌, ◌++◌, length, map, codes, Option, Some, None, refl, sym, ap, ◌∙◌, arith}
 use Rattle.std.specs.Prelude.{is_some}
 use Rattle.std.proofs.lemmas.List.{map_push, length-map}
+use Rattle.std.proofs.lemmas.Bool.{or_parts, not-false}
 use Rattle.cca_base.specs.declared.formula.Formula.{Formula, roll-Formula}
 use Rattle.cca_base.specs.declared.formula.Formula.TheOpen.{Formula-F}
 use Rattle.cca_base.specs.declared.formula.Formula.TheFolds.{fold-roll-Formula, map-Formula}
 use Rattle.cca_base.specs.declared.formula.Subject.{Subject}
-use Rattle.cca_base.specs.Automata.{Automata}
+use Rattle.cca_base.specs.PlantModel.{PlantModel}
 use Rattle.text_base.specs.Lexemes.{Lexeme, word, symbol}
-use Rattle.model_syntax.specs.Grammar.{NameWord, Factor, Conjunction, Disjunction, Whole, True, False, Equal, Differs, In, Not, Parens, Single, And, Case, Or, Plain, Implies, Iff, factor_spelled, conjunction_spelled, disjunction_spelled, whole_spelled}
-use Rattle.model_syntax.specs.Lookups.{subject_of, value_of, choices_of}
-use Rattle.model_syntax.specs.Meanings.{words, lacks_value, with_numbers, has_among, is_among, factor_comparisons, conjunction_comparisons, disjunction_comparisons, whole_comparisons, factor_formula, conjuncts, conjunction_formula, disjuncts, disjunction_formula, whole_formula}
+use Rattle.formula_syntax.specs.Grammar.{NameWord, Factor, Conjunction, Disjunction, Whole, True, False, Equal, Differs, In, Not, Parens, Single, And, Case, Or, Plain, Implies, Iff, factor_spelled, conjunction_spelled, disjunction_spelled, whole_spelled}
+use Rattle.formula_syntax.specs.Lookups.{subject_of, value_of, choices_of}
+use Rattle.formula_syntax.specs.Meanings.{words, lacks_value, with_numbers, has_among, is_among, factor_comparisons, conjunction_comparisons, disjunction_comparisons, whole_comparisons, factor_formula, conjuncts, conjunction_formula, disjuncts, disjunction_formula, whole_formula}
 use Rattle.model_syntax.specs.Printing.{Said, part_said, parts_said, names_in, name_of, among_said, said_step, formula_said}
-use Rattle.model_syntax.proofs.AdditionLemmas.{or_parts, not_parts}
 use Rattle.model_syntax.proofs.Widths.{NoLonger, same_tokens, through, behind, both_sides, part_enclosed, part_bare, part_raised}
 use Rattle.model_syntax.proofs.SetWidths.{tally, set_tally, one_text}
 use Rattle.model_syntax.proofs.SaidWidths.{said, formula_denied, values_width, among_width}
 use Rattle.model_syntax.proofs.SubjectNames.{subject_name}
 use Rattle.model_syntax.proofs.Spellings.{append_twice, conjunction_apart, disjunction_apart, whole_apart}
-use Rattle.model_syntax.proofs.TextFormulas.{Known, known_both, known_one, some_conjuncts, some_disjuncts}
+use Rattle.formula_syntax.proofs.TextFormulas.{Known, known_both, known_one, some_conjuncts, some_disjuncts}
 
 -- ---- atoms
 
-module _ (m : Automata) where
+module _ (m : PlantModel) where
   -- the printed form of an atom
   abbrev atom_said : Subject → List (List ℕ) → Said
   atom_said s texts = among_said (name_of m s) (names_in 0 (choices_of m s) (with_numbers m s 0 texts))
@@ -34,7 +34,7 @@ module _ (m : Automata) where
   equal_from : (name text : List ℕ) (o : Option Subject) → subject_of m name ≡ o → lacks_value m o (text ∷ []) ≡ false → said m (has_among m o (text ∷ [])) ≡ among_said name (text ∷ [])
   equal_from name text None e h = absurd cc
   equal_from name text (Some s) e h =
-      let found = not_parts (is_some (value_of m s text)) (or_parts (not (is_some (value_of m s text))) false h).0 in
+      let found = not-false (is_some (value_of m s text)) (or_parts (not (is_some (value_of m s text))) false h).0 in
       among_is s (text ∷ []) ∙ ap (λ (x : List ℕ). among_said x (names_in 0 (choices_of m s) (with_numbers m s 0 (text ∷ [])))) (subject_name m name s e)
       ∙ ap (among_said name) (value_named (value_of m s text) refl found)
     where

@@ -51,7 +51,7 @@ joined_width (l ∷ m ∷ ls) =
 
 -- ---- parts
 
-pub width_append : (a : List Lexeme) (x : Lexeme) (b : List Lexeme) (l r : Bool) → width l (a ++ x ∷ b) r ≡ width l a (is_plain x) + (length x.1 + width (is_plain x) b r)
+width_append : (a : List Lexeme) (x : Lexeme) (b : List Lexeme) (l r : Bool) → width l (a ++ x ∷ b) r ≡ width l a (is_plain x) + (length x.1 + width (is_plain x) b r)
 width_append [] x b l r = refl
 width_append (y ∷ a) x b l r = omega (arith, width_append a x b (is_plain y) r)
 
@@ -88,10 +88,10 @@ both_sides x a b c d h g l r = omega (arith, width_append a x c l r, width_appen
 abbrev pub enclosed : List Lexeme → List Lexeme
 enclosed a = symbol (codes "(") ∷ a ++ symbol (codes ")") ∷ []
 
-pub bare : (a : List Lexeme) → NoLonger a (enclosed a)
+bare : (a : List Lexeme) → NoLonger a (enclosed a)
 bare a l r = omega (arith, width_append a (symbol (codes ")")) [] false r, width_left a l r, width_right a false r, blank_right l, blank_left r)
 
-pub enclosed_both : (a b : List Lexeme) → NoLonger a b → NoLonger (enclosed a) (enclosed b)
+enclosed_both : (a b : List Lexeme) → NoLonger a b → NoLonger (enclosed a) (enclosed b)
 enclosed_both a b h = behind (symbol (codes "(")) (a ++ symbol (codes ")") ∷ []) (b ++ symbol (codes ")") ∷ []) (both_sides (symbol (codes ")")) a b [] [] h (λ l r. omega arith))
 
 -- in parentheses or not
@@ -104,10 +104,10 @@ choice_bare true a = same_tokens a a refl
 choice_bare false a = bare a
 
 pub part_enclosed : (allowed : ℕ) (s : Said) (b : List Lexeme) → NoLonger s.tokens b → NoLonger (part_said allowed s) (enclosed b)
-part_enclosed allowed s b h = by_choice (nat_le s.loose allowed) s.tokens b h
+part_enclosed allowed s b h = by_choice (nat_le s.precedence allowed) s.tokens b h
 
 pub part_bare : (allowed : ℕ) (s : Said) → NoLonger s.tokens (part_said allowed s)
-part_bare allowed s = choice_bare (nat_le s.loose allowed) s.tokens
+part_bare allowed s = choice_bare (nat_le s.precedence allowed) s.tokens
 
 -- a part that may be looser has no more parentheses
 raised : (x y : Bool) (a : List Lexeme) → (x ≡ true → y ≡ true) → NoLonger (cond y a (enclosed a)) (cond x a (enclosed a))
@@ -118,4 +118,4 @@ raised false false a h = same_tokens (enclosed a) (enclosed a) refl
 
 pub part_raised : (a b : ℕ) (s : Said) → a ≤ b → NoLonger (part_said b s) (part_said a s)
 part_raised a b s h =
-    raised (nat_le s.loose a) (nat_le s.loose b) s.tokens (λ e. le-leb s.loose b (omega (arith, leb-true s.loose a e)))
+    raised (nat_le s.precedence a) (nat_le s.precedence b) s.tokens (λ e. le-leb s.precedence b (omega (arith, leb-true s.precedence a e)))

@@ -3,20 +3,20 @@ use Rattle.std.specs.Prelude.{ℕ, Bool, ◌||◌, ◌&&◌, ◌==◌, not, if�
 use Rattle.std.specs.List.{list_any}
 use Rattle.cca_base.specs.declared.formula.Formula.{Formula}
 use Rattle.cca_base.specs.declared.formula.Subject.{Subject}
-use Rattle.cca_base.specs.declared.formula.Subject.TheVariants.{Component, Variable}
-use Rattle.cca_base.specs.declared.model.Component.{Component as Part}
-use Rattle.cca_base.specs.declared.model.Variable.{Variable as Quantity}
+use Rattle.cca_base.specs.declared.formula.Subject.TheVariants as subjects
+use Rattle.cca_base.specs.declared.model.Component.{Component}
+use Rattle.cca_base.specs.declared.model.Variable.{Variable}
 use Rattle.cca_base.specs.declared.model.Move.{Move}
 use Rattle.cca_base.specs.declared.model.Failure.{Failure}
-use Rattle.cca_base.specs.declared.limits.TheConstants.{MAX_NAME, MAX_COMPONENTS, MAX_CHOICES, MAX_VARIABLES, MAX_RULES, MAX_MOVES, MAX_FAILURES, MAX_DEPTH, MAX_COST}
-use Rattle.cca_base.specs.Automata.{Automata}
+use Rattle.cca_base.specs.declared.limits.TheConstants.{MAX_NAME, MAX_COMPONENTS, MAX_CHOICES, MAX_VARIABLES, MAX_RULES, MAX_MOVES, MAX_FAILURES, MAX_COST}
+use Rattle.cca_base.specs.PlantModel.{PlantModel}
 use Rattle.cca_base.specs.Model.{is_broken, with_command}
-use Rattle.model_syntax.specs.declared.codes.TheConstants.{NAME_UNKNOWN, NAME_REPEATED, LIMIT, AMBIGUOUS, INTO_BROKEN, UNMARKED_EXIT, TWO_MENDS}
-use Rattle.model_syntax.specs.Chain.{◌>>=◌}
-use Rattle.model_syntax.specs.Grammar.{Whole}
+use Rattle.cca_base.specs.declared.codes.TheConstants.{NAME_UNKNOWN, NAME_REPEATED, LIMIT, AMBIGUOUS, INTO_BROKEN, UNMARKED_EXIT, TWO_MENDS}
+use Rattle.formula_syntax.specs.Chain.{◌>>=◌}
+use Rattle.formula_syntax.specs.Grammar.{Whole}
 use Rattle.model_syntax.specs.Items.{Ends}
-use Rattle.model_syntax.specs.Lookups.{place_of, subject_of, value_of}
-use Rattle.model_syntax.specs.Meanings.{is_unknown, has_twice, whole_depth, whole_comparisons, whole_formula}
+use Rattle.formula_syntax.specs.Lookups.{place_of, subject_of, value_of}
+use Rattle.formula_syntax.specs.Meanings.{has_twice, names_unknown, lists_twice, is_deep, whole_formula}
 
 -- of codes in rising order, each with whether it applies, the first that applies
 abbrev pub least : List (ℕ × Bool) → Option ℕ
@@ -30,7 +30,7 @@ abbrev pub is_long : List ℕ → Bool
 is_long text = nat_lt MAX_NAME (length text)
 
 -- a component or a variable has the name
-abbrev pub is_taken : Automata → List ℕ → Bool
+abbrev pub is_taken : PlantModel → List ℕ → Bool
 is_taken m name = is_some (subject_of m name)
 
 -- the number of the start mode; a word that is too long is none of the modes
@@ -40,24 +40,12 @@ start_mode modes start = if is_long start then None else place_of modes start
 -- the number of a component
 abbrev pub as_component : Option Subject → Option ℕ
 as_component None = None
-as_component (Some (Component c)) = Some c
-as_component (Some (Variable v)) = None
+as_component (Some (subjects.Component c)) = Some c
+as_component (Some (subjects.Variable v)) = None
 
 -- a component and two of its modes, by their numbers
-abbrev pub ends_of : Automata → Ends → Option (ℕ × ℕ × ℕ)
-ends_of m ends = as_component (subject_of m ends.name) >>= λ c. value_of m (Component c) ends.source >>= λ a. value_of m (Component c) ends.target >>= λ b. Some (c, a, b)
-
--- some name of the text is not declared
-abbrev pub names_unknown : Automata → Whole → Bool
-names_unknown m text = list_any (is_unknown m) (whole_comparisons text)
-
--- some list of the text has a name twice
-abbrev pub lists_twice : Whole → Bool
-lists_twice text = list_any (λ c. has_twice c.values) (whole_comparisons text)
-
--- the text is too deep
-abbrev pub is_deep : Whole → Bool
-is_deep text = nat_lt MAX_DEPTH (whole_depth text)
+abbrev pub ends_of : PlantModel → Ends → Option (ℕ × ℕ × ℕ)
+ends_of m ends = as_component (subject_of m ends.name) >>= λ c. value_of m (subjects.Component c) ends.source >>= λ a. value_of m (subjects.Component c) ends.target >>= λ b. Some (c, a, b)
 
 -- ---- components, variables and rules
 
@@ -66,26 +54,26 @@ abbrev pub list_passes : List ℕ → List (List ℕ) → Bool
 list_passes name choices = is_long name || (list_any is_long choices || nat_lt MAX_CHOICES (length choices))
 
 -- the least code of a line that declares a component
-unfoldable pub component_code : Automata → List ℕ → List (List ℕ) → List ℕ → Option ℕ
+unfoldable pub component_code : PlantModel → List ℕ → List (List ℕ) → List ℕ → Option ℕ
 component_code m name modes start = least ((NAME_UNKNOWN, not (is_some (start_mode modes start)))
     ∷ (NAME_REPEATED, is_taken m name || has_twice modes)
     ∷ (LIMIT, list_passes name modes || nat_le MAX_COMPONENTS (length m.components)) ∷ [])
 
 -- the component that a line declares
-abbrev pub new_component : List ℕ → List (List ℕ) → List ℕ → Part
+abbrev pub new_component : List ℕ → List (List ℕ) → List ℕ → Component
 new_component name modes start = record { name = name; modes = modes; start = unwrap_or (start_mode modes start) 0 }
 
 -- the least code of a line that declares a variable
-unfoldable pub variable_code : Automata → List ℕ → List (List ℕ) → Option ℕ
+unfoldable pub variable_code : PlantModel → List ℕ → List (List ℕ) → Option ℕ
 variable_code m name values = least ((NAME_REPEATED, is_taken m name || has_twice values)
     ∷ (LIMIT, list_passes name values || nat_le MAX_VARIABLES (length m.variables)) ∷ [])
 
 -- the variable that a line declares
-abbrev pub new_variable : List ℕ → List (List ℕ) → Bool → Quantity
+abbrev pub new_variable : List ℕ → List (List ℕ) → Bool → Variable
 new_variable name values sensed = record { name = name; values = values; sensed = sensed }
 
 -- the least code of a line with a rule
-unfoldable pub rule_code : Automata → Whole → Option ℕ
+unfoldable pub rule_code : PlantModel → Whole → Option ℕ
 rule_code m text = least ((NAME_UNKNOWN, names_unknown m text)
     ∷ (NAME_REPEATED, lists_twice text)
     ∷ (LIMIT, is_deep text || nat_le MAX_RULES (length m.rules)) ∷ [])
@@ -93,11 +81,11 @@ rule_code m text = least ((NAME_UNKNOWN, names_unknown m text)
 -- ---- moves and failures
 
 -- the number of a command: that of its first use, or the next one
-abbrev pub command_number : Automata → List ℕ → ℕ
+abbrev pub command_number : PlantModel → List ℕ → ℕ
 command_number m command = unwrap_or (place_of m.commands command) (length m.commands)
 
 -- the move that a line declares
-abbrev pub new_move : Automata → Bool → ℕ × ℕ × ℕ → List ℕ → Formula → Move
+abbrev pub new_move : PlantModel → Bool → ℕ × ℕ × ℕ → List ℕ → Formula → Move
 new_move m repair ends command guard = record { component = ends.0; source = ends.1; target = ends.2; command = command_number m command; repair = repair; guard = guard }
 
 -- another move has the command, and is of another component or leaves the same mode
@@ -130,11 +118,11 @@ abbrev pub mends_twice : List Move → Move → Bool
 mends_twice moves x = x.repair && list_any (mends_elsewhere x.component x.source x.target) moves
 
 -- what may be wrong with a move between modes that are known
-abbrev pub move_faults : Automata → Move → List (ℕ × Bool)
+abbrev pub move_faults : PlantModel → Move → List (ℕ × Bool)
 move_faults m x = (AMBIGUOUS, is_ambiguous m.moves x) ∷ (INTO_BROKEN, is_into_broken m.moves x) ∷ (UNMARKED_EXIT, is_unmarked_exit m.moves x) ∷ (TWO_MENDS, mends_twice m.moves x) ∷ []
 
 -- the least code of a line with a move or a repair, whose ends may be unknown
-abbrev pub move_code_from : Automata → Bool → Option (ℕ × ℕ × ℕ) → List ℕ → Whole → Option ℕ
+abbrev pub move_code_from : PlantModel → Bool → Option (ℕ × ℕ × ℕ) → List ℕ → Whole → Option ℕ
 move_code_from m repair None command text = Some NAME_UNKNOWN
 move_code_from m repair (Some ends) command text = least ((NAME_UNKNOWN, names_unknown m text)
     ∷ (NAME_REPEATED, lists_twice text)
@@ -142,11 +130,11 @@ move_code_from m repair (Some ends) command text = least ((NAME_UNKNOWN, names_u
     ∷ move_faults m (new_move m repair ends command (whole_formula m text)))
 
 -- the same by the words of its ends
-unfoldable pub move_code : Automata → Bool → Ends → List ℕ → Whole → Option ℕ
+unfoldable pub move_code : PlantModel → Bool → Ends → List ℕ → Whole → Option ℕ
 move_code m repair ends command text = move_code_from m repair (ends_of m ends) command text
 
 -- the model with the command
-abbrev pub with_named : Automata → List ℕ → Automata
+abbrev pub with_named : PlantModel → List ℕ → PlantModel
 with_named m command = if is_some (place_of m.commands command) then m else with_command m command
 
 -- a cost of a failure
@@ -154,12 +142,12 @@ abbrev pub is_cost : ℕ → Bool
 is_cost cost = nat_lt 0 cost && nat_le cost MAX_COST
 
 -- the least code of a line with a failure; its ends may be unknown
-abbrev pub failure_code_from : Automata → Option (ℕ × ℕ × ℕ) → ℕ → Option ℕ
+abbrev pub failure_code_from : PlantModel → Option (ℕ × ℕ × ℕ) → ℕ → Option ℕ
 failure_code_from m None cost = Some NAME_UNKNOWN
 failure_code_from m (Some ends) cost = least ((LIMIT, not (is_cost cost) || nat_le MAX_FAILURES (length m.failures)) ∷ [])
 
 -- the same by the words of its ends
-unfoldable pub failure_code : Automata → Ends → ℕ → Option ℕ
+unfoldable pub failure_code : PlantModel → Ends → ℕ → Option ℕ
 failure_code m ends cost = failure_code_from m (ends_of m ends) cost
 
 -- the failure that a line declares

@@ -6,7 +6,7 @@ use Rattle.text_base.specs.Lexemes.{Lexeme, lexeme_of, same_kind, word, number, 
 use Rattle.model_syntax.specs.declared.item.Ends.{Ends as EndsOfCode}
 use Rattle.model_syntax.specs.declared.item.Item.{Item as ItemOfCode}
 use Rattle.model_syntax.specs.declared.item.Item.TheVariants as code
-use Rattle.model_syntax.specs.Chain.{◌>>=◌}
+use Rattle.formula_syntax.specs.Chain.{◌>>=◌}
 
 -- a component and two of its modes, by their words
 pub record Ends : Type 0 where

@@ -1,15 +1,9 @@
-pub mod Chain
 pub mod Codes
-pub mod Grammar
 pub mod Items
 pub mod Kept
 pub mod Lines
-pub mod Lookups
 pub mod ReadCodes
 pub mod Reader
-pub mod Readings
-pub mod Machine
-pub mod Meanings
 pub mod Printing
 pub mod Shorter
 pub mod RoundTrip

@@ -6,17 +6,17 @@ use Rattle.cca_base.specs.declared.formula.Formula.{Formula}
 use Rattle.cca_base.specs.declared.formula.Formula.TheOpen.{Formula-F}
 use Rattle.cca_base.specs.declared.formula.Formula.TheFolds.{fold-Formula}
 use Rattle.cca_base.specs.declared.formula.Subject.{Subject}
-use Rattle.cca_base.specs.declared.formula.Subject.TheVariants.{Component, Variable}
-use Rattle.cca_base.specs.declared.model.Component.{Component as Part}
-use Rattle.cca_base.specs.declared.model.Variable.{Variable as Quantity}
+use Rattle.cca_base.specs.declared.formula.Subject.TheVariants as subjects
+use Rattle.cca_base.specs.declared.model.Component.{Component}
+use Rattle.cca_base.specs.declared.model.Variable.{Variable}
 use Rattle.cca_base.specs.declared.model.Move.{Move}
 use Rattle.cca_base.specs.declared.model.Failure.{Failure}
-use Rattle.cca_base.specs.Automata.{Automata}
+use Rattle.cca_base.specs.PlantModel.{PlantModel}
 use Rattle.cca_base.specs.Sets.{has}
 use Rattle.text_base.specs.declared.token.Kind.TheVariants.{Symbol}
 use Rattle.text_base.specs.Lexemes.{Lexeme, same_kind, word, number, symbol}
 use Rattle.model_syntax.specs.Items.{list_spelled, sensed_spelled, move_word}
-use Rattle.model_syntax.specs.Lookups.{choices_of}
+use Rattle.formula_syntax.specs.Lookups.{choices_of}
 
 -- a word or a number
 abbrev pub is_plain : Lexeme → Bool
@@ -32,13 +32,13 @@ joined (l ∷ m ∷ ls) = l.1 ++ (if is_plain l && is_plain m then 32 ∷ [] els
 
 -- a formula's tokens: how loosely its outermost word binds (0 for none and `not`, 1 for `and`, 2 for `or`, 3 for the others), what it says, and what says that it is not so
 pub record Said : Type 0 where
-  pub loose : ℕ
+  pub precedence : ℕ
   pub tokens : List Lexeme
   pub denied : List Lexeme
 
 -- a part, in parentheses where it binds more loosely than is allowed
 abbrev pub part_said : ℕ → Said → List Lexeme
-part_said allowed part = if nat_le part.loose allowed then part.tokens else symbol (codes "(") ∷ part.tokens ++ symbol (codes ")") ∷ []
+part_said allowed part = if nat_le part.precedence allowed then part.tokens else symbol (codes "(") ∷ part.tokens ++ symbol (codes ")") ∷ []
 
 -- parts with a word between them
 abbrev pub parts_said : ℕ → Lexeme → List Said → List Lexeme
@@ -48,7 +48,7 @@ parts_said allowed between (part ∷ next ∷ parts) = part_said allowed part ++
 
 -- something that is denied by the word `not`
 abbrev pub plainly : ℕ → List Lexeme → Said
-plainly loose tokens = record { loose = loose; tokens = tokens; denied = word (codes "not") ∷ part_said 0 (record { loose = loose; tokens = tokens; denied = [] }) }
+plainly precedence tokens = record { precedence = precedence; tokens = tokens; denied = word (codes "not") ∷ part_said 0 (record { precedence = precedence; tokens = tokens; denied = [] }) }
 
 -- the names of a set's modes or values, in declared order
 abbrev pub names_in : ℕ → List (List ℕ) → ℕ → List (List ℕ)
@@ -56,18 +56,18 @@ names_in k [] set = []
 names_in k (name ∷ names) set = if has set k then name ∷ names_in (k + 1) names set else names_in (k + 1) names set
 
 -- the subject's name
-abbrev pub name_of : Automata → Subject → List ℕ
-name_of m (Component c) = option_map_or (λ x. x.name) (slice_get m.components c) []
-name_of m (Variable v) = option_map_or (λ x. x.name) (slice_get m.variables v) []
+abbrev pub name_of : PlantModel → Subject → List ℕ
+name_of m (subjects.Component c) = option_map_or (λ x. x.name) (slice_get m.components c) []
+name_of m (subjects.Variable v) = option_map_or (λ x. x.name) (slice_get m.variables v) []
 
 -- a subject and its values: one value with an equals sign, and else a list in braces; `!=` denies the first
 abbrev pub among_said : List ℕ → List (List ℕ) → Said
 among_said name [] = plainly 0 (word name ∷ word (codes "in") ∷ symbol (codes "{") ∷ symbol (codes "}") ∷ [])
-among_said name (value ∷ []) = record { loose = 0; tokens = word name ∷ symbol (codes "=") ∷ word value ∷ []; denied = word name ∷ symbol (codes "!=") ∷ word value ∷ [] }
+among_said name (value ∷ []) = record { precedence = 0; tokens = word name ∷ symbol (codes "=") ∷ word value ∷ []; denied = word name ∷ symbol (codes "!=") ∷ word value ∷ [] }
 among_said name (value ∷ next ∷ values) = plainly 0 (word name ∷ word (codes "in") ∷ symbol (codes "{") ∷ list_spelled (value ∷ next ∷ values) ++ symbol (codes "}") ∷ [])
 
 -- one layer of a formula, with each part's tokens in its place
-abbrev pub said_step : Automata → Formula-F Said → Said
+abbrev pub said_step : PlantModel → Formula-F Said → Said
 said_step m Formula-F.True = plainly 0 (word (codes "true") ∷ [])
 said_step m Formula-F.False = plainly 0 (word (codes "false") ∷ [])
 said_step m (Formula-F.Among subject set) = among_said (name_of m subject) (names_in 0 (choices_of m subject) set)
@@ -78,11 +78,11 @@ said_step m (Formula-F.Implies a b) = plainly 3 (part_said 2 a ++ word (codes "i
 said_step m (Formula-F.Iff a b) = plainly 3 (part_said 2 a ++ word (codes "iff") ∷ part_said 2 b)
 
 -- a formula's tokens, and how they bind
-abbrev pub said : Automata → Formula → Said
+abbrev pub said : PlantModel → Formula → Said
 said m = fold-Formula Said (said_step m)
 
 -- the tokens of a formula
-abbrev pub formula_said : Automata → Formula → List Lexeme
+abbrev pub formula_said : PlantModel → Formula → List Lexeme
 formula_said m f = (said m f).tokens
 
 -- the name at a place
@@ -94,29 +94,29 @@ name_at names k = option_map_or (λ name. name) (slice_get names k) []
 abbrev pub header_said : List Lexeme
 header_said = word (codes "titan") ∷ number (codes "1") ∷ []
 
-abbrev pub component_said : Part → List Lexeme
+abbrev pub component_said : Component → List Lexeme
 component_said c = word (codes "component") ∷ word c.name ∷ symbol (codes "=") ∷ list_spelled c.modes ++ word (codes "start") ∷ word (name_at c.modes c.start) ∷ []
 
-abbrev pub variable_said : Quantity → List Lexeme
+abbrev pub variable_said : Variable → List Lexeme
 variable_said v = word (codes "var") ∷ word v.name ∷ symbol (codes "=") ∷ list_spelled v.values ++ sensed_spelled v.sensed
 
-abbrev pub rule_said : Automata → Formula → List Lexeme
+abbrev pub rule_said : PlantModel → Formula → List Lexeme
 rule_said m f = word (codes "rule") ∷ formula_said m f
 
 -- a component and two of its modes, before the rest
-abbrev pub ends_said : Automata → ℕ → ℕ → ℕ → List Lexeme → List Lexeme
+abbrev pub ends_said : PlantModel → ℕ → ℕ → ℕ → List Lexeme → List Lexeme
 ends_said m c a b rest =
-    word (name_of m (Component c)) ∷ word (name_at (choices_of m (Component c)) a) ∷ symbol (codes "->") ∷ word (name_at (choices_of m (Component c)) b) ∷ rest
+    word (name_of m (subjects.Component c)) ∷ word (name_at (choices_of m (subjects.Component c)) a) ∷ symbol (codes "->") ∷ word (name_at (choices_of m (subjects.Component c)) b) ∷ rest
 
-abbrev pub move_said : Automata → Move → List Lexeme
+abbrev pub move_said : PlantModel → Move → List Lexeme
 move_said m x =
     word (move_word x.repair) ∷ ends_said m x.component x.source x.target (word (codes "by") ∷ word (name_at m.commands x.command) ∷ word (codes "when") ∷ formula_said m x.guard)
 
-abbrev pub failure_said : Automata → Failure → List Lexeme
+abbrev pub failure_said : PlantModel → Failure → List Lexeme
 failure_said m x = word (codes "fail") ∷ ends_said m x.component x.source x.target (word (codes "cost") ∷ number (decimal x.cost) ∷ [])
 
 -- the tokens of each line of the model, in order
-abbrev pub lines_said : Automata → List (List Lexeme)
+abbrev pub lines_said : PlantModel → List (List Lexeme)
 lines_said m =
     header_said ∷ map component_said m.components ++ map variable_said m.variables
     ++ map (rule_said m) m.rules ++ map (move_said m) m.moves ++ map (failure_said m) m.failures
@@ -127,5 +127,5 @@ printed_lines [] = []
 printed_lines (line ∷ lines) = joined line ++ 10 ∷ printed_lines lines
 
 -- the printed model
-unfoldable pub printed_model : Automata → List ℕ
+unfoldable pub printed_model : PlantModel → List ℕ
 printed_model m = printed_lines (lines_said m)

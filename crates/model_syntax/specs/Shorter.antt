@@ -1,13 +1,13 @@
 -- Printed lines are no longer than those that were read.
 use Rattle.std.specs.Prelude.{◌≡◌, ◌≤◌, ◌⊎◌, ℕ, true, false, List, ◌∷◌, ◌++◌, length}
-use Rattle.cca_base.specs.Automata.{Automata}
+use Rattle.cca_base.specs.PlantModel.{PlantModel}
 use Rattle.cca_base.specs.Model.{WellFormed}
 use Rattle.text_base.specs.Lexemes.{Lexeme}
-use Rattle.model_syntax.specs.Lines.{Reading, Reads, Leads}
+use Rattle.model_syntax.specs.Lines.{ModelSoFar, Reads, LineLeads}
 use Rattle.model_syntax.specs.Printing.{joined, header_said, lines_said}
 
 -- the lines of the second model are those of the first and one more, which is not longer than this text
-pub record AddsLine (old new : Automata) (text : List ℕ) : Type 0 where
+pub record AddsLine (old new : PlantModel) (text : List ℕ) : Type 0 where
   pub front : List (List Lexeme)
   pub back : List (List Lexeme)
   pub line : List Lexeme
@@ -16,13 +16,13 @@ pub record AddsLine (old new : Automata) (text : List ℕ) : Type 0 where
   pub no_longer : length (joined line) ≤ length text
 
 -- the lines of the second model are those of the first, or have one more, which is not longer than this text
-abbrev pub AddsNoLonger : Automata → Automata → List ℕ → Type 0
+abbrev pub AddsNoLonger : PlantModel → PlantModel → List ℕ → Type 0
 AddsNoLonger old new text = (lines_said new ≡ lines_said old) ⊎ AddsLine old new text
 
 -- a line that is read adds no line to the printed model, or one that is not longer than itself
 abbrev pub LinesAreNoLonger : Type 0
-LinesAreNoLonger = (s t : Reading) (text : List ℕ) → WellFormed s.model → Leads s text (Reads t) → AddsNoLonger s.model t.model text
+LinesAreNoLonger = (s t : ModelSoFar) (text : List ℕ) → WellFormed s.model → LineLeads s text (Reads t) → AddsNoLonger s.model t.model text
 
 -- the header's printed line is not longer than a line that begins a reading
 abbrev pub HeaderIsNoLonger : Type 0
-HeaderIsNoLonger = (s t : Reading) (text : List ℕ) → s.begun ≡ false → t.begun ≡ true → Leads s text (Reads t) → length (joined header_said) ≤ length text
+HeaderIsNoLonger = (s t : ModelSoFar) (text : List ℕ) → s.begun ≡ false → t.begun ≡ true → LineLeads s text (Reads t) → length (joined header_said) ≤ length text

@@ -1,9 +1,11 @@
+//! Components, variables and rules added to a model, where no code applies.
+
 ghost use Rattle.std.specs.Prelude.{◌≡◌, ◌∷◌, ◌<◌, ◌≤◌, None, Some, false, true, length, map, nat_eq, IfOk, OnOk, OnErr};
 ghost use Rattle.std.specs.List.{list_any, list_all};
 ghost use Rattle.std.specs.Cmp.Lexicographic.{pointwise};
 ghost use Rattle.indexmap.specs.IndexMap.{spare, Updates};
 ghost use Rattle.cca_base.specs.Model.{WellFormed, with_component, with_variable};
-ghost use Rattle.model_syntax.specs.Lookups.{NamesFit};
+ghost use Rattle.formula_syntax.specs.Lookups.{NamesFit};
 ghost use Rattle.model_syntax.specs.Lines.{is_bare_name};
 ghost use Rattle.model_syntax.specs.Codes.{is_long, component_code, new_component, variable_code, new_variable};
 

@@ -1,16 +1,18 @@
+//! What may be wrong with a declaration.
+
 ghost use Rattle.std.specs.Prelude.{◌≡◌, ◌<◌, ◌≤◌, length, map, position, IfSome};
 ghost use Rattle.std.specs.List.{list_any};
 ghost use Rattle.std.specs.Str.{bytes_eq};
 ghost use Rattle.cca_base.specs.Model.{HasMode};
-ghost use Rattle.model_syntax.specs.Lookups.{NamesFit, place_of};
-ghost use Rattle.model_syntax.specs.Meanings.{has_twice};
+ghost use Rattle.formula_syntax.specs.Lookups.{NamesFit, place_of};
+ghost use Rattle.formula_syntax.specs.Meanings.{has_twice};
 ghost use Rattle.model_syntax.specs.Items.{shown_ends};
 ghost use Rattle.model_syntax.specs.Codes.{is_long, is_taken, start_mode, list_passes, component_code, variable_code, ends_of};
 
-use crate::codes::{LIMIT, NAME_REPEATED, NAME_UNKNOWN};
 use crate::item::Ends;
-use crate::lookup::{subject_of, value_of};
+use cca_base::codes::{LIMIT, NAME_REPEATED, NAME_UNKNOWN};
 use cca_base::{MAX_CHOICES, MAX_COMPONENTS, MAX_NAME, MAX_VARIABLES, Model, Name, Subject};
+use formula_syntax::{subject_of, value_of};
 use indexmap::IndexMap;
 
 /// Whether the text is longer than a name may be.
@@ -65,7 +67,7 @@ fn place_of_word(words: &[&[u8]], text: &[u8]) -> Option<usize>
 }
 
 /// The number of the start mode among the words.
-#[tactic(auto, using(crate::proofs::PositionLemmas::position_map))]
+#[tactic(auto, using(crate::proofs::FirstPlaces::position_map))]
 pub fn start_mode(modes: &[&[u8]], start: &[u8]) -> Option<usize>
     ensures start { result ≡ start_mode (map (λ w. w.now) modes.now) start.now }
     ensures within { IfSome result (λ k. k < length modes.now) }
@@ -136,7 +138,7 @@ pub fn variable_code(
 }
 
 /// A component and two of its modes, by their numbers.
-#[tactic(auto, using(crate::proofs::EndLemmas::mode_of_component))]
+#[tactic(auto, using(formula_syntax::proofs::ModesByName::mode_of_component))]
 pub fn ends_of(model: &Model, names: &IndexMap<Name, Subject>, ends: Ends) -> Option<(u16, u8, u8)>
     requires fit { NamesFit names.now model.now }
     ensures ends { result ≡ ends_of model.now (shown_ends ends.entry) }

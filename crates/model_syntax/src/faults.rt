@@ -1,11 +1,13 @@
+//! What may be wrong with a move.
+
 ghost use Rattle.std.specs.Prelude.{◌≡◌, ◌∷◌, ◌++◌, [], ◌||◌, nat_le, length};
 ghost use Rattle.std.specs.List.{list_any};
 ghost use Rattle.cca_base.specs.Model.{WellFormed};
 ghost use Rattle.model_syntax.specs.Codes.{least, is_long, leads_to, leaves_unmarked, is_ambiguous, is_into_broken, is_unmarked_exit, mends_elsewhere, mends_twice, move_faults};
-ghost use Rattle.model_syntax.specs.declared.codes.TheConstants.{LIMIT as limit_code};
+ghost use Rattle.cca_base.specs.declared.codes.TheConstants.{LIMIT as limit_code};
 
 use crate::checks::is_long;
-use crate::codes::{AMBIGUOUS, INTO_BROKEN, LIMIT, TWO_MENDS, UNMARKED_EXIT};
+use cca_base::codes::{AMBIGUOUS, INTO_BROKEN, LIMIT, TWO_MENDS, UNMARKED_EXIT};
 use cca_base::{MAX_MOVES, Model, Move};
 
 /// Whether another move has the command, and is of another component or leaves the same mode.
@@ -17,23 +19,23 @@ fn is_ambiguous(moves: &[Move], x: &Move) -> bool
 }
 
 /// Whether a move leads to the mode.
-fn leads_to(moves: &[Move], c: u16, mode: u8) -> bool
-    ensures { result ≡ list_any (leads_to c mode) moves.now }
-{
-    moves.iter().any(|y| y.component == c && y.target == mode)
-}
-
-/// Whether an ordinary move leaves the mode.
-fn leaves_unmarked(moves: &[Move], c: u16, mode: u8) -> bool
-    ensures { result ≡ list_any (leaves_unmarked c mode) moves.now }
+fn leads_to(moves: &[Move], component: u16, mode: u8) -> bool
+    ensures { result ≡ list_any (leads_to component mode) moves.now }
 {
     moves
         .iter()
-        .any(|y| !y.repair && (y.component == c && y.source == mode))
+        .any(|y| y.component == component && y.target == mode)
+}
+
+/// Whether an ordinary move leaves the mode.
+fn leaves_unmarked(moves: &[Move], component: u16, mode: u8) -> bool
+    ensures { result ≡ list_any (leaves_unmarked component mode) moves.now }
+{
+    moves.iter().any(|y| !y.repair && (y.component == component && y.source == mode))
 }
 
 /// Whether the move leads to a broken mode, or repairs a mode to which a move leads.
-#[tactic(auto, using(crate::proofs::MoveLemmas::leads_to_push))]
+#[tactic(auto, using(crate::proofs::GrowthByMove::leads_to_push))]
 fn is_into_broken(model: &Model, x: &Move) -> bool
     ensures { result ≡ is_into_broken model.now.moves x.now }
 {
@@ -54,10 +56,11 @@ fn is_unmarked_exit(model: &Model, x: &Move) -> bool
 }
 
 /// Whether a repair of the mode leads to another mode than this.
-fn is_mended_elsewhere(moves: &[Move], c: u16, mode: u8, mended: u8) -> bool
-    ensures { result ≡ list_any (mends_elsewhere c mode mended) moves.now }
+fn is_mended_elsewhere(moves: &[Move], component: u16, mode: u8, mended: u8) -> bool
+    ensures { result ≡ list_any (mends_elsewhere component mode mended) moves.now }
 {
-    moves.iter().any(|y| y.repair && ((y.component == c && y.source == mode) && y.target != mended))
+    moves.iter().any(|y| y.repair
+        && ((y.component == component && y.source == mode) && y.target != mended))
 }
 
 /// Whether an earlier repair of the repair's source leads to another mode.

@@ -1,3 +1,5 @@
+//! What a line says, by words in place of names.
+
 ghost use Rattle.std.specs.Prelude.{◌≡◌, List, Some, map, IfOk};
 ghost use Rattle.std.specs.Option.{option_map};
 ghost use Rattle.text_base.specs.Lexemes.{Lexeme, lexeme_of};

@@ -1,15 +1,17 @@
+//! What a line that has a form makes of the model.
+
 ghost use Rattle.std.specs.Prelude.{◌≡◌, ◌≤◌, length};
 ghost use Rattle.cca_base.specs.Model.{IsComplete};
 ghost use Rattle.model_syntax.specs.Items.{shown_item};
-ghost use Rattle.model_syntax.specs.Lookups.{NamesFit, NumbersFit};
+ghost use Rattle.formula_syntax.specs.Lookups.{NamesFit};
+ghost use Rattle.model_syntax.specs.Reader.{NumbersFit};
 ghost use Rattle.model_syntax.specs.Lines.{AnswersItem, HasBareNames, IsNextOfItem};
 
-use crate::codes::MALFORMED;
 use crate::item::Item;
 use crate::line_end::LineEnd;
 use crate::lines::{component_line, failure_line, rule_line, variable_line};
 use crate::moves::move_line;
-use crate::refused::refused;
+use cca_base::codes::MALFORMED;
 use cca_base::{Model, Name, Stop, Subject};
 use indexmap::IndexMap;
 use std::alloc::Global;
@@ -34,7 +36,7 @@ pub fn item_line(
     ensures few { length model.new.commands ≤ length model.new.moves }
 {
     match item {
-        Item::Header => return Err(refused(MALFORMED)),
+        Item::Header => return Err(Stop::refused(MALFORMED)),
         Item::Component { name, modes, start } => component_line(
             alloc,
             model,

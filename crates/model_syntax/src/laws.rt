@@ -1,3 +1,5 @@
+//! What lines do, said of models: one outcome each, and a good model stays good.
+
 ghost use Rattle.model_syntax.specs.Kept.{LinesKeepModelsGood};
 ghost use Rattle.model_syntax.specs.Lines.{LeadOneWay};
 

@@ -1,3 +1,5 @@
+//! What follows a line of the model.
+
 /// Whether a line of a model goes on or ends it.
 #[derive(Clone, Copy, Debug, PartialEq, Eq)]
 pub enum LineEnd {

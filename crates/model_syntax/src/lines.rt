@@ -1,20 +1,20 @@
+//! What a line makes of the model, form by form.
+
 ghost use Rattle.std.specs.Prelude.{◌≡◌, ◌∷◌, ◌<◌, ◌||◌, true, not, length, map, nat_le};
 ghost use Rattle.std.specs.List.{list_all};
 ghost use Rattle.text_base.specs.Lexemes.{lexeme_of};
 ghost use Rattle.cca_base.specs.Model.{WellFormed};
-ghost use Rattle.model_syntax.specs.Lookups.{NamesFit};
+ghost use Rattle.formula_syntax.specs.Lookups.{NamesFit};
 ghost use Rattle.model_syntax.specs.Items.{shown_ends};
 ghost use Rattle.model_syntax.specs.Lines.{is_bare_name, AnswersModel, component_next, variable_next, rule_next, failure_next, IsNextOfText, IsNextOfNumber};
 ghost use Rattle.model_syntax.specs.Codes.{is_cost};
 
 use crate::additions::{add_component, add_variable};
 use crate::checks::{component_code, ends_of, variable_code};
-use crate::codes::{LIMIT, MALFORMED, NAME_UNKNOWN};
-use crate::formula::read_formula;
 use crate::item::Ends;
-use crate::reading::Reading;
-use crate::refused::refused;
+use cca_base::codes::{LIMIT, MALFORMED, NAME_UNKNOWN};
 use cca_base::{Failure, MAX_COST, MAX_FAILURES, MAX_RULES, Model, Name, Stop, Subject};
+use formula_syntax::{ReadPart, read_strictly};
 use indexmap::IndexMap;
 use std::alloc::Global;
 use text_base::{Token, read_number};
@@ -36,7 +36,7 @@ pub fn component_line(
     ensures moves { model.new.moves ≡ model.old.moves }
 {
     match component_code(model, names, name, modes, start) {
-        Some(code) => Err(refused(code)),
+        Some(code) => Err(Stop::refused(code)),
         None => {
             add_component(alloc, model, names, name, modes, start)?;
             Ok(())
@@ -62,7 +62,7 @@ pub fn variable_line(
     ensures moves { model.new.moves ≡ model.old.moves }
 {
     match variable_code(model, names, name, values) {
-        Some(code) => Err(refused(code)),
+        Some(code) => Err(Stop::refused(code)),
         None => {
             add_variable(alloc, model, names, name, values, sensed)?;
             Ok(())
@@ -83,12 +83,12 @@ pub fn rule_line(
     ensures commands { model.new.commands ≡ model.old.commands }
     ensures moves { model.new.moves ≡ model.old.moves }
 {
-    match read_formula(alloc, model, names, tokens)? {
-        None => Err(refused(MALFORMED)),
-        Some(Reading::Faulty(code)) => Err(refused(code)),
-        Some(Reading::Sound { formula, depth: _ }) => {
+    match read_strictly(alloc, model, names, tokens)? {
+        None => Err(Stop::refused(MALFORMED)),
+        Some(ReadPart::Faulty(code)) => Err(Stop::refused(code)),
+        Some(ReadPart::Sound { formula, depth: _ }) => {
             if has_full_rules(model) {
-                return Err(refused(LIMIT));
+                return Err(Stop::refused(LIMIT));
             }
             model.add_rule(formula)?;
             Ok(())
@@ -134,13 +134,13 @@ pub fn failure_line(
     ensures moves { model.new.moves ≡ model.old.moves }
 {
     let Some(cost) = read_number(cost) else {
-        return Err(refused(MALFORMED));
+        return Err(Stop::refused(MALFORMED));
     };
     let Some((component, source, target)) = ends_of(model, names, ends) else {
-        return Err(refused(NAME_UNKNOWN));
+        return Err(Stop::refused(NAME_UNKNOWN));
     };
     if failure_passes(model, cost) {
-        return Err(refused(LIMIT));
+        return Err(Stop::refused(LIMIT));
     }
     model.add_failure(Failure {
         component,

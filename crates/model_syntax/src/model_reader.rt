@@ -1,14 +1,15 @@
+//! The reader of a model, line by line.
+
 ghost use Rattle.std.specs.Prelude.{◌≡◌, false, IfOk};
 ghost use Rattle.cca_base.specs.Model.{IsComplete, empty_model};
 ghost use Rattle.std.specs.Prelude.{Ok, map};
 ghost use Rattle.std.specs.List.{AllByRecursion};
-ghost use Rattle.text_base.specs.Tokens.{IsOfItsKind, shown};
-ghost use Rattle.model_syntax.specs.Lines.{AnswersLine, Leads, LeadsByTokens};
+ghost use Rattle.text_base.specs.Tokens.{IsOfItsKind, token_view};
+ghost use Rattle.model_syntax.specs.Lines.{AnswersLine, LineLeads, LeadsByTokens};
 
-use crate::codes::MALFORMED;
 use crate::line_end::LineEnd;
-use crate::refused::refused;
 use crate::token_lines::tokens_line;
+use cca_base::codes::MALFORMED;
 use cca_base::{Model, Name, Stop, Subject};
 use indexmap::IndexMap;
 use std::alloc::{AllocError, Global};
@@ -25,12 +26,12 @@ pub struct ModelReader {
 }
 
 impl std::marker::Model for ModelReader {
-    ghost use Rattle.model_syntax.specs.Lines.{Reading as LinesReading};
+    ghost use Rattle.model_syntax.specs.Lines.{ModelSoFar};
     ghost use Rattle.model_syntax.specs.Reader.{IsRead};
     ghost use Rattle.cca_base.specs.contracts.formula.Formula as formula;
     ghost use Rattle.std.specs.Coded.{codes};
 
-    ghost Value = { LinesReading };
+    ghost Value = { ModelSoFar };
 
     ghost coded = { Prim.hlevel (codes, formula.the_row.coded) };
 
@@ -62,18 +63,18 @@ impl ModelReader {
 
     /// Reads one line, without its end. After a refusal or want of memory the reader is as before.
     pub fn line(&mut self, text: &[u8]) -> Result<LineEnd, Stop>
-        ensures { AnswersLine result self.old self.new (Leads self.old text.now) }
+        ensures { AnswersLine result self.old self.new (LineLeads self.old text.now) }
     {
         match tokens(self.alloc, text) {
             Ok(tokens) => self.tokens_line(tokens.as_slice()),
-            Err(TokenFault::Bad(_)) => Err(refused(MALFORMED)),
+            Err(TokenFault::Bad(_)) => Err(Stop::refused(MALFORMED)),
             Err(TokenFault::Memory) => Err(Stop::Memory),
         }
     }
 
     fn tokens_line(&mut self, tokens: &[Token]) -> Result<LineEnd, Stop>
-        requires { AllByRecursion IsOfItsKind (map shown tokens.now) }
-        ensures { AnswersLine result self.old self.new (LeadsByTokens self.old (Ok (map shown tokens.now))) }
+        requires { AllByRecursion IsOfItsKind (map token_view tokens.now) }
+        ensures { AnswersLine result self.old self.new (LeadsByTokens self.old (Ok (map token_view tokens.now))) }
     {
         tokens_line(
             self.alloc,

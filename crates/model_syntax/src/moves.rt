@@ -1,28 +1,29 @@
+//! Moves and repairs added to a model.
+
 ghost use Rattle.std.specs.Prelude.{◌≡◌, ◌||◌, ◌∷◌, ◌≤◌, ◌<◌, None, Some, true, length, map, nat_le, nat_eq, is_some, OnOk, OnErr};
 ghost use Rattle.std.specs.Cmp.Lexicographic.{pointwise};
 ghost use Rattle.indexmap.specs.IndexMap.{spare, Updates};
 ghost use Rattle.text_base.specs.Lexemes.{lexeme_of};
 ghost use Rattle.cca_base.specs.Model.{WellFormed, IsFormula, HasMode, IsComplete, with_command, with_move};
-ghost use Rattle.model_syntax.specs.declared.codes.TheConstants.{LIMIT as limit_code};
+ghost use Rattle.cca_base.specs.declared.codes.TheConstants.{LIMIT as limit_code};
 ghost use Rattle.model_syntax.specs.Items.{shown_ends};
-ghost use Rattle.model_syntax.specs.Lookups.{NamesFit, NumbersFit, place_of};
+ghost use Rattle.formula_syntax.specs.Lookups.{NamesFit, place_of};
+ghost use Rattle.model_syntax.specs.Reader.{NumbersFit};
 ghost use Rattle.model_syntax.specs.Codes.{least, is_long, move_faults, command_number, with_named};
 ghost use Rattle.model_syntax.specs.Lines.{is_bare_name, AnswersModel, IsNextOfText, move_next, taken_move};
 
 use crate::checks::ends_of;
-use crate::codes::{MALFORMED, NAME_UNKNOWN};
 use crate::faults::move_code;
-use crate::formula::read_formula;
 use crate::item::Ends;
-use crate::reading::Reading;
-use crate::refused::refused;
+use cca_base::codes::{MALFORMED, NAME_UNKNOWN};
 use cca_base::{MAX_MOVES, MAX_NAME, Model, Move, Name, Stop, Subject};
+use formula_syntax::{ReadPart, read_strictly};
 use indexmap::IndexMap;
 use std::alloc::{AllocError, Global};
 use text_base::Token;
 
 /// The number of a command that the model has.
-#[tactic(auto, using(crate::proofs::CommandLemmas::long_is_none))]
+#[tactic(auto, using(crate::proofs::UnknownCommands::long_is_none))]
 fn number_of(model: &Model, numbers: &IndexMap<Name, u16>, command: &[u8]) -> Option<u16>
     requires fit { NumbersFit numbers.now model.now.commands }
     ensures value { result ≡ place_of model.now.commands command.now }
@@ -154,7 +155,7 @@ fn take_move(
     ensures variables { model.new.variables ≡ model.old.variables }
 {
     match move_code(model, &x, command) {
-        Some(code) => Err(refused(code)),
+        Some(code) => Err(Stop::refused(code)),
         None => {
             add_declared(model, numbers, x, command)?;
             Ok(())
@@ -184,15 +185,15 @@ pub fn move_line(
     ensures complete { IsComplete model.new }
     ensures few { length model.new.commands ≤ length model.new.moves }
 {
-    let Some(reading) = read_formula(alloc, model, names, guard)? else {
-        return Err(refused(MALFORMED));
+    let Some(reading) = read_strictly(alloc, model, names, guard)? else {
+        return Err(Stop::refused(MALFORMED));
     };
     let Some((component, source, target)) = ends_of(model, names, ends) else {
-        return Err(refused(NAME_UNKNOWN));
+        return Err(Stop::refused(NAME_UNKNOWN));
     };
     match reading {
-        Reading::Faulty(code) => Err(refused(code)),
-        Reading::Sound { formula, depth: _ } => {
+        ReadPart::Faulty(code) => Err(Stop::refused(code)),
+        ReadPart::Sound { formula, depth: _ } => {
             let number = command_number(model, numbers, command);
             let x = Move {
                 component,

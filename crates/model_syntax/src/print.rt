@@ -1,3 +1,5 @@
+//! A model printed as text.
+
 ghost use Rattle.std.specs.Prelude.{◌≡◌, ◌∷◌, [], map, IfOk, OnOk};
 ghost use Rattle.model_syntax.specs.Items.{sensed_spelled};
 ghost use Rattle.model_syntax.specs.Printing.{printed_model, header_said, component_said, variable_said, rule_said, move_said, failure_said, ends_said};
@@ -18,7 +20,7 @@ fn header(out: &mut Printer) -> Result<(), AllocError>
     Ok(())
 }
 
-#[tactic(auto, using(crate::proofs::PrintLemmas::token_steps))]
+#[tactic(auto, using(crate::proofs::PrintedTokens::token_steps))]
 fn component(out: &mut Printer, x: &Component) -> Result<(), AllocError>
     ensures { OnOk result (out.new ≡ with_lines out.old (component_said x.now ∷ [])) }
 {
@@ -40,7 +42,7 @@ fn sensed(out: &mut Printer, sensed: bool) -> Result<(), AllocError>
     if sensed { out.word(b"sensed") } else { Ok(()) }
 }
 
-#[tactic(auto, using(crate::proofs::PrintLemmas::token_steps))]
+#[tactic(auto, using(crate::proofs::PrintedTokens::token_steps))]
 fn variable(out: &mut Printer, x: &Variable) -> Result<(), AllocError>
     ensures { OnOk result (out.new ≡ with_lines out.old (variable_said x.now ∷ [])) }
 {

@@ -1,8 +1,10 @@
+//! A formula printed with the fewest parentheses that its precedence asks for.
+
 ghost use Rattle.std.specs.Prelude.{◌≡◌, ◌∷◌, [], codes, OnOk, IfOk, MatchOption};
 ghost use Rattle.text_base.specs.Lexemes.{word, symbol};
-ghost use Rattle.cca_base.specs.Automata.{Automata};
+ghost use Rattle.cca_base.specs.PlantModel.{PlantModel};
 ghost use Rattle.model_syntax.specs.Printing.{among_said, part_said, said, formula_said, name_of, names_in};
-ghost use Rattle.model_syntax.specs.Lookups.{choices_of};
+ghost use Rattle.formula_syntax.specs.Lookups.{choices_of};
 ghost use Rattle.model_syntax.specs.Drafts.{with_tokens, word_before};
 
 use crate::print_names::{choices_of, list, name_of, names_in};
@@ -11,9 +13,9 @@ use cca_base::{Formula, Model, Name, Subject, ValueSet};
 use std::alloc::{AllocError, Global};
 
 /// How loosely the formula's outermost word binds.
-#[tactic(auto, using(crate::proofs::PrintLemmas::loose_steps))]
-fn loose(formula: &Formula) -> u8
-    ensures { (m : Automata) → result ≡ (said m formula.now).loose }
+#[tactic(auto, using(crate::proofs::PrintedTokens::precedence_steps))]
+fn precedence(formula: &Formula) -> u8
+    ensures { (m : PlantModel) → result ≡ (said m formula.now).precedence }
 {
     match formula {
         Formula::True => 0,
@@ -44,7 +46,7 @@ fn comparison(
 }
 
 /// Puts a subject and its values behind what is there.
-#[tactic(auto, using(crate::proofs::PrintLemmas::token_steps))]
+#[tactic(auto, using(crate::proofs::PrintedTokens::token_steps))]
 fn among(
     alloc: Global,
     out: &mut Printer,
@@ -89,10 +91,10 @@ fn single(
 }
 
 /// Puts the word between parts behind what is there, unless the first part comes next.
-fn between(out: &mut Printer, k: usize, text: &[u8]) -> Result<(), AllocError>
-    ensures { OnOk result (out.new ≡ with_tokens out.old (word_before k text.now)) }
+fn between(out: &mut Printer, place: usize, text: &[u8]) -> Result<(), AllocError>
+    ensures { OnOk result (out.new ≡ with_tokens out.old (word_before place text.now)) }
 {
-    if k == 0 { Ok(()) } else { out.word(text) }
+    if place == 0 { Ok(()) } else { out.word(text) }
 }
 
 /// Puts a part behind what is there, in parentheses where it binds more loosely than is allowed.
@@ -106,7 +108,7 @@ fn part(
 ) -> Result<(), AllocError>
     ensures { OnOk result (out.new ≡ with_tokens out.old (part_said allowed (said model.now part.now))) }
 {
-    if loose(part) <= allowed {
+    if precedence(part) <= allowed {
         formula(alloc, out, model, part)?;
         return Ok(());
     }

@@ -1,3 +1,5 @@
+//! What is printed of a model is read as that model.
+
 ghost use Rattle.model_syntax.specs.RoundTrip.{JoinedAreTokens, PrintedLinesAreWhole, PrintedReadsBack};
 
 /// Lexemes that are joined, as in a printed line, are read as they were.

@@ -1,6 +1,9 @@
+//! Names of a model printed.
+
 ghost use Rattle.std.specs.Prelude.{◌≡◌, ◌≤◌, length, OnOk, IfOk};
+ghost use Rattle.cca_base.specs.declared.limits.TheConstants.{MAX_CHOICES};
 ghost use Rattle.model_syntax.specs.Items.{list_spelled};
-ghost use Rattle.model_syntax.specs.Lookups.{choices_of};
+ghost use Rattle.formula_syntax.specs.Lookups.{choices_of};
 ghost use Rattle.model_syntax.specs.Printing.{name_of, name_at, names_in};
 ghost use Rattle.model_syntax.specs.Drafts.{with_token, with_tokens};
 
@@ -27,7 +30,7 @@ pub fn name_of(model: &Model, subject: Subject) -> &[u8]
 /// The names of the subject's modes or values.
 pub fn choices_of(model: &Model, subject: Subject) -> &[Name]
     ensures value { result.now ≡ choices_of model.now subject }
-    ensures few { length result.now ≤ 16 }
+    ensures few { length result.now ≤ MAX_CHOICES }
 {
     match subject {
         Subject::Component(c) => match model.components().as_slice().get(c as usize) {
@@ -53,7 +56,7 @@ pub fn name_at(names: &[Name], at: usize) -> &[u8]
 
 /// The names in the set, in their order.
 pub fn names_in(alloc: Global, names: &[Name], set: ValueSet) -> Result<Vec<Name>, AllocError>
-    requires few { length names.now ≤ 16 }
+    requires few { length names.now ≤ MAX_CHOICES }
     ensures { IfOk result (λ chosen. chosen.items ≡ names_in 0 names.now set) }
 {
     let mut chosen = Vec::new(alloc);
@@ -66,7 +69,7 @@ pub fn names_in(alloc: Global, names: &[Name], set: ValueSet) -> Result<Vec<Name
 }
 
 /// Puts the names behind what is there, with commas between them.
-#[tactic(auto, using(crate::proofs::PrintLemmas::list_steps))]
+#[tactic(auto, using(crate::proofs::PrintedTokens::list_steps))]
 pub fn list(out: &mut Printer, names: &[Name]) -> Result<(), AllocError>
     ensures { OnOk result (out.new ≡ with_tokens out.old (list_spelled names.now)) }
 {

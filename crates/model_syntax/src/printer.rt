@@ -1,3 +1,5 @@
+//! Tokens printed with a blank between two words.
+
 ghost use Rattle.std.specs.Prelude.{◌≡◌, OnOk};
 ghost use Rattle.text_base.specs.Lexemes.{word, number, symbol};
 ghost use Rattle.model_syntax.specs.Drafts.{blank, with_token, with_end};

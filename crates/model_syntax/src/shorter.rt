@@ -1,3 +1,5 @@
+//! No printed line is longer than the line that was read.
+
 ghost use Rattle.model_syntax.specs.Shorter.{HeaderIsNoLonger, LinesAreNoLonger};
 
 /// A line that is read adds no line to the printed model, or one that is not longer than itself; and the printed `titan 1` is

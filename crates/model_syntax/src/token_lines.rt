@@ -1,18 +1,20 @@
+//! What a line's tokens make of the model.
+
 ghost use Rattle.std.specs.Prelude.{◌≡◌, ◌≤◌, ◌∷◌, Some, Ok, length, map};
 ghost use Rattle.std.specs.List.{AllByRecursion};
-ghost use Rattle.cca_base.specs.Automata.{Automata};
+ghost use Rattle.cca_base.specs.PlantModel.{PlantModel};
 ghost use Rattle.cca_base.specs.Model.{IsComplete};
-ghost use Rattle.text_base.specs.Tokens.{IsOfItsKind, shown};
+ghost use Rattle.text_base.specs.Tokens.{IsOfItsKind, token_view};
 ghost use Rattle.text_base.specs.Lexemes.{lexeme_of};
 ghost use Rattle.model_syntax.specs.Items.{item_of, shown_item};
-ghost use Rattle.model_syntax.specs.Lookups.{NamesFit, NumbersFit};
+ghost use Rattle.formula_syntax.specs.Lookups.{NamesFit};
+ghost use Rattle.model_syntax.specs.Reader.{NumbersFit};
 ghost use Rattle.model_syntax.specs.Lines.{AnswersLine, HasBareNames, LeadsByForm, LeadsByTokens, opening};
 
-use crate::codes::MALFORMED;
 use crate::item::{Item, item_of};
 use crate::item_lines::item_line;
 use crate::line_end::LineEnd;
-use crate::refused::refused;
+use cca_base::codes::MALFORMED;
 use cca_base::{Model, Name, Stop, Subject};
 use indexmap::IndexMap;
 use std::alloc::Global;
@@ -20,19 +22,19 @@ use text_base::Token;
 
 /// The first line with tokens, by its item.
 fn opening_line(begun: &mut bool, item: Item) -> Result<LineEnd, Stop>
-    ensures { (m : Automata) → AnswersLine result (record { model = m; begun = begun.old }) (record { model = m; begun = begun.new }) (λ o. o ≡ opening m (Some (shown_item item.entry))) }
+    ensures { (m : PlantModel) → AnswersLine result (record { model = m; begun = begun.old }) (record { model = m; begun = begun.new }) (λ o. o ≡ opening m (Some (shown_item item.entry))) }
 {
     match item {
         Item::Header => {
             *begun = true;
             Ok(LineEnd::Going)
         }
-        _ => Err(refused(MALFORMED)),
+        _ => Err(Stop::refused(MALFORMED)),
     }
 }
 
 /// A line with tokens that has a form.
-#[tactic(auto, using(crate::proofs::LineLemmas::item_answers))]
+#[tactic(auto, using(crate::proofs::LineAnswers::item_answers))]
 fn form_line(
     alloc: Global,
     model: &mut Model,
@@ -72,8 +74,8 @@ pub fn tokens_line(
     requires fit { NumbersFit numbers.old model.old.commands }
     requires complete { IsComplete model.old }
     requires few { length model.old.commands ≤ length model.old.moves }
-    requires kinds { AllByRecursion IsOfItsKind (map shown tokens.now) }
-    ensures next { AnswersLine result (record { model = model.old; begun = begun.old }) (record { model = model.new; begun = begun.new }) (LeadsByTokens (record { model = model.old; begun = begun.old }) (Ok (map shown tokens.now))) }
+    requires kinds { AllByRecursion IsOfItsKind (map token_view tokens.now) }
+    ensures next { AnswersLine result (record { model = model.old; begun = begun.old }) (record { model = model.new; begun = begun.new }) (LeadsByTokens (record { model = model.old; begun = begun.old }) (Ok (map token_view tokens.now))) }
     ensures names { NamesFit names.new model.new }
     ensures fit { NumbersFit numbers.new model.new.commands }
     ensures complete { IsComplete model.new }
@@ -83,7 +85,7 @@ pub fn tokens_line(
         return Ok(LineEnd::Going);
     }
     match item_of(alloc, tokens)? {
-        None => Err(refused(MALFORMED)),
+        None => Err(Stop::refused(MALFORMED)),
         Some(item) => form_line(alloc, model, names, numbers, begun, item),
     }
 }

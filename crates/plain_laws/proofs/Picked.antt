@@ -4,11 +4,12 @@ use Rattle.std.specs.List.{list_any}
 use Rattle.std.proofs.lemmas.Bool.{cases_lt, both_ways, and_parts, and_from, or_cases, eq-eqb, eqb-true, not-true, not-false, false≢true}
 use Rattle.std.proofs.lemmas.List.Elements.{All-contains, Contains-append_left}
 use Rattle.std.proofs.lemmas.List.Folds.{Any-from_list_any}
+use Rattle.list_laws.proofs.Places.{value_at, get_at}
 use Rattle.cca_base.specs.declared.cube.Pair.{Pair}
 use Rattle.cca_base.specs.declared.model.Move.{Move}
 use Rattle.cca_base.specs.declared.events.Reply.TheVariants.{Send}
 use Rattle.cca_base.specs.declared.limits.TheConstants.{MAX_CHOICES}
-use Rattle.cca_base.specs.Automata.{Automata}
+use Rattle.cca_base.specs.PlantModel.{PlantModel}
 use Rattle.cca_base.specs.Model.{HasMode}
 use Rattle.cca_base.specs.Cube.{IsBeforeCube}
 use Rattle.cca_base.specs.State.{IsState}
@@ -18,10 +19,10 @@ use Rattle.cca_base.specs.Choice.{IsWithinReach, IsOpenAt, Walk, IsDistance, Com
 use Rattle.cca_base.specs.Trace.{command_of}
 use Rattle.cca_base.specs.Runs.{is_send}
 use Rattle.cca_base.proofs.Members.{all_from, some_inj, none_some, contains_here, contains_there}
+use Rattle.cca_base.proofs.StateLaws.{mode_in_state}
 use Rattle.plain_laws.specs.Planner.{leaves, leads_within, or_else, nearer_move, move_toward, is_reached, has_pair, reply_by, reply_among}
 use Rattle.plain_laws.specs.Plain.{IsPlain, plainly_compiled, RepliesAreChosen}
 use Rattle.plain_laws.proofs.Walks.{Split, find_split, split_contains, find_none, at_end, one_more, Toward, toward}
-use Rattle.plain_laws.proofs.PlainSteps.{mode_in_state, get_at, at_get}
 use Rattle.plain_laws.proofs.PlainCompiled.{nothing_is_prime, only_nothing}
 use Rattle.plain_laws.proofs.Reply.{replies_are_good}
 
@@ -47,7 +48,7 @@ or_else_split (Some z) y x h = inl h
 nothing_before : IsBeforeCube [] [] → ⊥
 nothing_before h = cc
 
-module _ (m : Automata) (plain : IsPlain m) (s : List ℕ) where
+module _ (m : PlantModel) (plain : IsPlain m) (s : List ℕ) where
   nothing_needed : IsWithinReach m s []
   nothing_needed = λ k d h. absurd (omega (arith, h))
 
@@ -216,7 +217,7 @@ module _ (m : Automata) (plain : IsPlain m) (s : List ℕ) where
             get_at s p.item p.value
             (within_goal p (subst (λ l. Contains l p) (sym missing_first.split) (Contains-append_left missing_first.before (q ∷ missing_first.after) p among)))
             (eqb-true (slice_index s p.item) p.value (not-false (has_pair s p) (All-contains (λ z. not (has_pair s z) ≡ false) missing_first.before p missing_first.fails among))));
-        missing = λ e. elsewhere (at_get s q.item q.value e);
+        missing = λ e. elsewhere (value_at s q.item q.value e);
       }
 
       sends : (o : Option Move) → move_toward m.moves q.item (slice_index s q.item) q.value ≡ o → (k : ℕ) → reply_by q o ≡ Send k → PicksForGoal (plainly_compiled m) s goal k

@@ -5,11 +5,12 @@ use Rattle.std.proofs.lemmas.Option.{slice_get-map, slice_get_within, get_or_fro
 use Rattle.std.proofs.lemmas.List.{get_or-map, length-map}
 use Rattle.std.proofs.lemmas.List.Elements.{All-contains}
 use Rattle.std.proofs.lemmas.List.Sums.{sum-map, sum_by-le}
+use Rattle.cca_base.specs.declared.limits.TheConstants.{MAX_CHOICES}
 use Rattle.cca_base.specs.declared.cube.Pair.{Pair}
 use Rattle.cca_base.specs.declared.model.Component.{Component}
 use Rattle.cca_base.specs.declared.model.Move.{Move}
 use Rattle.cca_base.specs.declared.formula.Formula.TheVariants.{True}
-use Rattle.cca_base.specs.Automata.{Automata}
+use Rattle.cca_base.specs.PlantModel.{PlantModel}
 use Rattle.cca_base.specs.Model.{WellFormed}
 use Rattle.cca_base.specs.State.{IsWorld, Follows}
 use Rattle.cca_base.specs.Implicants.{Suffices, PrimeImplicant, Needs, Path, source_pair}
@@ -18,14 +19,14 @@ use Rattle.cca_base.specs.Bounds.{IsBound, AreBounds}
 use Rattle.cca_base.specs.Accepted.{AreWays, HasFewWays, SumFits}
 use Rattle.cca_base.proofs.Members.{all_from, some_inj, contains_cases, contains_here, contains_none}
 use Rattle.cca_base.proofs.Pairwise.{AllPairs-head, AllPairs-tail}
-use Rattle.cca_base.proofs.RelationLemmas.{numbers_rise, takes_out}
+use Rattle.cca_base.proofs.PathLaws.{numbers_rise, takes_out}
 use Rattle.plain_laws.specs.Plain.{IsPlain, plainly_compiled, PlainIsCompiled}
 use Rattle.plain_laws.proofs.PlainSteps.{true_follows}
 
 -- ---- numbers in order
 
 -- where nothing needs anything, rising numbers are taken as they come
-takes_rising : (m : Automata) → ((c u : ℕ) → Needs m c u → ⊥) → (xs : List ℕ) → AllPairs (λ a b. a < b) xs → TakesEffectsFirst m xs xs
+takes_rising : (m : PlantModel) → ((c u : ℕ) → Needs m c u → ⊥) → (xs : List ℕ) → AllPairs (λ a b. a < b) xs → TakesEffectsFirst m xs xs
 takes_rising m none [] rising = refl
 takes_rising m none (c ∷ xs) rising =
     let above : All (λ x. c < x) xs = AllPairs-head (λ a b. a < b) c xs rising in (
@@ -38,7 +39,7 @@ takes_rising m none (c ∷ xs) rising =
       subst (λ l. TakesEffectsFirst m l xs) (takes_out c xs above) (takes_rising m none xs (AllPairs-tail (λ a b. a < b) c xs rising)),
     )
 
-no_path : (m : Automata) → ((c u : ℕ) → Needs m c u → ⊥) → (c : ℕ) (between : List ℕ) (u : ℕ) → Path m c between u → ⊥
+no_path : (m : PlantModel) → ((c u : ℕ) → Needs m c u → ⊥) → (c : ℕ) (between : List ℕ) (u : ℕ) → Path m c between u → ⊥
 no_path m none c [] u h = none c u h
 no_path m none c (d ∷ between) u h = none c d h.0
 
@@ -47,8 +48,8 @@ no_path m none c (d ∷ between) u h = none c d h.0
 abbrev no_component : Component
 no_component = record { name = []; modes = []; start = 0 }
 
-module _ (m : Automata) (plain : IsPlain m) where
-  only_world : (s : List ℕ) → IsWorld m s []
+module _ (m : PlantModel) (plain : IsPlain m) where
+  pub only_world : (s : List ℕ) → IsWorld m s []
   only_world s = record {
     full = sym (ap length plain.no_variables);
     values = λ v h. absurd (omega (arith, ap length plain.no_variables));
@@ -121,8 +122,8 @@ module _ (m : Automata) (plain : IsPlain m) where
   plain_sum : WellFormed m → SumFits (plainly_compiled m).bounds
   plain_sum w =
       let bound : Component → ℕ = λ x. length x.modes - 1 in
-      let small : All (λ x. bound x ≤ 15) m.components = λ k d h. (let few = (w.components k d h).modes.few in omega arith) in
-      let whole = sum_by-le bound 15 m.components small in
+      let small : All (λ x. bound x ≤ MAX_CHOICES - 1) m.components = λ k d h. (let few = (w.components k d h).modes.few in omega arith) in
+      let whole = sum_by-le bound (MAX_CHOICES - 1) m.components small in
       omega (arith, whole, w.limits.components, sum-map bound m.components)
 
 pub plain_is_compiled : PlainIsCompiled

@@ -1,21 +1,20 @@
 -- Steps, runs and plans of plain models, and the walks that they are made of.
-use Rattle.std.proofs.Common.{◌≡◌, ◌≢◌, ℕ, zero, suc, ◌<◌, inl, inr, Bool, true, false, ◌&&◌, ◌==◌, List, [], ◌∷◌, ◌++◌, length, slice_get, slice_index, slice_set, get_or, Some, All, Contains, refl, sym, ap, subst, ◌∙◌, arith, get_or-set_same, get_or-set_other, length-set}
+use Rattle.std.proofs.Common.{◌≡◌, ◌≢◌, ℕ, zero, suc, ◌<◌, inl, inr, Bool, true, false, ◌&&◌, ◌==◌, List, [], ◌∷◌, ◌++◌, length, slice_get, slice_index, slice_set, Some, All, Contains, refl, sym, ap, subst, ◌∙◌, arith, get_or-set_same, get_or-set_other, length-set}
 use Rattle.std.proofs.lemmas.Bool.{cases_eq, and_parts, both_ways}
-use Rattle.std.proofs.lemmas.Option.{slice_get_within, get_or_from_slice_get, slice_get-get_or}
-use Rattle.std.proofs.lemmas.List.{get_or_past, get_or-map, length-map}
+use Rattle.std.proofs.lemmas.Option.{slice_get_within}
 use Rattle.std.proofs.lemmas.List.Elements.{All-nil, All-cons, All-head, All-tail, All-contains}
+use Rattle.list_laws.proofs.Places.{value_at, get_at}
 use Rattle.cca_base.specs.declared.cube.Pair.{Pair}
-use Rattle.cca_base.specs.declared.model.Component.{Component}
 use Rattle.cca_base.specs.declared.model.Move.{Move}
 use Rattle.cca_base.specs.declared.formula.Formula as formula
 use Rattle.cca_base.specs.declared.formula.Formula.TheVariants.{True}
 use Rattle.cca_base.specs.declared.formula.Formula.TheOpen.{Formula-F}
 use Rattle.cca_base.specs.declared.formula.Formula.TheFolds.{fold-roll-Formula}
-use Rattle.cca_base.specs.Automata.{Automata}
+use Rattle.cca_base.specs.PlantModel.{PlantModel}
 use Rattle.cca_base.specs.Formula.{truth_step}
-use Rattle.cca_base.specs.Model.{WellFormed, HasMode, IsMended, RepairChain, is_broken, mode_counts}
+use Rattle.cca_base.specs.Model.{IsMended, RepairChain, is_broken}
 use Rattle.cca_base.specs.Cube.{IsCube}
-use Rattle.cca_base.specs.State.{IsState, Follows}
+use Rattle.cca_base.specs.State.{Follows}
 use Rattle.cca_base.specs.Repairs.{Mending}
 use Rattle.cca_base.specs.Steps.{Step, Run, Allowed, AllowedPlan, Reach, support}
 use Rattle.cca_base.proofs.Members.{all_from}
@@ -23,40 +22,7 @@ use Rattle.cca_base.proofs.Pairwise.{AllPairs-head, AllPairs-tail}
 use Rattle.plain_laws.specs.Plain.{IsPlain}
 use Rattle.plain_laws.proofs.Walks.{IsWalk, Walk, join, stay, go_on}
 
--- ---- modes
-
-place_in_range : (xs : List ℕ) (i n : ℕ) → n < get_or xs i 0 → i < length xs
-place_in_range xs i n h = grind (arith, get_or_past {X = ℕ})
-
-component_in_range : (m : Automata) (c mode : ℕ) → HasMode m c mode → c < length m.components
-component_in_range m c mode h =
-    let e = length-map m.components (λ (x : Component). length x.modes) in
-    let within = place_in_range (mode_counts m) c mode h in
-    omega arith
-
-pub mode_in_state : (m : Automata) (s : List ℕ) (c mode : ℕ) → IsState m s → HasMode m c mode → c < length s
-mode_in_state m s c mode is h = let within = component_in_range m c mode h in omega arith
-
-abbrev no_component : Component
-no_component = record { name = []; modes = []; start = 0 }
-
-mode_is_small : (m : Automata) (c mode : ℕ) → WellFormed m → HasMode m c mode → mode < 16
-mode_is_small m c mode w h =
-    let within = component_in_range m c mode h in
-    let few = (w.components c no_component within).modes.few in
-    let count = get_or-map (λ (x : Component). length x.modes) m.components c no_component 0 within in
-    omega arith
-
-pub sources_are_small : (m : Automata) → WellFormed m → All (λ x. x.source < 16) m.moves
-sources_are_small m w = λ k d h. mode_is_small m _ _ w (w.moves k d h).source
-
 -- ---- states
-
-pub at_get : (s : List ℕ) (c x : ℕ) → slice_get s c ≡ Some x → slice_index s c ≡ x
-at_get s c x h = get_or_from_slice_get s c x 0 h
-
-pub get_at : (s : List ℕ) (c x : ℕ) → c < length s → slice_index s c ≡ x → slice_get s c ≡ Some x
-get_at s c x h e = slice_get-get_or s c 0 h ∙ ap Some e
 
 -- only component c has another mode, and that is b
 pub record Moved (s t : List ℕ) (c b : ℕ) : Type 0 where
@@ -77,7 +43,7 @@ moved_then s t u c a b p q = record { full = q.full ∙ p.full; here = q.here; o
 unmoved : (s : List ℕ) (c b : ℕ) → slice_index s c ≡ b → Moved s s c b
 unmoved s c b e = record { full = refl; here = e; others = λ d ne. refl }
 
-back_again : (m : Automata) (s t : List ℕ) (c : ℕ) → Moved s t c (slice_index s c) → Mending m s t
+back_again : (m : PlantModel) (s t : List ℕ) (c : ℕ) → Moved s t c (slice_index s c) → Mending m s t
 back_again m s t c h = record {
   full = h.full;
   each = λ d within. inl (elim (cases_eq d c) [
@@ -88,26 +54,22 @@ back_again m s t c h = record {
 
 -- ---- formulas
 
-pub true_follows : (m : Automata) (pairs : List Pair) → Follows m pairs True
+pub true_follows : (m : PlantModel) (pairs : List Pair) → Follows m pairs True
 unfolding formula.roll-Formula denote.Hole.Carrier.roll
 true_follows m pairs = λ s is extends world good. fold-roll-Formula Bool (truth_step s world) Formula-F.True
 
 -- ---- steps
 
-pub step_length : (m : Automata) (s t : List ℕ) (k : ℕ) → Step m s k t → length t ≡ length s
+step_length : (m : PlantModel) (s t : List ℕ) (k : ℕ) → Step m s k t → length t ≡ length s
 step_length m s t k step = ap length step.gives ∙ length-set s step.move.component step.move.target
 
-pub plan_length : (m : Automata) (ks s t : List ℕ) → AllowedPlan m s ks t → length t ≡ length s
-plan_length m [] s t plan = ap length plan
-plan_length m (k ∷ ks) s t plan = plan_length m ks plan.0 t plan.2 ∙ step_length m s plan.0 k plan.1.step
-
-step_walk : (m : Automata) (s t : List ℕ) (k c : ℕ) → Step m s k t → Walk m.moves c (slice_index s c) (slice_index t c)
+step_walk : (m : PlantModel) (s t : List ℕ) (k c : ℕ) → Step m s k t → Walk m.moves c (slice_index s c) (slice_index t c)
 step_walk m s t k c step =
     let x : Move = step.move in
     let within : x.component < length s = slice_get_within s x.component x.source step.source in
     elim (cases_eq c x.component) [
       | inl e ↦
-          let from : slice_index s c ≡ x.source = ap (λ i. slice_index s i) e ∙ at_get s x.component x.source step.source in
+          let from : slice_index s c ≡ x.source = ap (λ i. slice_index s i) e ∙ value_at s x.component x.source step.source in
           let into : x.target ≡ slice_index t c =
           sym (ap (λ i. slice_index t i) e ∙ ap (λ u. slice_index u x.component) step.gives ∙ get_or-set_same s x.component x.target 0 within) in
           go_on m.moves c x (slice_index s c) (slice_index t c) step.of_model (sym e) (sym from) (stay m.moves c x.target (slice_index t c) into)
@@ -115,33 +77,33 @@ step_walk m s t k c step =
           (sym (ap (λ u. slice_index u c) step.gives ∙ get_or-set_other s x.component c x.target 0 ne))
     ]
 
-run_walk : (m : Automata) (c : ℕ) (ks s t : List ℕ) → Run m s ks t → Walk m.moves c (slice_index s c) (slice_index t c)
+run_walk : (m : PlantModel) (c : ℕ) (ks s t : List ℕ) → Run m s ks t → Walk m.moves c (slice_index s c) (slice_index t c)
 run_walk m c [] s t run = stay m.moves c (slice_index s c) (slice_index t c) (ap (λ u. slice_index u c) (sym run))
 run_walk m c (k ∷ ks) s t run =
     join m.moves c (slice_index s c) (slice_index run.0 c) (slice_index t c) (step_walk m s run.0 k c run.1) (run_walk m c ks run.0 t run.2)
 
 -- the run along a walk
-record RunTo (m : Automata) (s : List ℕ) (c b : ℕ) : Type 0 where
+record RunTo (m : PlantModel) (s : List ℕ) (c b : ℕ) : Type 0 where
   ks : List ℕ
   last : List ℕ
   run : Run m s ks last
   moved : Moved s last c b
 
 -- the plan along a walk
-pub record PlanTo (m : Automata) (s : List ℕ) (c b : ℕ) : Type 0 where
+pub record PlanTo (m : PlantModel) (s : List ℕ) (c b : ℕ) : Type 0 where
   pub ks : List ℕ
   pub last : List ℕ
   pub plan : AllowedPlan m s ks last
   pub moved : Moved s last c b
 
 -- the pair's component is one of the state's, and walks lead to its mode and back
-pub record CanTurn (m : Automata) (s : List ℕ) (p : Pair) : Type 0 where
+pub record CanTurn (m : PlantModel) (s : List ℕ) (p : Pair) : Type 0 where
   pub within : p.item < length s
   pub there : Walk m.moves p.item (slice_index s p.item) p.value
   pub back : Walk m.moves p.item p.value (slice_index s p.item)
 
 -- a plan to all the pairs
-pub record PlanFor (m : Automata) (s : List ℕ) (goal : List Pair) : Type 0 where
+pub record PlanFor (m : PlantModel) (s : List ℕ) (goal : List Pair) : Type 0 where
   pub ks : List ℕ
   pub last : List ℕ
   pub plan : AllowedPlan m s ks last
@@ -149,11 +111,11 @@ pub record PlanFor (m : Automata) (s : List ℕ) (goal : List Pair) : Type 0 whe
   pub stands : All (λ p. slice_index last p.item ≡ p.value) goal
   pub others : (d : ℕ) → All (λ p. p.item ≢ d) goal → slice_index last d ≡ slice_index s d
 
-plan_join : (m : Automata) (ks ls s t u : List ℕ) → AllowedPlan m s ks t → AllowedPlan m t ls u → AllowedPlan m s (ks ++ ls) u
+plan_join : (m : PlantModel) (ks ls s t u : List ℕ) → AllowedPlan m s ks t → AllowedPlan m t ls u → AllowedPlan m s (ks ++ ls) u
 plan_join m [] ls s t u p q = subst (λ x. AllowedPlan m x ls u) p q
 plan_join m (k ∷ ks) ls s t u p q = (p.0, p.1, plan_join m ks ls p.0 t u p.2 q)
 
-module _ (m : Automata) (plain : IsPlain m) where
+module _ (m : PlantModel) (plain : IsPlain m) where
   pub step_by : (s : List ℕ) (c : ℕ) (x : Move) → c < length s → Contains m.moves x → x.component ≡ c → x.source ≡ slice_index s c → Step m s x.command (slice_set s c x.target)
   step_by s c x within among own from = record {
     move = x;
@@ -212,7 +174,7 @@ module _ (m : Automata) (plain : IsPlain m) where
       let rest : PlanTo m mid c b = plan_along c b xs x.target mid (omega (arith, first.full)) (sym first.here) walk.3 again in
       record { ks = x.command ∷ rest.ks; last = rest.last; plan = (mid, step, rest.plan); moved = moved_then s mid rest.last c x.target b first rest.moved }
 
-  pub plan_to : (s : List ℕ) (p : Pair) → CanTurn m s p → PlanTo m s p.item p.value
+  plan_to : (s : List ℕ) (p : Pair) → CanTurn m s p → PlanTo m s p.item p.value
   plan_to s p h = plan_along p.item p.value h.there.through (slice_index s p.item) s h.within refl h.there.is_walk h.back
 
   pub reach_from : (s : List ℕ) (p : Pair) → CanTurn m s p → Reach m s p.item p.value
@@ -262,12 +224,12 @@ module _ (m : Automata) (plain : IsPlain m) where
         ])
   ]
 
-  pub plan_there : (c : ℕ) (ks s t : List ℕ) → AllowedPlan m s ks t → Walk m.moves c (slice_index s c) (slice_index t c)
+  plan_there : (c : ℕ) (ks s t : List ℕ) → AllowedPlan m s ks t → Walk m.moves c (slice_index s c) (slice_index t c)
   plan_there c [] s t plan = stay m.moves c (slice_index s c) (slice_index t c) (ap (λ u. slice_index u c) (sym plan))
   plan_there c (k ∷ ks) s t plan =
       join m.moves c (slice_index s c) (slice_index plan.0 c) (slice_index t c) (step_walk m s plan.0 k c plan.1.step) (plan_there c ks plan.0 t plan.2)
 
-  pub plan_back : (c : ℕ) (ks s t : List ℕ) → c < length s → AllowedPlan m s ks t → Walk m.moves c (slice_index t c) (slice_index s c)
+  plan_back : (c : ℕ) (ks s t : List ℕ) → c < length s → AllowedPlan m s ks t → Walk m.moves c (slice_index t c) (slice_index s c)
   plan_back c [] s t within plan = stay m.moves c (slice_index t c) (slice_index s c) (ap (λ u. slice_index u c) plan)
   plan_back c (k ∷ ks) s t within plan =
       join m.moves c (slice_index t c) (slice_index plan.0 c) (slice_index s c)
@@ -276,7 +238,7 @@ module _ (m : Automata) (plain : IsPlain m) where
   -- what is reached can turn
   pub turns_from_reach : (s : List ℕ) (p : Pair) → p.item < length s → Reach m s p.item p.value → CanTurn m s p
   turns_from_reach s p within reach =
-      let at : slice_index reach.1 p.item ≡ p.value = at_get reach.1 p.item p.value reach.3 in
+      let at : slice_index reach.1 p.item ≡ p.value = value_at reach.1 p.item p.value reach.3 in
       record {
         within = within;
         there = subst (λ b. Walk m.moves p.item (slice_index s p.item) b) at (plan_there p.item reach.0 s reach.1 reach.2);

@@ -1,28 +1,28 @@
 -- The plain executive's reports are a trace.
-use Rattle.std.proofs.Common.{◌≡◌, ◌≢◌, ◌<◌, ◌+◌, ℕ, zero, suc, inl, inr, ◌==◌, true, false, List, [], ◌∷◌, ◌++◌, length, map, Option, Some, None, slice_index, All, Contains, find, refl, sym, ap, subst, ◌∙◌, arith}
+use Rattle.std.proofs.Common.{◌≡◌, ◌≢◌, ◌<◌, ◌+◌, ℕ, zero, suc, inl, inr, ◌==◌, true, false, List, [], ◌∷◌, ◌++◌, length, map, Option, Some, None, All, Contains, find, refl, sym, ap, subst, ◌∙◌, arith}
 use Rattle.std.specs.Prelude.{option_to_list, IfSome}
 use Rattle.std.proofs.lemmas.Bool.{eqb-true, false≢true}
-use Rattle.std.proofs.lemmas.List.{append-nil, length-map}
+use Rattle.std.proofs.lemmas.List.{append-nil}
 use Rattle.std.proofs.lemmas.List.Elements.{All-nil, All-cons, All-head, All-tail, All-append, All-weaker, All-contains}
 use Rattle.cca_base.specs.declared.cube.Pair.{Pair}
-use Rattle.cca_base.specs.declared.model.Component.{Component}
 use Rattle.cca_base.specs.declared.events.Event.{Event}
 use Rattle.cca_base.specs.declared.events.Event.TheVariants as event
-use Rattle.cca_base.specs.Automata.{Automata}
-use Rattle.cca_base.specs.Model.{WellFormed, HasMode, IsComponent}
+use Rattle.cca_base.specs.PlantModel.{PlantModel}
+use Rattle.cca_base.specs.Model.{WellFormed, HasMode}
 use Rattle.cca_base.specs.Cube.{IsCube}
 use Rattle.cca_base.specs.State.{IsState, start_modes}
 use Rattle.cca_base.specs.Successors.{Nominal}
 use Rattle.cca_base.specs.Estimates.{Estimate}
 use Rattle.cca_base.specs.Orders.{IsSorted, numbers_below}
-use Rattle.cca_base.specs.Choice.{Chosen}
+use Rattle.cca_base.specs.Choice.{IsChosenReply}
 use Rattle.cca_base.specs.Sets.{has}
-use Rattle.cca_base.specs.Trace.{Situation, start, AllMayCome, MayBeGoal, Changes, Observed, IsReply, ShowsEstimate, command_of}
-use Rattle.cca_base.specs.Runs.{Moment, Ticks}
+use Rattle.cca_base.specs.Trace.{ExecutiveState, start, AllMayCome, MayBeGoal, Changes, Observed, IsReply, ShowsEstimate, command_of}
+use Rattle.cca_base.specs.Runs.{TickRecord, Ticks}
 use Rattle.cca_base.proofs.Members.{contains_none}
-use Rattle.cca_base.proofs.CubeLemmas.{IsCube-push}
-use Rattle.cca_base.proofs.SetLemmas.{has-empty}
+use Rattle.cca_base.proofs.CubeLaws.{IsCube-push}
+use Rattle.cca_base.proofs.SetLaws.{has-empty}
 use Rattle.cca_base.proofs.Within.{mode_within}
+use Rattle.cca_base.proofs.StartLaws.{start_state}
 use Rattle.plain_laws.specs.Plain.{IsPlain, plainly_compiled}
 use Rattle.plain_laws.specs.Planner.{after_reply}
 use Rattle.plain_laws.specs.Executive.{Standing, begin, in_order, reply_for, reply_at, tick_report, after_event, reports_from}
@@ -68,7 +68,7 @@ kept_cube (suc n) pairs = one_more n pairs (find (λ p. p.item == n) pairs) refl
 -- ---- where the executive stands
 
 -- how the plain executive stands where the definitions say that an executive stands
-pub record Stands (m : Automata) (x : Situation) (y : Standing) : Type 0 where
+pub record Stands (m : PlantModel) (x : ExecutiveState) (y : Standing) : Type 0 where
   pub going : x.holding ≡ false
   pub nothing_pending : x.pending ≡ []
   pub nothing_mirrored : x.mirrored ≡ 0
@@ -80,7 +80,7 @@ pub record Stands (m : Automata) (x : Situation) (y : Standing) : Type 0 where
   pub fits : IfSome y.goal (λ pairs. IsCube pairs × All (λ p. HasMode m p.item p.value) pairs)
   pub ticks : x.ticks ≡ y.ticks
 
-nothing_seen : (m : Automata) (x : Situation) → x.pending ≡ [] → x.mirrored ≡ 0 → Observed m x []
+nothing_seen : (m : PlantModel) (x : ExecutiveState) → x.pending ≡ [] → x.mirrored ≡ 0 → Observed m x []
 nothing_seen m x e f = record {
   rising = λ i j d before within. absurd (omega arith);
   each = λ p. (
@@ -92,23 +92,23 @@ nothing_seen m x e f = record {
   );
 }
 
-module _ (m : Automata) (good : WellFormed m) (plain : IsPlain m) where
-  good_reply : (s : List ℕ) (goal : Option (List Pair)) → IsState m s → IfSome goal (λ pairs. IsCube pairs × All (λ p. HasMode m p.item p.value) pairs) → IsReply (Chosen (plainly_compiled m)) s goal (reply_for m s goal)
+module _ (m : PlantModel) (good : WellFormed m) (plain : IsPlain m) where
+  good_reply : (s : List ℕ) (goal : Option (List Pair)) → IsState m s → IfSome goal (λ pairs. IsCube pairs × All (λ p. HasMode m p.item p.value) pairs) → IsReply (IsChosenReply (plainly_compiled m)) s goal (reply_for m s goal)
   good_reply s None state fits = refl
   good_reply s (Some pairs) state fits = replies_are_chosen m s pairs good plain state fits.0 fits.1
 
   -- where a tick leads
-  abbrev ticked : Situation → Standing → Situation
+  abbrev ticked : ExecutiveState → Standing → ExecutiveState
   ticked x y = record x { estimate = y.modes; command = command_of (reply_at m y); plant = after_reply m.moves y.modes (reply_at m y); pending = []; ticks = x.ticks + 1 }
 
-  module _ (x : Situation) (y : Standing) (h : Stands m x y) where
-    tick_shows : ShowsEstimate m (Chosen (plainly_compiled m)) x 0 y.modes (reply_at m y) (ticked x y)
+  module _ (x : ExecutiveState) (y : Standing) (h : Stands m x y) where
+    tick_shows : ShowsEstimate m (IsChosenReply (plainly_compiled m)) x 0 y.modes (reply_at m y) (ticked x y)
     tick_shows = record {
       going = h.going;
       seen = [];
       observed = nothing_seen m x h.nothing_pending h.nothing_mirrored;
       estimate = nominal_is_estimate m x.estimate y.modes x.command good plain h.estimate h.nominal;
-      replies = subst (λ (g : Option (List Pair)). IsReply (Chosen (plainly_compiled m)) y.modes g (reply_at m y)) (sym h.goal) (good_reply y.modes y.goal h.state h.fits);
+      replies = subst (λ (g : Option (List Pair)). IsReply (IsChosenReply (plainly_compiled m)) y.modes g (reply_at m y)) (sym h.goal) (good_reply y.modes y.goal h.state h.fits);
       plant = after_reply m.moves y.modes (reply_at m y);
       moves = subst (λ (s : List ℕ). Nominal m s (command_of (reply_at m y)) (after_reply m.moves y.modes (reply_at m y))) (sym h.plant) (replies_are_obeyed m y.modes (reply_at m y) good plain h.state);
       after = refl;
@@ -160,12 +160,12 @@ module _ (m : Automata) (good : WellFormed m) (plain : IsPlain m) where
       }
 
   -- the ticks of some events
-  pub record Made (x : Situation) (y : Standing) (since events : List Event) : Type 0 where
-    pub ticks : List Moment
-    pub made : Ticks (plainly_compiled m) (Chosen (plainly_compiled m)) x since events ticks
+  pub record Made (x : ExecutiveState) (y : Standing) (since events : List Event) : Type 0 where
+    pub ticks : List TickRecord
+    pub made : Ticks (plainly_compiled m) (IsChosenReply (plainly_compiled m)) x since events ticks
     pub reported : reports_from m y events ≡ map (λ t. t.report) ticks
 
-  ticks_made : (x : Situation) (y : Standing) (since events : List Event) → Stands m x y → All (IsPlainEvent m) events → Made x y since events
+  ticks_made : (x : ExecutiveState) (y : Standing) (since events : List Event) → Stands m x y → All (IsPlainEvent m) events → Made x y since events
   ticks_made x y since [] h all = record { ticks = []; made = refl; reported = refl }
   ticks_made x y since (event.Tick ∷ events) h all =
       let rest : Made (ticked x y) (after_event m y event.Tick) [] events = ticks_made (ticked x y) (after_event m y event.Tick) [] events (after_tick x y h) (All-tail (IsPlainEvent m) event.Tick events all) in
@@ -189,17 +189,7 @@ module _ (m : Automata) (good : WellFormed m) (plain : IsPlain m) where
   ticks_made x y since (event.Mirror v ∷ events) h all = absurd (All-head (IsPlainEvent m) (event.Mirror v) events all)
   ticks_made x y since (event.Reset ∷ events) h all = absurd (All-head (IsPlainEvent m) event.Reset events all)
 
--- at the start nothing was commanded
-starts_within : (cs : List Component) (c : ℕ) → All IsComponent cs → c < length cs → slice_index (map (λ x. x.start) cs) c < slice_index (map (λ x. length x.modes) cs) c
-starts_within [] c all within = absurd (omega arith)
-starts_within (x ∷ cs) zero all within = (All-head IsComponent x cs all).start
-starts_within (x ∷ cs) (suc c) all within = starts_within cs c (All-tail IsComponent x cs all) (omega arith)
-
--- each component may stand in its start mode
-pub start_state : (m : Automata) → WellFormed m → IsState m (start_modes m)
-start_state m good = record { full = length-map m.components (λ (x : Component). x.start); modes = λ c within. starts_within m.components c good.components within }
-
-begins : (m : Automata) → WellFormed m → Stands m (start m 0) (begin m)
+begins : (m : PlantModel) → WellFormed m → Stands m (start m 0) (begin m)
 begins m good = record {
   going = refl;
   nothing_pending = refl;
@@ -219,14 +209,14 @@ reports_are_trace m events good plain all =
     record { ticks = made.ticks; made = made.made; reported = made.reported }
 
 -- such events may come one after the other
-pub events_may_come : (m : Automata) (x : Situation) (events : List Event) → All (IsPlainEvent m) events → AllMayCome m (IsSorted (numbers_below (length m.components))) x events
+pub events_may_come : (m : PlantModel) (x : ExecutiveState) (events : List Event) → All (IsPlainEvent m) events → AllMayCome m (IsSorted (numbers_below (length m.components))) x events
 events_may_come m x [] all = tt
 events_may_come m x (event.Tick ∷ events) all = events_may_come m (record x { pending = [] }) events (All-tail (IsPlainEvent m) event.Tick events all)
 events_may_come m x (event.Goal pairs ∷ events) all =
     let may : MayBeGoal m pairs = All-head (IsPlainEvent m) (event.Goal pairs) events all in
     let n : ℕ = length m.components in
     let within : All (λ p. p.item < n) pairs = All-weaker (λ p. HasMode m p.item p.value) (λ p. p.item < n) (λ p k. mode_within m p.item p.value k) pairs may.modes in
-    let y : Situation = record x { goal = Some (in_order n pairs) } in
+    let y : ExecutiveState = record x { goal = Some (in_order n pairs) } in
     (may, y, (in_order n pairs, goals_are_sorted n pairs may.cube within, refl), events_may_come m y events (All-tail (IsPlainEvent m) (event.Goal pairs) events all))
 events_may_come m x (event.Clear ∷ events) all = absurd (All-head (IsPlainEvent m) event.Clear events all)
 events_may_come m x (event.Observe pairs ∷ events) all = absurd (All-head (IsPlainEvent m) (event.Observe pairs) events all)

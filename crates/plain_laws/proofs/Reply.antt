@@ -2,21 +2,23 @@
 use Rattle.std.proofs.Common.{◌≡◌, ℕ, ◌<◌, inl, inr, true, false, not, ◌==◌, List, ◌∷◌, length, slice_get, slice_index, slice_set, Option, Some, None, All, Contains, find, is_some, refl, sym, ap, subst, ◌∙◌, arith}
 use Rattle.std.proofs.lemmas.Bool.{cases_eq, both_ways, and_parts, and_from, or_cases, not-true, not-false, eq-eqb, eqb-true, false≢true}
 use Rattle.std.proofs.lemmas.List.Elements.{All-contains, Contains-append_left}
+use Rattle.list_laws.proofs.Places.{value_at, get_at}
 use Rattle.cca_base.specs.declared.cube.Pair.{Pair}
 use Rattle.cca_base.specs.declared.model.Move.{Move}
-use Rattle.cca_base.specs.Automata.{Automata}
+use Rattle.cca_base.specs.PlantModel.{PlantModel}
 use Rattle.cca_base.specs.Model.{WellFormed, HasMode}
 use Rattle.cca_base.specs.Cube.{IsCube}
 use Rattle.cca_base.specs.State.{IsState, Extends}
 use Rattle.cca_base.specs.Steps.{Reach, Allowed}
-use Rattle.cca_base.specs.Goals.{Good, IsFirstUnreached}
+use Rattle.cca_base.specs.Goals.{IsGoodReply, IsFirstUnreached}
 use Rattle.cca_base.proofs.Members.{all_from}
+use Rattle.cca_base.proofs.StateLaws.{mode_in_state, sources_are_small}
 use Rattle.plain_laws.specs.Planner.{leads, is_reached, has_pair, move_toward, reply_by, reply_among}
 use Rattle.plain_laws.specs.Plain.{IsPlain, RepliesAreGood}
 use Rattle.plain_laws.proofs.Walks.{Walk, join, stay, go_on, Toward, toward, walk_from_leads, leads_from_walk, Split, find_split, split_contains, find_none}
-use Rattle.plain_laws.proofs.PlainSteps.{Moved, set_moved, CanTurn, PlanFor, step_by, step_own, allowed_by, plan_for, reach_from, turns_from_reach, turns_after, mode_in_state, sources_are_small, at_get, get_at}
+use Rattle.plain_laws.proofs.PlainSteps.{Moved, set_moved, CanTurn, PlanFor, step_by, step_own, allowed_by, plan_for, reach_from, turns_from_reach, turns_after}
 
-module _ (m : Automata) (s : List ℕ) (goal : List Pair) (w : WellFormed m) (plain : IsPlain m) (is : IsState m s) (cube : IsCube goal) (modes : All (λ p. HasMode m p.item p.value) goal) where
+module _ (m : PlantModel) (s : List ℕ) (goal : List Pair) (w : WellFormed m) (plain : IsPlain m) (is : IsState m s) (cube : IsCube goal) (modes : All (λ p. HasMode m p.item p.value) goal) where
   within_goal : (p : Pair) → Contains goal p → p.item < length s
   within_goal p among = mode_in_state m s p.item p.value is (All-contains (λ q. HasMode m q.item q.value) goal p modes among)
 
@@ -101,7 +103,7 @@ module _ (m : Automata) (s : List ℕ) (goal : List Pair) (w : WellFormed m) (pl
           | inr ne ↦ turns_after m plain s next p moved.full (moved.others p.item ne) can
         ]
 
-    sends : (x : Move) → move_toward m.moves q.item (slice_index s q.item) q.value ≡ Some x → Good m s goal (reply_by q (Some x))
+    sends : (x : Move) → move_toward m.moves q.item (slice_index s q.item) q.value ≡ Some x → IsGoodReply m s goal (reply_by q (Some x))
     sends x made =
         let c : ℕ = q.item in
         let here : ℕ = slice_index s c in
@@ -119,7 +121,7 @@ module _ (m : Automata) (s : List ℕ) (goal : List Pair) (w : WellFormed m) (pl
             step = step_by m plain s c x within t.of_list t.own t.from;
             pair = q;
             wanted = wanted;
-            missing = λ e. elsewhere (at_get s q.item q.value e);
+            missing = λ e. elsewhere (value_at s q.item q.value e);
             serves = inl (step_own m plain s c x within t.of_list t.own t.from);
           },
           record {
@@ -132,7 +134,7 @@ module _ (m : Automata) (s : List ℕ) (goal : List Pair) (w : WellFormed m) (pl
           },
         )
 
-    replies_by : (o : Option Move) → move_toward m.moves q.item (slice_index s q.item) q.value ≡ o → Good m s goal (reply_by q o)
+    replies_by : (o : Option Move) → move_toward m.moves q.item (slice_index s q.item) q.value ≡ o → IsGoodReply m s goal (reply_by q o)
     replies_by (Some x) made = sends x made
     replies_by None made =
         let reached : is_reached m.moves s q ≡ true =
@@ -143,7 +145,7 @@ module _ (m : Automata) (s : List ℕ) (goal : List Pair) (w : WellFormed m) (pl
           | inr h ↦ absurd (false≢true (sym (ap is_some made) ∙ h))
         ]
 
-  among_good : (u v : Option Pair) → find (λ p. not (is_reached m.moves s p)) goal ≡ u → find (λ p. not (has_pair s p)) goal ≡ v → Good m s goal (reply_among m.moves s u v)
+  among_good : (u v : Option Pair) → find (λ p. not (is_reached m.moves s p)) goal ≡ u → find (λ p. not (has_pair s p)) goal ≡ v → IsGoodReply m s goal (reply_among m.moves s u v)
   among_good None None eu ev = achieved ev
   among_good (Some p) None eu ev = achieved ev
   among_good (Some p) (Some q) eu ev = unreachable p eu

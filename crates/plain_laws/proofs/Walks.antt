@@ -1,13 +1,15 @@
 -- Walks of one component, and the tests by which the planner finds them.
 use Rattle.std.proofs.Common.{◌≡◌, ◌≢◌, ℕ, zero, suc, ◌<◌, ◌≤◌, ◌⊎◌, inl, inr, Bool, true, false, not, ◌&&◌, ◌==◌, List, [], ◌∷◌, ◌++◌, length, Option, Some, None, All, Contains, filter, find, is_some, refl, sym, ap, subst, ◌∙◌, arith}
 use Rattle.std.specs.List.{list_any}
-use Rattle.std.proofs.lemmas.Bool.{cases_eq, cases_lt, cases_Bool, both_ways, and_parts, and_from, or_cases, or_left, or_right, eq-eqb, eqb-true, ne_eqb, not_from_false, not_from_true, cond-true, cond-false, false≢true}
-use Rattle.std.proofs.lemmas.List.Elements.{All-nil, All-cons, All-head, All-tail, Contains-append_left, Contains-append_right, Contains-push}
+use Rattle.std.proofs.lemmas.Bool.{cases_eq, cases_Bool, both_ways, and_parts, and_from, or_cases, or_left, or_right, eq-eqb, eqb-true, ne_eqb, not_from_false, not_from_true, cond-true, cond-false, false≢true}
+use Rattle.std.proofs.lemmas.List.Elements.{All-nil, All-cons, All-head, All-tail, Contains-append_right}
 use Rattle.std.proofs.lemmas.List.Folds.{Any-from_list_any, list_any-from_Any}
+use Rattle.list_laws.proofs.Kept.{filter_less}
 use Rattle.cca_base.specs.declared.model.Move.{Move}
 use Rattle.cca_base.specs.declared.limits.TheConstants.{MAX_CHOICES}
 use Rattle.cca_base.specs.Orders.{numbers_below}
-use Rattle.cca_base.proofs.Members.{some_inj, none_some, contains_cases, contains_here, contains_none, to_filter}
+use Rattle.cca_base.proofs.Members.{some_inj, none_some, contains_here, to_filter}
+use Rattle.cca_base.proofs.PathLaws.{below_contains}
 use Rattle.plain_laws.specs.Planner.{leaves, leads_within, or_else, nearer_move, move_toward, leads}
 
 -- ---- the first element that passes a test
@@ -47,7 +49,7 @@ find_none test (y ∷ xs) h = elim (cases_Bool (test y)) [
   | inr later ↦ All-cons (λ z. test z ≡ false) y xs later (find_none test xs (sym (cond-false (test y) (Some y) (find test xs) later) ∙ h))
 ]
 
-pub find_is_some : {X : Type 0} (test : X → Bool) (xs : List X) → list_any test xs ≡ true → is_some (find test xs) ≡ true
+find_is_some : {X : Type 0} (test : X → Bool) (xs : List X) → list_any test xs ≡ true → is_some (find test xs) ≡ true
 find_is_some test [] h = h
 find_is_some test (y ∷ xs) h = elim (cases_Bool (test y)) [
   | inl here ↦ ap is_some (cond-true (test y) (Some y) (find test xs) here)
@@ -68,38 +70,6 @@ or_else_right (Some x) y h = refl
 or_else_cases : {X : Type 0} (o y : Option X) (x : X) → or_else o y ≡ Some x → (o ≡ Some x) ⊎ (y ≡ Some x)
 or_else_cases None y x h = inr h
 or_else_cases (Some z) y x h = inl h
-
--- ---- filters
-
-filter_length : {X : Type 0} (test : X → Bool) (xs : List X) → length (filter test xs) ≤ length xs
-filter_length test [] = omega arith
-filter_length test (x ∷ xs) =
-    let rest : length (filter test xs) ≤ length xs = filter_length test xs in
-    elim (cases_Bool (test x)) [
-      | inl y ↦ omega (arith, ap length (cond-true (test x) (x ∷ filter test xs) (filter test xs) y))
-      | inr n ↦ omega (arith, ap length (cond-false (test x) (x ∷ filter test xs) (filter test xs) n))
-    ]
-
-filter_less : {X : Type 0} (test : X → Bool) (xs : List X) (x : X) → Contains xs x → test x ≡ false → length (filter test xs) < length xs
-filter_less test [] x among h = absurd (contains_none x among)
-filter_less test (y ∷ xs) x among h = elim (cases_Bool (test y)) [
-  | inl yes_y ↦ elim (contains_cases y x xs among) [
-    | inl e ↦ absurd (both_ways (test x) h (subst (λ z. test z ≡ true) e yes_y))
-    | inr there ↦
-        let rest : length (filter test xs) < length xs = filter_less test xs x there h in
-        omega (arith, ap length (cond-true (test y) (y ∷ filter test xs) (filter test xs) yes_y))
-  ]
-  | inr no_y ↦
-      let rest : length (filter test xs) ≤ length xs = filter_length test xs in
-      omega (arith, ap length (cond-false (test y) (y ∷ filter test xs) (filter test xs) no_y))
-]
-
-below_in : (n c : ℕ) → c < n → Contains (numbers_below n) c
-below_in zero c h = absurd (omega arith)
-below_in (suc n) c h = elim (cases_lt c n) [
-  | inl lt ↦ Contains-append_left (numbers_below n) (n ∷ []) c (below_in n c lt)
-  | inr ge ↦ let e : n ≡ c = omega arith in subst (Contains (numbers_below (suc n))) e (Contains-push (numbers_below n) n)
-]
 
 -- ---- walks
 
@@ -239,19 +209,19 @@ module _ (moves : List Move) (c b : ℕ) where
         one_more n a last.move last.of_list last.own last.from (bounded n left last.move.target last.others (omega arith) last.walk kept)
   ]
 
-  walk_inside : (xs : List Move) (a : ℕ) → All (λ x. x.source < 16) moves → IsWalk moves c a xs b → All (λ x. Contains (numbers_below 16) x.source) xs
-  walk_inside [] a small walk = All-nil (λ x. Contains (numbers_below 16) x.source)
+  walk_inside : (xs : List Move) (a : ℕ) → All (λ x. x.source < MAX_CHOICES) moves → IsWalk moves c a xs b → All (λ x. Contains (numbers_below MAX_CHOICES) x.source) xs
+  walk_inside [] a small walk = All-nil (λ x. Contains (numbers_below MAX_CHOICES) x.source)
   walk_inside (x ∷ xs) a small walk =
-      All-cons (λ x. Contains (numbers_below 16) x.source) x xs
-      (below_in 16 x.source (subst (λ z. z.source < 16) walk.0.2 (small walk.0.0 x walk.0.1)))
+      All-cons (λ x. Contains (numbers_below MAX_CHOICES) x.source) x xs
+      (below_contains MAX_CHOICES x.source (subst (λ z. z.source < MAX_CHOICES) walk.0.2 (small walk.0.0 x walk.0.1)))
       (walk_inside xs x.target small walk.3)
 
   -- the test finds a walk, where the modes are few
-  pub leads_from_walk : (a : ℕ) → All (λ x. x.source < 16) moves → Walk moves c a b → leads moves c a b ≡ true
+  pub leads_from_walk : (a : ℕ) → All (λ x. x.source < MAX_CHOICES) moves → Walk moves c a b → leads moves c a b ≡ true
   leads_from_walk a small walk = elim (cases_eq a b) [
     | inl e ↦ or_left (a == b) (is_some (move_toward moves c a b)) (eq-eqb a b e)
     | inr ne ↦ or_right (a == b) (is_some (move_toward moves c a b))
-        (some_nearer 16 a ne (bounded 16 (numbers_below 16) a walk.through (omega arith) walk.is_walk (walk_inside walk.through a small walk.is_walk)))
+        (some_nearer MAX_CHOICES a ne (bounded MAX_CHOICES (numbers_below MAX_CHOICES) a walk.through (omega arith) walk.is_walk (walk_inside walk.through a small walk.is_walk)))
   ]
 
   -- the move that the planner finds leads towards b

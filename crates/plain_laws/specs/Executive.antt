@@ -7,7 +7,7 @@ use Rattle.cca_base.specs.declared.events.Reply.{Reply}
 use Rattle.cca_base.specs.declared.events.Reply.TheVariants.{Idle}
 use Rattle.cca_base.specs.declared.events.Shown.TheVariants.{Estimated}
 use Rattle.cca_base.specs.declared.events.TickReport.{TickReport}
-use Rattle.cca_base.specs.Automata.{Automata}
+use Rattle.cca_base.specs.PlantModel.{PlantModel}
 use Rattle.cca_base.specs.State.{start_modes}
 use Rattle.plain_laws.specs.Planner.{reply_to, after_reply}
 
@@ -18,7 +18,7 @@ pub record Standing : Type 0 where
   pub ticks : ℕ
 
 -- before the first event the components stand in their start modes
-abbrev pub begin : Automata → Standing
+abbrev pub begin : PlantModel → Standing
 begin m = record { modes = start_modes m; goal = None; ticks = 0 }
 
 -- the pairs of the first n components, in the order of components
@@ -27,20 +27,20 @@ in_order zero pairs = []
 in_order (suc c) pairs = in_order c pairs ++ option_to_list (find (λ p. p.item == c) pairs)
 
 -- the answer of a tick: by the planner where there is a goal
-abbrev pub reply_for : Automata → List ℕ → Option (List Pair) → Reply
+abbrev pub reply_for : PlantModel → List ℕ → Option (List Pair) → Reply
 reply_for m s None = Idle
 reply_for m s (Some goal) = reply_to m.moves s goal
 
 -- the answer of a tick
-abbrev pub reply_at : Automata → Standing → Reply
+abbrev pub reply_at : PlantModel → Standing → Reply
 reply_at m x = reply_for m x.modes x.goal
 
 -- a tick reports the modes, at no cost, and its answer
-abbrev pub tick_report : Automata → Standing → TickReport
+abbrev pub tick_report : PlantModel → Standing → TickReport
 tick_report m x = record { tick = x.ticks + 1; shown = Estimated 0 (record { modes = x.modes }) (reply_at m x) }
 
 -- a goal is kept in the order of components; a tick's command moves its component at once; the first forms have no other events
-abbrev pub after_event : Automata → Standing → Event → Standing
+abbrev pub after_event : PlantModel → Standing → Event → Standing
 after_event m x (Goal pairs) = record x { goal = Some (in_order (length m.components) pairs) }
 after_event m x Tick = record x { modes = after_reply m.moves x.modes (reply_at m x); ticks = x.ticks + 1 }
 after_event m x Clear = x
@@ -50,7 +50,7 @@ after_event m x (Mirror v) = x
 after_event m x Reset = x
 
 -- each tick is reported, and no other event
-abbrev pub reports_at : Automata → Standing → Event → List TickReport
+abbrev pub reports_at : PlantModel → Standing → Event → List TickReport
 reports_at m x Tick = tick_report m x ∷ []
 reports_at m x (Goal pairs) = []
 reports_at m x Clear = []
@@ -60,6 +60,6 @@ reports_at m x (Mirror v) = []
 reports_at m x Reset = []
 
 -- the reports of some events, one after the other
-abbrev pub reports_from : Automata → Standing → List Event → List TickReport
+abbrev pub reports_from : PlantModel → Standing → List Event → List TickReport
 reports_from m x [] = []
 reports_from m x (e ∷ events) = reports_at m x e ++ reports_from m (after_event m x e) events

@@ -5,7 +5,7 @@ use Rattle.std.proofs.lemmas.List.{take_all}
 use Rattle.std.proofs.lemmas.Option.{slice_get_within, get_or_from_slice_get}
 use Rattle.std.proofs.lemmas.List.Elements.{All-contains, Contains-append_left, Contains-push, Contains-push_cases}
 use Rattle.cca_base.specs.declared.cube.Pair.{Pair}
-use Rattle.cca_base.specs.Accepted.{CompiledParts}
+use Rattle.cca_base.specs.Accepted.{CompiledModel}
 use Rattle.cca_base.specs.Flags.{is_set}
 use Rattle.cca_base.specs.Model.{HasMode, IsMended, is_broken}
 use Rattle.cca_base.specs.Orders.{AreInOrder}
@@ -17,7 +17,7 @@ use Rattle.reach_laws.proofs.Order.{Among, IsOrder, repair_rules, order_from}
 use Rattle.reach_laws.proofs.Trails.{among_from}
 use Rattle.reach_laws.proofs.Walk.{member_sound}
 use Rattle.reach_laws.proofs.Answered.{way_back}
-use Rattle.reversibility.specs.Parts.{ClassParts, CoversState}
+use Rattle.reversibility.specs.ClassParts.{ClassParts, CoversState}
 use Rattle.policy_tables.specs.Tables.{TableParts, IsTables}
 use Rattle.planner_step.specs.Planning.{member_of, IsGoal}
 use Rattle.planner_step.proofs.Covered.{setting, inside_mode}
@@ -37,12 +37,12 @@ pub taken_whole : (c : ClassParts) (s order : List ℕ) (i : ℕ) (ps : List Pai
 taken_whole c s order i ps past h = subst (λ l. AreBackPairs c s l ps) (take_all i order past) h
 
 module _ (t : TableParts) (is : IsTables t) (s : List ℕ) (cov : CoversState t.classes s) where
-  abbrev b : CompiledParts
+  abbrev b : CompiledModel
   b = t.classes.compiled
 
   -- ---- where one component goes back to
 
-  pub only_sound : (c mode : ℕ) → slice_get s c ≡ Some mode → is_broken b.model.moves c mode ≡ false → GoesOnlyTo t.classes s c mode
+  only_sound : (c mode : ℕ) → slice_get s c ≡ Some mode → is_broken b.model.moves c mode ≡ false → GoesOnlyTo t.classes s c mode
   only_sound c mode at sound x = (
     (λ back. elim back [
       | inl held ↦ some_inj x mode (sym held.0 ∙ at)

@@ -3,7 +3,7 @@ use Rattle.std.proofs.Common.{◌≡◌, ◌<◌, ℕ, true, List, [], ◌∷◌
 use Rattle.std.proofs.lemmas.Bool.{both_ways}
 use Rattle.std.proofs.lemmas.List.Elements.{All-contains, Contains-append_right}
 use Rattle.cca_base.specs.declared.cube.Pair.{Pair}
-use Rattle.cca_base.specs.Accepted.{CompiledParts}
+use Rattle.cca_base.specs.Accepted.{CompiledModel}
 use Rattle.cca_base.specs.Orders.{AreInOrder}
 use Rattle.cca_base.specs.State.{Extends}
 use Rattle.cca_base.specs.Steps.{Step}
@@ -14,13 +14,13 @@ use Rattle.reach_laws.specs.Classes.{AreInside}
 use Rattle.reach_laws.specs.Plans.{IsFirstOutside}
 use Rattle.reach_laws.proofs.PlanLaws.{serialisation}
 use Rattle.reach_laws.proofs.Answered.{next_setting}
-use Rattle.reversibility.specs.Parts.{CoversState}
+use Rattle.reversibility.specs.ClassParts.{CoversState}
 use Rattle.policy_tables.specs.Tables.{TableParts, IsTables}
 use Rattle.planner_step.specs.Planning.{cells_of, member_of}
 use Rattle.planner_step.proofs.Covered.{setting}
 use Rattle.plan_runner.specs.Walked.{WholeTo}
 
-module _ (b : CompiledParts) (goal : List Pair) where
+module _ (b : CompiledModel) (goal : List Pair) where
   pub whole_more : (s : List ℕ) (ks : List ℕ) (at next : List ℕ) (k : ℕ) → WholeTo b goal s ks at → (Extends at goal → ⊥) → PicksForGoal b at goal k → Step b.model at k next
       → WholeTo b goal s (ks ++ k ∷ []) next
   whole_more s [] at next k e missing picks step = (
@@ -32,7 +32,7 @@ module _ (b : CompiledParts) (goal : List Pair) where
   )
   whole_more s (l ∷ ks) at next k whole missing picks step = (whole.0, whole.1, whole.2, whole.3, whole_more whole.2 ks at next k whole.4 missing picks step)
 
-  pub whole_join : (s : List ℕ) (ks : List ℕ) (at : List ℕ) (ls last : List ℕ) → WholeTo b goal s ks at → Whole b goal at ls last → Whole b goal s (ks ++ ls) last
+  whole_join : (s : List ℕ) (ks : List ℕ) (at : List ℕ) (ls last : List ℕ) → WholeTo b goal s ks at → Whole b goal at ls last → Whole b goal s (ks ++ ls) last
   whole_join s [] at ls last e rest = subst (λ x. Whole b goal x ls last) e rest
   whole_join s (k ∷ ks) at ls last whole rest = (whole.0, whole.1, whole.2, whole.3, whole_join whole.2 ks at ls last whole.4 rest)
 
@@ -45,7 +45,7 @@ module _ (b : CompiledParts) (goal : List Pair) where
   longer s (k ∷ ks) last whole missing = omega arith
 
 module _ (t : TableParts) (is : IsTables t) (goal : List Pair) (inside : AreInside (member_of t) goal) where
-  abbrev b : CompiledParts
+  abbrev b : CompiledModel
   b = t.classes.compiled
 
   -- what is picked keeps the state covered

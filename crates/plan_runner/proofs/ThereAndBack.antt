@@ -4,11 +4,11 @@ use Rattle.cca_base.specs.declared.cube.Pair.{Pair}
 use Rattle.cca_base.specs.declared.events.PlanEnd.{PlanEnd}
 use Rattle.cca_base.specs.declared.events.PlanEnd.TheVariants.{Plan, Long}
 use Rattle.cca_base.specs.declared.limits.TheConstants.{MAX_PLAN}
-use Rattle.cca_base.specs.Accepted.{CompiledParts}
+use Rattle.cca_base.specs.Accepted.{CompiledModel}
 use Rattle.cca_base.specs.Plans.{Whole, IsBackGoal, IsRoute}
 use Rattle.reach_laws.specs.Classes.{AreInside}
 use Rattle.reach_laws.proofs.Answered as reach
-use Rattle.reversibility.specs.Parts.{CoversState}
+use Rattle.reversibility.specs.ClassParts.{CoversState}
 use Rattle.policy_tables.specs.Tables.{TableParts, IsTables}
 use Rattle.planner_step.specs.Planning.{member_of, IsGoal, AreReached}
 use Rattle.planner_step.proofs.Covered.{setting}
@@ -19,7 +19,7 @@ use Rattle.planner_step.proofs.Along.{plan_of, some_plan}
 use Rattle.plan_runner.proofs.GoingBack.{some_goal, names_all, back_goal_is, back_is_goal}
 
 module _ (t : TableParts) (is : IsTables t) where
-  abbrev b : CompiledParts
+  abbrev b : CompiledModel
   b = t.classes.compiled
 
   module _ (to : List ℕ) (cov : CoversState t.classes to) (goal : List Pair) (pairs : AreBackPairs t.classes to b.order goal) where

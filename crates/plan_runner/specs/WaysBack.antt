@@ -9,7 +9,7 @@ use Rattle.cca_base.specs.Model.{IsMended, is_broken}
 use Rattle.cca_base.specs.Orders.{AreInOrder}
 use Rattle.cca_base.specs.Plans.{IsBackGoal}
 use Rattle.cca_base.specs.Repairs.{Mending}
-use Rattle.reversibility.specs.Parts.{ClassParts}
+use Rattle.reversibility.specs.ClassParts.{ClassParts}
 use Rattle.policy_tables.specs.Tables.{TableParts}
 use Rattle.plan_runner.specs.Plans.{IsWholePlan}
 

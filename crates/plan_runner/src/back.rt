@@ -1,7 +1,7 @@
 //! The way back to where a state stood.
 
 ghost use Rattle.std.specs.Prelude.{IfOk};
-ghost use Rattle.reversibility.specs.Parts.{CoversState};
+ghost use Rattle.reversibility.specs.ClassParts.{CoversState};
 ghost use Rattle.plan_runner.specs.WaysBack.{IsWayBack};
 
 use crate::goal_back::back_goal;

@@ -1,7 +1,7 @@
 //! The goal of a way back: where each component stood, or what it is mended to.
 
 ghost use Rattle.std.specs.Prelude.{◌<◌, IfOk, MatchOption, length};
-ghost use Rattle.reversibility.specs.Parts.{CoversState};
+ghost use Rattle.reversibility.specs.ClassParts.{CoversState};
 ghost use Rattle.plan_runner.specs.WaysBack.{AreBackPairs, GoesNowhere, GoesOnlyTo};
 
 use cca_base::{Goal, List, Pair, State};
@@ -9,17 +9,17 @@ use policy_tables::Tables;
 use std::alloc::{AllocError, Global};
 
 /// Where the component is to go back to.
-fn mode_back(tables: &Tables, to: &State, c: u16) -> Option<u8>
+fn mode_back(tables: &Tables, to: &State, component: u16) -> Option<u8>
     requires covers { CoversState tables.now.classes to.now.modes }
-    requires within { c < length tables.now.classes.compiled.model.components }
-    ensures { MatchOption result (GoesNowhere tables.now.classes to.now.modes c) (GoesOnlyTo tables.now.classes to.now.modes c) }
+    requires within { component < length tables.now.classes.compiled.model.components }
+    ensures { MatchOption result (GoesNowhere tables.now.classes to.now.modes component) (GoesOnlyTo tables.now.classes to.now.modes component) }
 {
     let classes = tables.classes();
-    let mode = *to.modes.get(c as usize);
-    match classes.compiled().model().mended(c, mode) {
+    let mode = *to.modes.get(component as usize);
+    match classes.compiled().model().mended(component, mode) {
         None => Some(mode),
         Some(mended) => {
-            if classes.mendable(c) {
+            if classes.mendable(component) {
                 Some(mended)
             } else {
                 None

@@ -2,7 +2,7 @@
 
 ghost use Rattle.std.specs.Prelude.{IfOk};
 ghost use Rattle.cca_base.specs.Plans.{IsRoute};
-ghost use Rattle.reversibility.specs.Parts.{CoversState};
+ghost use Rattle.reversibility.specs.ClassParts.{CoversState};
 ghost use Rattle.planner_step.specs.Planning.{AreReached, IsGoal};
 ghost use Rattle.plan_runner.specs.WaysBack.{IsThereAndBack};
 

@@ -2,7 +2,7 @@
 
 ghost use Rattle.std.specs.Prelude.{◌≡◌, ◌<◌, IfOk};
 ghost use Rattle.reach_laws.specs.Classes.{AreInside};
-ghost use Rattle.reversibility.specs.Parts.{CoversState};
+ghost use Rattle.reversibility.specs.ClassParts.{CoversState};
 ghost use Rattle.planner_step.specs.Planning.{member_of, IsGoal};
 ghost use Rattle.plan_runner.specs.Walked.{IsWalked};
 

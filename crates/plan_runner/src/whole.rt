@@ -1,7 +1,7 @@
 //! The whole plan for a goal.
 
 ghost use Rattle.std.specs.Prelude.{IfOk};
-ghost use Rattle.reversibility.specs.Parts.{CoversState};
+ghost use Rattle.reversibility.specs.ClassParts.{CoversState};
 ghost use Rattle.planner_step.specs.Planning.{AreReached, IsGoal};
 ghost use Rattle.plan_runner.specs.Plans.{IsWholePlan};
 

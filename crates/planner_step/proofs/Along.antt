@@ -1,7 +1,7 @@
 -- What holds all along a whole plan.
 use Rattle.std.proofs.Common.{◌≡◌, ◌≤◌, ℕ, true, List, [], ◌∷◌, ◌++◌, length, sym, subst, ◌∙◌}
 use Rattle.cca_base.specs.declared.cube.Pair.{Pair}
-use Rattle.cca_base.specs.Accepted.{CompiledParts, IsCompiled}
+use Rattle.cca_base.specs.Accepted.{CompiledModel, IsCompiled}
 use Rattle.cca_base.specs.Bounds.{stated_number}
 use Rattle.cca_base.specs.Model.{WellFormed}
 use Rattle.cca_base.specs.Orders.{AreInOrder}
@@ -16,14 +16,14 @@ use Rattle.reach_laws.proofs.Sound.{stays_covered_law}
 use Rattle.reach_laws.proofs.Answered.{whole_is_allowed, empty_stays}
 use Rattle.reach_laws.proofs.Needed.{standing_stays, others_stay}
 use Rattle.reach_laws.proofs.Picks.{one_whole}
-use Rattle.reversibility.specs.Parts.{CoversState}
+use Rattle.reversibility.specs.ClassParts.{CoversState}
 use Rattle.policy_tables.specs.Tables.{TableParts, IsTables}
 use Rattle.planner_step.specs.Planning.{cells_of, member_of}
 use Rattle.planner_step.proofs.Covered.{setting}
 use Rattle.planner_step.specs.Served.{Passes, KeepsStanding, StaysAlong, IsApart, IsPlanTo}
 use Rattle.planner_step.proofs.Stuck.{stuck_empty}
 
-module _ (b : CompiledParts) (compiled : IsCompiled b) where
+module _ (b : CompiledModel) (compiled : IsCompiled b) where
   -- commands lead to one state
   whole_split : (goal : List Pair) (s first rest mid last : List ℕ) → Whole b goal s (first ++ rest) last → Run b.model s first mid → Whole b goal mid rest last
   whole_split goal s [] rest mid last whole run = subst (λ x. Whole b goal x rest last) (sym run) whole
@@ -40,7 +40,7 @@ module _ (b : CompiledParts) (compiled : IsCompiled b) where
         allowed_split plan.0 first rest mid last plan.2 (subst (λ x. Run b.model x first mid) (sym same) run.2),
       )
 
-  pub whole_after : (goal : List Pair) (s ks last mid rest : List ℕ) → Whole b goal s ks last → Passes b.model s ks mid rest → Whole b goal mid rest last
+  whole_after : (goal : List Pair) (s ks last mid rest : List ℕ) → Whole b goal s ks last → Passes b.model s ks mid rest → Whole b goal mid rest last
   whole_after goal s ks last mid rest whole h = whole_split goal s h.first rest mid last (subst (λ l. Whole b goal s l last) h.split whole) h.run
 
   -- what stands of the goal's beginning goes on standing
@@ -52,11 +52,11 @@ module _ (b : CompiledParts) (compiled : IsCompiled b) where
         stands_on whole.2 first rest mid last whole.4 (subst (λ x. Run b.model x first mid) (sym same) run.2)
         (standing_stays b s whole.2 goal before after k compiled in_order whole.1 whole.3 split held)
 
-  pub keeps_standing : (goal : List Pair) → AreInOrder b.order goal → (s ks last : List ℕ) → Whole b goal s ks last → KeepsStanding b.model goal s ks
+  keeps_standing : (goal : List Pair) → AreInOrder b.order goal → (s ks last : List ℕ) → Whole b goal s ks last → KeepsStanding b.model goal s ks
   keeps_standing goal in_order s ks last whole before after split early left h held late rest k =
       stands_on goal in_order before after split early k.first rest late last (subst (λ l. Whole b goal early l last) k.split (whole_after goal s ks last early left whole h)) k.run held
 
-  pub apart_stays : (goal : List Pair) (s ks last : List ℕ) → Whole b goal s ks last → (d : ℕ) → IsApart b.model goal d → StaysAlong b.model s ks d
+  apart_stays : (goal : List Pair) (s ks last : List ℕ) → Whole b goal s ks last → (d : ℕ) → IsApart b.model goal d → StaysAlong b.model s ks d
   apart_stays goal s ks last whole d apart mid rest h =
       let w : WellFormed b.model = compiled.accepted.well_formed in
       sym (others_stay b goal mid rest last d w (whole_after goal s ks last mid rest whole h) apart) ∙ others_stay b goal s ks last d w whole apart
@@ -75,7 +75,7 @@ module _ (t : TableParts) (is : IsTables t) (s : List ℕ) (cov : CoversState t.
     (inside : AreInside (member_of t) goal) where
   pub plan_of : (ks last : List ℕ) → Whole t.classes.compiled goal s ks last → IsPlanTo t s goal ks last
   plan_of ks last whole =
-      let b : CompiledParts = t.classes.compiled in
+      let b : CompiledModel = t.classes.compiled in
       let g : Setting b.model b.order t.classes.base (member_of t) s = setting t is s cov in
       let made = whole_is_allowed b t.classes.base (member_of t) s g goal ks last inside whole in
       let some = serialisation b t.classes.base (member_of t) (cells_of t) is.classes.compiled is.cells.policy s g goal in_order inside in
@@ -93,6 +93,6 @@ module _ (t : TableParts) (is : IsTables t) (s : List ℕ) (cov : CoversState t.
 
   pub some_plan : (ks last : List ℕ) × Whole t.classes.compiled goal s ks last
   some_plan =
-      let b : CompiledParts = t.classes.compiled in
+      let b : CompiledModel = t.classes.compiled in
       let some = serialisation b t.classes.base (member_of t) (cells_of t) is.classes.compiled is.cells.policy s (setting t is s cov) goal in_order inside in
       (some.0, some.1, some.2)

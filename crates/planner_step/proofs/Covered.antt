@@ -1,22 +1,22 @@
 -- What tables give where they cover a state.
 use Rattle.std.proofs.Common.{◌≡◌, ◌<◌, ◌⊎◌, ℕ, true, false, List, length, slice_get, Some, [], refl, sym, subst, inl, inr}
 use Rattle.std.proofs.lemmas.Option.{slice_get_within}
+use Rattle.list_laws.proofs.Places.{value_at}
 use Rattle.cca_base.specs.declared.cube.Pair.{Pair}
-use Rattle.cca_base.specs.Accepted.{CompiledParts}
+use Rattle.cca_base.specs.Accepted.{CompiledModel}
 use Rattle.cca_base.specs.Model.{HasMode, is_broken}
 use Rattle.cca_base.specs.Steps.{Reach}
 use Rattle.reach_laws.specs.Classes.{Stands}
 use Rattle.reach_laws.specs.Laws.{Setting}
-use Rattle.reach_laws.proofs.Facts.{at_get}
 use Rattle.reach_laws.proofs.Order.{repair_rules}
 use Rattle.reach_laws.proofs.Walk.{member_within}
 use Rattle.reach_laws.proofs.Sound.{member_mode, class_is_reach}
-use Rattle.reversibility.specs.Parts.{CoversState}
+use Rattle.reversibility.specs.ClassParts.{CoversState}
 use Rattle.policy_tables.specs.Tables.{TableParts, IsTables}
 use Rattle.planner_step.specs.Planning.{member_of}
 
 module _ (t : TableParts) (is : IsTables t) (s : List ℕ) (cov : CoversState t.classes s) where
-  abbrev b : CompiledParts
+  abbrev b : CompiledModel
   b = t.classes.compiled
 
   pub setting : Setting b.model b.order t.classes.base (member_of t) s
@@ -42,11 +42,11 @@ module _ (t : TableParts) (is : IsTables t) (s : List ℕ) (cov : CoversState t.
   -- where a component stands
   pub mode_here : (c mode : ℕ) → slice_get s c ≡ Some mode → HasMode b.model c mode
   mode_here c mode at =
-      subst (HasMode b.model c) (at_get s c mode at) (cov.state.modes c (subst (λ n. c < n) cov.state.full (slice_get_within s c mode at)))
+      subst (HasMode b.model c) (value_at s c mode at) (cov.state.modes c (subst (λ n. c < n) cov.state.full (slice_get_within s c mode at)))
 
   pub stands_in : (c mode : ℕ) → slice_get s c ≡ Some mode → Stands b.model t.classes.base (member_of t) c mode
   stands_in c mode at =
-      subst (Stands b.model t.classes.base (member_of t) c) (at_get s c mode at) (cov.covers c (subst (λ n. c < n) cov.state.full (slice_get_within s c mode at)))
+      subst (Stands b.model t.classes.base (member_of t) c) (value_at s c mode at) (cov.covers c (subst (λ n. c < n) cov.state.full (slice_get_within s c mode at)))
 
   -- what is held, or in the classes, is what allowed plans reach
   pub reach_from : (p : Pair) → (slice_get s p.item ≡ Some p.value) ⊎ (member_of t p.item p.value ≡ true) → Reach b.model s p.item p.value

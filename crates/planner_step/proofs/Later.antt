@@ -2,7 +2,7 @@
 use Rattle.std.proofs.Common.{◌≡◌, ◌<◌, ◌≤◌, ◌==◌, ℕ, cond, List, [], ◌∷◌, length, sym, ap, subst, inl, inr, arith}
 use Rattle.std.proofs.lemmas.Bool.{cases_eq, cond-true, cond-false, eq-eqb, ne_eqb}
 use Rattle.cca_base.specs.declared.cube.Pair.{Pair}
-use Rattle.cca_base.specs.Automata.{Automata}
+use Rattle.cca_base.specs.PlantModel.{PlantModel}
 use Rattle.cca_base.specs.Implicants.{Needs}
 use Rattle.cca_base.specs.Orders.{AreInOrder}
 use Rattle.reach_laws.proofs.Order.{Among, AreEffectsFirst}
@@ -30,7 +30,7 @@ later_below (d ∷ order) c among = elim (cases_eq c d) [
 ]
 
 -- what a component needs stands later
-pub later_less : (m : Automata) (order : List ℕ) → AreEffectsFirst m order → (c u : ℕ) → Among c order → Needs m c u → later order u < later order c
+pub later_less : (m : PlantModel) (order : List ℕ) → AreEffectsFirst m order → (c u : ℕ) → Among c order → Needs m c u → later order u < later order c
 later_less m [] first c u among needs = absurd among
 later_less m (d ∷ order) first c u among needs = elim (cases_eq c d) [
   | inl e ↦

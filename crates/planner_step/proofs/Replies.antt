@@ -4,7 +4,7 @@ use Rattle.std.proofs.lemmas.Bool.{false_from_ne_true}
 use Rattle.std.proofs.lemmas.List.Elements.{All-contains, Contains-append_left, Contains-append_right}
 use Rattle.cca_base.specs.declared.cube.Pair.{Pair}
 use Rattle.cca_base.specs.declared.events.Reply.TheVariants as reply
-use Rattle.cca_base.specs.Accepted.{CompiledParts}
+use Rattle.cca_base.specs.Accepted.{CompiledModel}
 use Rattle.cca_base.specs.Goals.{IsFirstUnreached}
 use Rattle.cca_base.specs.Model.{HasMode, is_broken}
 use Rattle.cca_base.specs.Orders.{IsFirstMissing}
@@ -12,10 +12,10 @@ use Rattle.cca_base.specs.Plans.{Promising, CanBeServed}
 use Rattle.cca_base.specs.Runs.{is_unreachable}
 use Rattle.cca_base.specs.State.{Extends}
 use Rattle.cca_base.specs.Steps.{Reach}
-use Rattle.cca_base.specs.Choice.{Chosen}
+use Rattle.cca_base.specs.Choice.{IsChosenReply}
 use Rattle.cca_base.proofs.Members.{all_from, contains_here}
 use Rattle.cca_base.proofs.Within.{mode_within}
-use Rattle.cca_laws.proofs.GoalsLemmas.{same_split}
+use Rattle.cca_laws.proofs.GoalLaws.{same_split}
 use Rattle.reach_laws.specs.Classes.{AreInside}
 use Rattle.reach_laws.specs.Cells.{Finds}
 use Rattle.reach_laws.specs.Plans.{IsAnswer}
@@ -25,7 +25,7 @@ use Rattle.reach_laws.proofs.CellLaws.{found_is_picked}
 use Rattle.reach_laws.proofs.PlanLaws.{serialisation}
 use Rattle.reach_laws.proofs.Trails.{order_few}
 use Rattle.reach_laws.proofs.Answered.{answers_are_chosen}
-use Rattle.reversibility.specs.Parts.{CoversState}
+use Rattle.reversibility.specs.ClassParts.{CoversState}
 use Rattle.policy_tables.specs.Tables.{TableParts, IsTables}
 use Rattle.planner_step.specs.declared.answer.Answer.{Answer}
 use Rattle.planner_step.specs.declared.answer.Answer.TheVariants.{Send, Achieved, Unreachable}
@@ -38,12 +38,12 @@ same_pair : (c mode : ℕ) (p : Pair) → Unreachable c mode ≡ Unreachable p.i
 same_pair c mode p h = (cc, cc)
 
 -- the first pair that is not reached is one
-one_unreached : (b : CompiledParts) (s : List ℕ) (goal : List Pair) (p q : Pair) → IsFirstUnreached b.model s goal p → IsFirstUnreached b.model s goal q → p ≡ q
+one_unreached : (b : CompiledModel) (s : List ℕ) (goal : List Pair) (p q : Pair) → IsFirstUnreached b.model s goal p → IsFirstUnreached b.model s goal q → p ≡ q
 one_unreached b s goal p q h k =
     same_split (λ r. Reach b.model s r.item r.value) h.before h.after k.before k.after p q h.reached k.reached h.unreached k.unreached (sym h.split ∙ k.split)
 
 module _ (t : TableParts) (is : IsTables t) (s : List ℕ) (cov : CoversState t.classes s) (goal : List Pair) (g : IsGoal t.classes.compiled goal) where
-  abbrev b : CompiledParts
+  abbrev b : CompiledModel
   b = t.classes.compiled
 
   pub goal_within : All (λ p. p.item < length s) goal
@@ -103,7 +103,7 @@ module _ (t : TableParts) (is : IsTables t) (s : List ℕ) (cov : CoversState t.
 
   -- ---- what they say
 
-  pub chosen : (answer : Answer) → IsAnswer (member_of t) (cells_of t) s goal (reply_of answer) → Chosen b s goal (reply_of answer)
+  chosen : (answer : Answer) → IsAnswer (member_of t) (cells_of t) s goal (reply_of answer) → IsChosenReply b s goal (reply_of answer)
   chosen answer h = answers_are_chosen b t.classes.base (member_of t) (cells_of t) is.classes.compiled is.cells.policy s (setting t is s cov) goal g.in_order g.sound (reply_of answer) h
 
   held_served : Extends s goal → CanBeServed b s goal

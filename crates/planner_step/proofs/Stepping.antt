@@ -1,18 +1,18 @@
 -- What the cell of a wanted pair leads to.
 use Rattle.std.proofs.Common.{◌≡◌, ◌≢◌, ◌<◌, ℕ, List, length, slice_get, slice_index, Some, All, refl, sym, ap, ◌∙◌, inl, inr}
 use Rattle.std.proofs.lemmas.Bool.{both_ways}
+use Rattle.list_laws.proofs.Places.{value_at}
 use Rattle.cca_base.specs.declared.cube.Pair.{Pair}
-use Rattle.cca_base.specs.Accepted.{CompiledParts}
+use Rattle.cca_base.specs.Accepted.{CompiledModel}
 use Rattle.cca_base.specs.Orders.{IsFirstMissing}
 use Rattle.cca_base.specs.State.{Extends}
 use Rattle.cca_base.proofs.Members.{all_from}
 use Rattle.reach_laws.specs.declared.cell.Cell.{Cell}
 use Rattle.reach_laws.specs.declared.cell.Cell.TheVariants as cell
 use Rattle.reach_laws.specs.Cells.{cell_at, IsStep, IsCell, Finds}
-use Rattle.reach_laws.proofs.Facts.{at_get}
 use Rattle.reach_laws.proofs.Order.{IsOrder, order_from}
 use Rattle.reach_laws.proofs.Cells.{cell_step, step_inside, step_needs, missing_among}
-use Rattle.reversibility.specs.Parts.{CoversState}
+use Rattle.reversibility.specs.ClassParts.{CoversState}
 use Rattle.policy_tables.specs.Tables.{TableParts, IsTables}
 use Rattle.planner_step.specs.Planning.{cells_of, member_of}
 use Rattle.planner_step.specs.Toward.{IsWantedPair, GoesOn}
@@ -20,7 +20,7 @@ use Rattle.planner_step.proofs.Covered.{inside_within, inside_place}
 use Rattle.planner_step.proofs.Later.{later, later_less}
 
 module _ (t : TableParts) (is : IsTables t) (s : List ℕ) (cov : CoversState t.classes s) where
-  abbrev b : CompiledParts
+  abbrev b : CompiledModel
   b = t.classes.compiled
 
   -- the cell of a wanted pair
@@ -34,7 +34,7 @@ module _ (t : TableParts) (is : IsTables t) (s : List ℕ) (cov : CoversState t.
       the_step = (cell_step b (member_of t) p.item mode p.value x number command cube left right is_step).2
 
       cell_is : cells_of t p.item (slice_index s p.item) p.value ≡ cell.Step number command cube left
-      cell_is = ap (λ m. cells_of t p.item m p.value) (at_get s p.item mode at) ∙ (sym place ∙ is_step)
+      cell_is = ap (λ m. cells_of t p.item m p.value) (value_at s p.item mode at) ∙ (sym place ∙ is_step)
 
       pub cube_within : All (λ q. q.item < length s) cube
       cube_within = all_from (λ q. q.item < length s) cube (λ q among.

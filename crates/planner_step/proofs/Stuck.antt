@@ -1,7 +1,7 @@
 -- Broken components where tables cover a state: what is mendable is what can be mended.
 use Rattle.std.proofs.Common.{◌≡◌, ◌<◌, ◌↔◌, ℕ, true, List, length, slice_get, slice_index, Some, sym, subst, inl, inr}
 use Rattle.std.proofs.lemmas.Bool.{both_ways}
-use Rattle.cca_base.specs.Accepted.{CompiledParts}
+use Rattle.cca_base.specs.Accepted.{CompiledModel}
 use Rattle.cca_base.specs.Flags.{is_set}
 use Rattle.cca_base.specs.Model.{WellFormed, IsMended, is_broken}
 use Rattle.cca_base.specs.Steps.{Reach}
@@ -11,7 +11,7 @@ use Rattle.reach_laws.proofs.Order.{repair_rules}
 use Rattle.reach_laws.proofs.Walk.{way_on, repairs_from, home_member, member_sound}
 use Rattle.reach_laws.proofs.Sound.{class_is_reach, mending_one}
 use Rattle.reach_laws.proofs.Answered.{on_way_base}
-use Rattle.reversibility.specs.Parts.{CoversState}
+use Rattle.reversibility.specs.ClassParts.{CoversState}
 use Rattle.policy_tables.specs.Tables.{TableParts, IsTables}
 use Rattle.planner_step.specs.Planning.{member_of}
 use Rattle.planner_step.proofs.Covered.{setting, stands_in}
@@ -19,7 +19,7 @@ use Rattle.planner_step.specs.Served.{IsStuck}
 use Rattle.cca_base.proofs.NextModes.{one_mended}
 
 module _ (t : TableParts) (is : IsTables t) (s : List ℕ) (cov : CoversState t.classes s) where
-  abbrev b : CompiledParts
+  abbrev b : CompiledModel
   b = t.classes.compiled
 
   abbrev well : WellFormed b.model

@@ -3,15 +3,15 @@ use Rattle.std.specs.Prelude.{ℕ, List, All}
 use Rattle.cca_base.specs.declared.cube.Pair.{Pair}
 use Rattle.cca_base.specs.declared.events.Reply.{Reply}
 use Rattle.cca_base.specs.declared.events.Reply.TheVariants as reply
-use Rattle.cca_base.specs.Automata.{Automata}
-use Rattle.cca_base.specs.Accepted.{CompiledParts}
+use Rattle.cca_base.specs.PlantModel.{PlantModel}
+use Rattle.cca_base.specs.Accepted.{CompiledModel}
 use Rattle.cca_base.specs.Model.{HasMode}
 use Rattle.cca_base.specs.Orders.{AreInOrder}
 use Rattle.cca_base.specs.Steps.{Reach}
 use Rattle.reach_laws.specs.Cells.{Cells, cell_at}
 use Rattle.reach_laws.specs.Classes.{Test}
 use Rattle.reach_laws.specs.Plans.{IsSoundGoal}
-use Rattle.reversibility.specs.Parts.{in_row}
+use Rattle.reversibility.specs.ClassParts.{in_row}
 use Rattle.policy_tables.specs.Tables.{TableParts}
 use Rattle.planner_step.specs.declared.answer.Answer.{Answer}
 use Rattle.planner_step.specs.declared.answer.Answer.TheVariants.{Send, Achieved, Unreachable}
@@ -31,11 +31,11 @@ reply_of Achieved = reply.Achieved
 reply_of (Unreachable c mode) = reply.Unreachable c mode
 
 -- allowed plans reach each of the pairs
-abbrev pub AreReached : Automata → List ℕ → List Pair → Type 0
+abbrev pub AreReached : PlantModel → List ℕ → List Pair → Type 0
 AreReached m s pairs = All (λ p. Reach m s p.item p.value) pairs
 
 -- a sorted goal of modes that are not broken
-pub record IsGoal (b : CompiledParts) (goal : List Pair) : Type 0 where
+pub record IsGoal (b : CompiledModel) (goal : List Pair) : Type 0 where
   pub in_order : AreInOrder b.order goal
   pub modes : All (λ p. HasMode b.model p.item p.value) goal
   pub sound : IsSoundGoal b.model goal

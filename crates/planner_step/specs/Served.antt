@@ -1,7 +1,7 @@
 -- What the picked commands to a goal keep.
 use Rattle.std.specs.Prelude.{◌≡◌, ◌≢◌, ◌<◌, ◌≤◌, ℕ, true, false, List, ◌++◌, length, slice_index, Contains}
 use Rattle.cca_base.specs.declared.cube.Pair.{Pair}
-use Rattle.cca_base.specs.Automata.{Automata}
+use Rattle.cca_base.specs.PlantModel.{PlantModel}
 use Rattle.cca_base.specs.Bounds.{stated_number}
 use Rattle.cca_base.specs.Flags.{is_set}
 use Rattle.cca_base.specs.Implicants.{Ancestor}
@@ -9,27 +9,27 @@ use Rattle.cca_base.specs.Model.{is_broken}
 use Rattle.cca_base.specs.State.{Extends}
 use Rattle.cca_base.specs.Steps.{Run, AllowedPlan}
 use Rattle.cca_base.specs.Plans.{Whole}
-use Rattle.reversibility.specs.Parts.{ClassParts, CoversState}
+use Rattle.reversibility.specs.ClassParts.{ClassParts, CoversState}
 use Rattle.policy_tables.specs.Tables.{TableParts}
 
 -- the first commands lead from the state to mid, and the rest of the commands are left
-pub record Passes (m : Automata) (s ks mid rest : List ℕ) : Type 0 where
+pub record Passes (m : PlantModel) (s ks mid rest : List ℕ) : Type 0 where
   pub first : List ℕ
   pub split : ks ≡ first ++ rest
   pub run : Run m s first mid
 
 -- where the first pairs of the goal stand at some place of the plan, they stand from there to its end
-abbrev pub KeepsStanding : Automata → List Pair → List ℕ → List ℕ → Type 0
+abbrev pub KeepsStanding : PlantModel → List Pair → List ℕ → List ℕ → Type 0
 KeepsStanding m goal s ks = (before after : List Pair) → goal ≡ before ++ after
     → (early left : List ℕ) → Passes m s ks early left → Extends early before
     → (late rest : List ℕ) → Passes m early left late rest → Extends late before
 
 -- the component stands all along the plan where it stood at first
-abbrev pub StaysAlong : Automata → List ℕ → List ℕ → ℕ → Type 0
+abbrev pub StaysAlong : PlantModel → List ℕ → List ℕ → ℕ → Type 0
 StaysAlong m s ks d = (mid rest : List ℕ) → Passes m s ks mid rest → slice_index mid d ≡ slice_index s d
 
 -- the component is none of the goal's, and no ancestor of one
-abbrev pub IsApart : Automata → List Pair → ℕ → Type 0
+abbrev pub IsApart : PlantModel → List Pair → ℕ → Type 0
 IsApart m goal d = (p : Pair) → Contains goal p → (d ≢ p.item) × (Ancestor m p.item d → ⊥)
 
 -- the component is broken in the state, and not mendable

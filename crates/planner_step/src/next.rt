@@ -7,7 +7,7 @@ ghost use Rattle.cca_base.specs.Plans.{Promising};
 ghost use Rattle.cca_base.specs.Runs.{is_unreachable};
 ghost use Rattle.cca_base.specs.State.{Extends};
 ghost use Rattle.reach_laws.specs.Plans.{IsAnswer};
-ghost use Rattle.reversibility.specs.Parts.{CoversState};
+ghost use Rattle.reversibility.specs.ClassParts.{CoversState};
 ghost use Rattle.planner_step.specs.declared.answer.Answer.TheVariants.{Achieved, Unreachable};
 ghost use Rattle.planner_step.specs.Planning.{cells_of, member_of, reply_of, AreReached, IsGoal};
 ghost use Rattle.planner_step.specs.Served.{IsPlanTo};
@@ -30,6 +30,7 @@ fn answer_by_rule<L: Ledger>(
     requires covers { CoversState tables.now.classes state.now.modes }
     requires goal { IsGoal tables.now.classes.compiled goal.now.pairs }
     ensures rule { IsAnswer (member_of tables.now) (cells_of tables.now) state.now.modes goal.now.pairs (reply_of result) }
+    ensures counts { steps.old ≤ steps.new }
     ensures steps { steps.new ≤ steps.old + 2 * length tables.now.classes.compiled.model.components }
 {
     let _classes = tables.classes();
@@ -47,7 +48,7 @@ fn answer_by_rule<L: Ledger>(
 }
 
 /// The answer for the goal, by the tables alone. It takes no memory, and at most twice as many steps as there are
-/// components.
+/// components, each of which is counted.
 pub fn next_command<L: Ledger>(
     tables: &Tables,
     state: &State,
@@ -65,6 +66,7 @@ pub fn next_command<L: Ledger>(
     ensures plan { AreReached tables.now.classes.compiled.model state.now.modes goal.now.pairs
         → (ks last : List ℕ) × IsPlanTo tables.now state.now.modes goal.now.pairs ks last }
     ensures rule { IsAnswer (member_of tables.now) (cells_of tables.now) state.now.modes goal.now.pairs (reply_of result) }
+    ensures counts { steps.old ≤ steps.new }
     ensures steps { steps.new ≤ steps.old + 2 * length tables.now.classes.compiled.model.components }
 {
     let _classes = tables.classes();

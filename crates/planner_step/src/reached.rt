@@ -3,7 +3,7 @@
 ghost use Rattle.std.specs.Prelude.{◌<◌, ◌≤◌, ◌+◌, All, MatchOption, length};
 ghost use Rattle.cca_base.specs.Goals.{IsFirstUnreached};
 ghost use Rattle.reach_laws.specs.Plans.{IsSoundGoal};
-ghost use Rattle.reversibility.specs.Parts.{CoversState};
+ghost use Rattle.reversibility.specs.ClassParts.{CoversState};
 ghost use Rattle.planner_step.specs.Planning.{AreReached};
 
 use cca_base::{Pair, State, Steps};
@@ -23,6 +23,7 @@ pub(crate) fn first_unreached<L: Ledger>(
     ensures value { MatchOption result
         (AreReached tables.now.classes.compiled.model state.now.modes pairs.now)
         (IsFirstUnreached tables.now.classes.compiled.model state.now.modes pairs.now) }
+    ensures counts { steps.old ≤ steps.new }
     ensures steps { steps.new ≤ steps.old + length pairs.now }
 {
     let _classes = tables.classes();

@@ -2,7 +2,7 @@
 
 ghost use Rattle.std.specs.Prelude.{◌≡◌, ◌+◌, ℕ};
 ghost use Rattle.reach_laws.specs.Cells.{Finds};
-ghost use Rattle.reversibility.specs.Parts.{CoversState};
+ghost use Rattle.reversibility.specs.ClassParts.{CoversState};
 ghost use Rattle.planner_step.specs.Planning.{cells_of};
 ghost use Rattle.planner_step.specs.Toward.{IsWantedPair, CellSays};
 

@@ -1,9 +1,10 @@
 -- The first level is the distance, and moves that lead near approach.
-use Rattle.std.proofs.Common.{◌≡◌, ◌≢◌, ◌<◌, ◌≤◌, ◌-◌, ℕ, zero, suc, List, [], ◌∷◌, length, slice_get, slice_index, Some, refl, sym, ap, subst, ◌∙◌, inl, inr, arith}
+use Rattle.std.proofs.Common.{◌≡◌, ◌≢◌, ◌<◌, ◌≤◌, ◌-◌, ℕ, zero, suc, List, length, slice_get, slice_index, Some, refl, sym, ap, subst, ◌∙◌, inl, inr, arith}
 use Rattle.std.proofs.lemmas.Bool.{cases_lt, cases_order}
 use Rattle.std.proofs.lemmas.Option.{slice_get_within, slice_get-get_or}
+use Rattle.list_laws.proofs.Places.{some_at}
 use Rattle.cca_base.specs.declared.model.Move.{Move}
-use Rattle.cca_base.specs.Automata.{Automata}
+use Rattle.cca_base.specs.PlantModel.{PlantModel}
 use Rattle.cca_base.specs.Model.{WellFormed, HasMode, mode_counts}
 use Rattle.reach_laws.specs.Classes.{Test, OpenMove, OpenWalk, Joined}
 use Rattle.reach_laws.specs.Cells.{IsShortest, Approaches}
@@ -12,12 +13,7 @@ use Rattle.reversibility.specs.Levels.{IsNear, IsLevel, AreLevelsOf}
 use Rattle.policy_tables.specs.Distances.{IsFirstLevel, IsNoLevel, LeadsNear}
 use Rattle.reversibility.proofs.Shortest.{to_open, from_open, target_mode}
 
-all_there : {X : Type 0} (xs : List X) (i : ℕ) → i < length xs → (x : X) × (slice_get xs i ≡ Some x)
-all_there [] i h = absurd (omega (arith, h))
-all_there (x ∷ xs) zero h = (x, refl)
-all_there (x ∷ xs) (suc i) h = all_there xs i (omega (arith, h))
-
-module _ (m : Automata) (w : WellFormed m) (member : Test) (c : ℕ) where
+module _ (m : PlantModel) (w : WellFormed m) (member : Test) (c : ℕ) where
   abbrev modes : ℕ
   modes = slice_index (mode_counts m) c
 
@@ -28,7 +24,7 @@ module _ (m : Automata) (w : WellFormed m) (member : Test) (c : ℕ) where
     -- what is joined is in the last level
     pub no_level : (from to : ℕ) → HasMode m c from → Joined m member c from to → IsNoLevel levels from to → ⊥
     no_level from to has_from joined none =
-        let last = all_there levels (length levels - 1) (omega (arith, of.some)) in
+        let last = some_at levels (length levels - 1) (omega (arith, of.some)) in
         none (length levels - 1) last.0 last.1 (of.last last.0 last.1 from to has_from joined)
 
     pub level_shortest : (from to k : ℕ) → HasMode m c from → IsFirstLevel levels from to k → IsShortest m member c from to k
@@ -37,7 +33,7 @@ module _ (m : Automata) (w : WellFormed m) (member : Test) (c : ℕ) where
         let level : IsLevel (OpenMove m member c) modes k first.level = of.each k first.level first.at in
         let near : IsNear (OpenMove m member c) k from to = (level.each from to has_from).0 first.leads in
         let none : (j : ℕ) → j < k → OpenWalk m member c from to j → ⊥ = λ j lt walk.
-        (let there = all_there levels j (omega (arith, lt, within)) in
+        (let there = some_at levels j (omega (arith, lt, within)) in
         let at_j : IsLevel (OpenMove m member c) modes j there.0 = of.each j there.0 there.1 in
         first.first j there.0 lt there.1 ((at_j.each from to has_from).1
         (record { count = j; few = omega arith; walk = from_open m w member c from to j walk }))) in

@@ -4,7 +4,7 @@ use Rattle.std.proofs.lemmas.Bool.{cases_lt}
 use Rattle.std.proofs.lemmas.List.{get_or-take, length-take-le, get_or_default, get_or_append_left, get_or_push}
 use Rattle.std.proofs.lemmas.Nat.{same_from_place, mul-add-lt}
 use Rattle.cca_base.specs.declared.cube.Pair.{Pair}
-use Rattle.cca_base.specs.Automata.{Automata}
+use Rattle.cca_base.specs.PlantModel.{PlantModel}
 use Rattle.cca_base.specs.Cube.{IsCube, Lacks}
 use Rattle.cca_base.specs.Model.{HasMode, mode_counts}
 use Rattle.cca_base.proofs.Within.{mode_within}
@@ -14,7 +14,7 @@ use Rattle.reach_laws.specs.Classes.{Joined}
 use Rattle.reach_laws.specs.Cells.{cell_at, AreCells}
 use Rattle.reach_laws.proofs.Order.{repair_rules}
 use Rattle.reach_laws.proofs.Sound.{covered_joined}
-use Rattle.reversibility.specs.Parts.{ClassParts, IsClasses, in_row}
+use Rattle.reversibility.specs.ClassParts.{ClassParts, IsClasses, in_row}
 use Rattle.policy_tables.specs.Filling.{IsRightCell, MayStand, AreRightTo, AreRightRows, AreRightCells, AreFilledTo}
 
 -- ---- cubes in order
@@ -69,7 +69,7 @@ filled_next p rows n row h is = record {
 
 pub filled_all : (p : ClassParts) (rows : List (List Cell)) (n : ℕ) → n ≡ length p.compiled.model.components → AreFilledTo p rows n → AreCells p.compiled p.base (in_row p.rows) rows
 filled_all p rows n all h =
-    let m : Automata = p.compiled.model in
+    let m : PlantModel = p.compiled.model in
     let counts : ℕ → ℕ = λ c. slice_index (mode_counts m) c in
     let right : (c from to : ℕ) → HasMode m c from → HasMode m c to → IsRightCell p c from to (cell_at m rows c from to) = λ c from to has_from has_to.
     (h.each c (subst (λ k. c < k) (sym all) (mode_within m c from has_from))).each from to has_to (mul-add-lt from (counts c) to (counts c) has_from has_to) in

@@ -1,8 +1,5 @@
 -- Of cubes in cube order the first that is inside the classes has no other one inside before it.
 use Rattle.std.proofs.Common.{◌≡◌, ◌<◌, ℕ, List, length, get_or, take, Contains, sym, ap, subst, ◌∙◌, inl, inr, arith}
-use Rattle.std.specs.Ordering.{ordering_reverse}
-use Rattle.std.specs.declared.cmp.Ordering.{Ordering}
-use Rattle.std.specs.declared.cmp.Ordering.TheVariants.{Less, Greater}
 use Rattle.std.proofs.lemmas.Bool.{cases_order}
 use Rattle.std.proofs.lemmas.List.{get_or-take, length-take-le}
 use Rattle.std.proofs.lemmas.List.Elements.{All-contains}
@@ -10,15 +7,8 @@ use Rattle.std.proofs.lemmas.Option.{slice_get_within, get_or_from_slice_get}
 use Rattle.cca_base.specs.declared.cube.Pair.{Pair}
 use Rattle.cca_base.specs.Cube.{AreInCubeOrder, IsBeforeCube}
 use Rattle.reach_laws.specs.Classes.{Test, AreInside}
-use Rattle.cca_laws.proofs.OrderLemmas.{cube_total}
+use Rattle.cca_laws.proofs.OneOrder.{one_way_cubes}
 use Rattle.policy_tables.specs.Leaving.{IsFirstInside}
-
-less_greater : ◌≡◌ {A = Ordering} Less Greater → ⊥
-less_greater h = cc
-
--- no two cubes each come before the other
-one_way_cubes : (a b : List Pair) → IsBeforeCube a b → IsBeforeCube b a → ⊥
-one_way_cubes a b h k = less_greater (sym h ∙ cube_total.antisymm a b ∙ ap ordering_reverse k)
 
 pub first_inside : (member : Test) (cubes : List (List Pair)) → AreInCubeOrder cubes → (i : ℕ) → (h : IsFirstInside member cubes i)
     → (other : List Pair) → Contains cubes other → AreInside member other → IsBeforeCube other h.cube → ⊥

@@ -5,8 +5,8 @@ use Rattle.std.proofs.lemmas.List.{get_or_append_left, get_or_push}
 use Rattle.std.proofs.lemmas.List.Elements.{All-contains}
 use Rattle.cca_base.specs.declared.cube.Pair.{Pair}
 use Rattle.cca_base.specs.declared.model.Move.{Move}
-use Rattle.cca_base.specs.Accepted.{CompiledParts}
-use Rattle.cca_base.specs.Automata.{Automata}
+use Rattle.cca_base.specs.Accepted.{CompiledModel}
+use Rattle.cca_base.specs.PlantModel.{PlantModel}
 use Rattle.cca_base.specs.Implicants.{PrimeImplicant}
 use Rattle.cca_base.specs.Model.{WellFormed, IsMove, HasMode, mode_counts}
 use Rattle.cca_base.specs.Relations.{AreExactly}
@@ -14,7 +14,7 @@ use Rattle.cca_base.proofs.Members.{some_inj}
 use Rattle.reach_laws.specs.Classes.{Test}
 use Rattle.reach_laws.specs.Cells.{IsShortest, IsStep}
 use Rattle.reach_laws.proofs.Needed.{move_in}
-use Rattle.reversibility.specs.Parts.{in_row}
+use Rattle.reversibility.specs.ClassParts.{in_row}
 use Rattle.reversibility.specs.Levels.{IsOpenNumber, AreOpenMoves, AreMovesWithin, IsLevel, IsAmong}
 use Rattle.reach_laws.specs.Classes.{OpenMove}
 use Rattle.reversibility.proofs.Exactly.{exactly_here, exactly_place, exactly_earlier}
@@ -22,7 +22,7 @@ use Rattle.policy_tables.specs.Distances.{NearAt, IsFirstPlace, LeadsNear, IsFir
 use Rattle.policy_tables.specs.Leaving.{LeavesMode, IsLeaving, AreLeaving, IsOpenAt, IsCubeOf, AreCubesTo}
 use Rattle.policy_tables.proofs.Approach.{approach_to, approach_from}
 
-module _ (m : Automata) (w : WellFormed m) (member : Test) (c from : ℕ) where
+module _ (m : PlantModel) (w : WellFormed m) (member : Test) (c from : ℕ) where
   -- of the open moves those that leave the mode
   pub leaving_from : (numbers leaving : List ℕ) → AreOpenMoves m member c numbers → AreExactly (λ i. IsAmong numbers (length numbers) i × LeavesMode m from i) leaving
       → AreLeaving m member c from leaving
@@ -86,7 +86,7 @@ module _ (m : Automata) (w : WellFormed m) (member : Test) (c from : ℕ) where
 
 -- ---- cubes
 
-pub cubes_next : (b : CompiledParts) (member : Test) (numbers : List ℕ) (cubes : List (List Pair)) (n : ℕ) (cube : List Pair) → AreCubesTo b member numbers cubes n
+pub cubes_next : (b : CompiledModel) (member : Test) (numbers : List ℕ) (cubes : List (List Pair)) (n : ℕ) (cube : List Pair) → AreCubesTo b member numbers cubes n
     → IsCubeOf b member (slice_index numbers n) cube → AreCubesTo b member numbers (cubes ++ cube ∷ []) (n + 1)
 cubes_next b member numbers cubes n cube h is = record {
   full = length-append cubes (cube ∷ []) ∙ ap (λ k. k + 1) h.full;
@@ -100,7 +100,7 @@ cubes_next b member numbers cubes n cube h is = record {
 
 -- ---- steps
 
-module _ (b : CompiledParts) (w : WellFormed b.model) (member : Test) (c from to rest : ℕ) (shortest : IsShortest b.model member c from to (suc rest)) (level : List ℕ)
+module _ (b : CompiledModel) (w : WellFormed b.model) (member : Test) (c from to rest : ℕ) (shortest : IsShortest b.model member c from to (suc rest)) (level : List ℕ)
     (is : IsLevel (OpenMove b.model member c) (slice_index (mode_counts b.model) c) rest level) where
   -- the first move that leads near, with its cube, is the step
   pub step_is : (i : ℕ) → IsFirstNear b.model member level c from to i → (move : Move) → slice_get b.model.moves i ≡ Some move → (cube : List Pair) → IsCubeOf b member i cube

@@ -5,7 +5,7 @@ use Rattle.reach_laws.specs.declared.cell.Cell.{Cell}
 use Rattle.reach_laws.specs.declared.cell.Cell.TheVariants as cell
 use Rattle.reach_laws.specs.Cells.{IsCell}
 use Rattle.reach_laws.specs.Classes.{Stands}
-use Rattle.reversibility.specs.Parts.{ClassParts, in_row}
+use Rattle.reversibility.specs.ClassParts.{ClassParts, in_row}
 
 -- the component may stand in the mode
 abbrev pub MayStand : ClassParts → ℕ → ℕ → Type 0

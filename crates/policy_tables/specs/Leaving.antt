@@ -2,8 +2,8 @@
 use Rattle.std.specs.Prelude.{◌≡◌, ◌<◌, ℕ, List, [], length, slice_get, slice_index, slice_index_or, Some, All, take}
 use Rattle.cca_base.specs.declared.cube.Pair.{Pair}
 use Rattle.cca_base.specs.declared.model.Move.{Move}
-use Rattle.cca_base.specs.Accepted.{CompiledParts}
-use Rattle.cca_base.specs.Automata.{Automata}
+use Rattle.cca_base.specs.Accepted.{CompiledModel}
+use Rattle.cca_base.specs.PlantModel.{PlantModel}
 use Rattle.cca_base.specs.Cube.{IsBeforeCube}
 use Rattle.cca_base.specs.Implicants.{PrimeImplicant}
 use Rattle.cca_base.specs.Orders.{IsSorted}
@@ -12,11 +12,11 @@ use Rattle.policy_tables.specs.declared.leaving.Leaving.{Leaving}
 use Rattle.reach_laws.specs.Classes.{Test, AreInside, IsOpen}
 
 -- the number is that of a move that leaves the mode
-abbrev pub LeavesMode : Automata → ℕ → ℕ → Type 0
+abbrev pub LeavesMode : PlantModel → ℕ → ℕ → Type 0
 LeavesMode m from i = (move : Move) × (slice_get m.moves i ≡ Some move) × (move.source ≡ from)
 
 -- the number is that of an open move of the component that leaves the mode
-pub record IsLeaving (m : Automata) (member : Test) (c from i : ℕ) : Type 0 where
+pub record IsLeaving (m : PlantModel) (member : Test) (c from i : ℕ) : Type 0 where
   pub move : Move
   pub move_at : slice_get m.moves i ≡ Some move
   pub own : move.component ≡ c
@@ -24,7 +24,7 @@ pub record IsLeaving (m : Automata) (member : Test) (c from i : ℕ) : Type 0 wh
   pub open_move : IsOpen m member move
 
 -- exactly the numbers of the component's open moves that leave the mode, rising
-abbrev pub AreLeaving : Automata → Test → ℕ → ℕ → List ℕ → Type 0
+abbrev pub AreLeaving : PlantModel → Test → ℕ → ℕ → List ℕ → Type 0
 AreLeaving m member c from = AreExactly (IsLeaving m member c from)
 
 -- the first of the cubes that is inside the classes
@@ -35,11 +35,11 @@ pub record IsFirstInside (member : Test) (cubes : List (List Pair)) (i : ℕ) : 
   pub first : All (λ other. AreInside member other → ⊥) (take i cubes)
 
 -- the number is that of an open move
-abbrev pub IsOpenAt : Automata → Test → ℕ → Type 0
+abbrev pub IsOpenAt : PlantModel → Test → ℕ → Type 0
 IsOpenAt m member i = (move : Move) × (slice_get m.moves i ≡ Some move) × IsOpen m member move
 
 -- the move's first prime implicant, in cube order, inside the classes, with its pairs effects first
-pub record IsCubeOf (b : CompiledParts) (member : Test) (i : ℕ) (cube : List Pair) : Type 0 where
+pub record IsCubeOf (b : CompiledModel) (member : Test) (i : ℕ) (cube : List Pair) : Type 0 where
   pub move : Move
   pub move_at : slice_get b.model.moves i ≡ Some move
   pub plain : List Pair
@@ -49,11 +49,11 @@ pub record IsCubeOf (b : CompiledParts) (member : Test) (i : ℕ) (cube : List P
   pub sorted : IsSorted b.order plain cube
 
 -- the cubes of the first moves
-pub record AreCubesTo (b : CompiledParts) (member : Test) (numbers : List ℕ) (cubes : List (List Pair)) (n : ℕ) : Type 0 where
+pub record AreCubesTo (b : CompiledModel) (member : Test) (numbers : List ℕ) (cubes : List (List Pair)) (n : ℕ) : Type 0 where
   pub full : length cubes ≡ n
   pub each : (k : ℕ) → k < n → IsCubeOf b member (slice_index numbers k) (slice_index_or cubes k [])
 
 -- the open moves that leave the mode, each with its cube
-pub record IsLeavingOf (b : CompiledParts) (member : Test) (l : Leaving) : Type 0 where
+pub record IsLeavingOf (b : CompiledModel) (member : Test) (l : Leaving) : Type 0 where
   pub numbers : AreLeaving b.model member l.component l.mode l.numbers
   pub cubes : AreCubesTo b member l.numbers l.cubes (length l.numbers)

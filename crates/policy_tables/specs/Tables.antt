@@ -2,7 +2,7 @@
 use Rattle.std.specs.Prelude.{◌≡◌, ◌≢◌, ℕ, false, suc, List, slice_get, Some}
 use Rattle.cca_base.specs.declared.cube.Pair.{Pair}
 use Rattle.cca_base.specs.declared.model.Move.{Move}
-use Rattle.cca_base.specs.Accepted.{CompiledParts}
+use Rattle.cca_base.specs.Accepted.{CompiledModel}
 use Rattle.cca_base.specs.Choice.{IsChosen}
 use Rattle.cca_base.specs.Model.{is_broken}
 use Rattle.cca_base.specs.Orders.{IsSorted}
@@ -10,7 +10,7 @@ use Rattle.cca_base.specs.Steps.{Reach}
 use Rattle.reach_laws.specs.declared.cell.Cell.{Cell}
 use Rattle.reach_laws.specs.declared.cell.Cell.TheVariants as cell
 use Rattle.reach_laws.specs.Cells.{AreCells}
-use Rattle.reversibility.specs.Parts.{ClassParts, IsClasses, CoversState, in_row}
+use Rattle.reversibility.specs.ClassParts.{ClassParts, IsClasses, CoversState, in_row}
 
 -- classes with their cells
 pub record TableParts : Type 0 where
@@ -23,7 +23,7 @@ pub record IsTables (t : TableParts) : Type 0 where
   pub cells : AreCells t.classes.compiled t.classes.base (in_row t.classes.rows) t.cells
 
 -- the cell stays where the component stands there, and is else the chosen move with its command, its chosen cube effects first, and its distance
-abbrev pub IsChoice : CompiledParts → List ℕ → ℕ → ℕ → Cell → Type 0
+abbrev pub IsChoice : CompiledModel → List ℕ → ℕ → ℕ → Cell → Type 0
 IsChoice b s c to cell.Stay = slice_get s c ≡ Some to
 IsChoice b s c to (cell.Step number command cube left) = (slice_get s c ≢ Some to)
     × ((move : Move) × (plain : List Pair) × (chosen : IsChosen b.model s c to move plain)

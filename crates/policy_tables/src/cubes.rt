@@ -4,7 +4,7 @@ ghost use Rattle.std.specs.Prelude.{◌≡◌, ◌<◌, ℕ, IfOk, MatchOption, 
 ghost use Rattle.cca_base.specs.Orders.{IsSorted};
 ghost use Rattle.policy_tables.specs.Leaving.{IsFirstInside, IsOpenAt, IsCubeOf, AreCubesTo};
 ghost use Rattle.reach_laws.specs.Classes.{AreInside};
-ghost use Rattle.reversibility.specs.Parts.{in_row};
+ghost use Rattle.reversibility.specs.ClassParts.{in_row};
 
 use causal_graph::sort_goal;
 use cca_base::{Compiled, Cube, List, ValueSet};

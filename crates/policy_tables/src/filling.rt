@@ -5,7 +5,7 @@ ghost use Rattle.cca_base.specs.Model.{HasMode, mode_counts};
 ghost use Rattle.policy_tables.specs.Filling.{MayStand, AreRightRows, AreRightCells};
 ghost use Rattle.policy_tables.specs.Leaving.{IsLeavingOf};
 ghost use Rattle.reach_laws.specs.Cells.{IsCell};
-ghost use Rattle.reversibility.specs.Parts.{in_row};
+ghost use Rattle.reversibility.specs.ClassParts.{in_row};
 ghost use Rattle.reversibility.specs.Paths.{ArePaths};
 
 use crate::leaving::{Leaving, leaving_of};
@@ -78,34 +78,48 @@ fn fill_row(
 }
 
 /// Puts a cell that says never for each mode behind the others.
-fn skip_row(classes: &Classes, c: u16, from: u8, cells: &mut List<Cell>) -> Result<(), AllocError>
-    requires within { c < length classes.now.compiled.model.components }
-    requires stands { MayStand classes.now c from → ⊥ }
-    requires rows { AreRightRows classes.now c from cells.old }
-    ensures { OnOk result (AreRightRows classes.now c (from + 1) cells.new) }
+fn skip_row(
+    classes: &Classes,
+    component: u16,
+    from: u8,
+    cells: &mut List<Cell>,
+) -> Result<(), AllocError>
+    requires within { component < length classes.now.compiled.model.components }
+    requires stands { MayStand classes.now component from → ⊥ }
+    requires rows { AreRightRows classes.now component from cells.old }
+    ensures { OnOk result (AreRightRows classes.now component (from + 1) cells.new) }
 {
     let components = classes.compiled().model().components();
-    for _to in 0..components.get(c as usize).modes.len() {
+    for _to in 0..components.get(component as usize).modes.len() {
         cells.push(Cell::Never)?;
     }
     Ok(())
 }
 
 /// The cells of a component, each row of its modes after the other.
-pub(crate) fn cells_of(alloc: Global, classes: &Classes, c: u16) -> Result<List<Cell>, AllocError>
-    requires { c < length classes.now.compiled.model.components }
-    ensures { IfOk result (AreRightCells classes.now c) }
+pub(crate) fn cells_of(
+    alloc: Global,
+    classes: &Classes,
+    component: u16,
+) -> Result<List<Cell>, AllocError>
+    requires { component < length classes.now.compiled.model.components }
+    ensures { IfOk result (AreRightCells classes.now component) }
 {
     let compiled = classes.compiled();
-    let paths = paths_of(alloc, compiled, classes.rows(), c)?;
-    let modes = compiled.model().components().get(c as usize).modes.len();
+    let paths = paths_of(alloc, compiled, classes.rows(), component)?;
+    let modes = compiled
+        .model()
+        .components()
+        .get(component as usize)
+        .modes
+        .len();
     let mut cells = List::new(alloc);
     for from in 0..modes {
-        if classes.stands(c, from as u8) {
-            let leaving = leaving_of(alloc, classes, &paths, c, from as u8)?;
+        if classes.stands(component, from as u8) {
+            let leaving = leaving_of(alloc, classes, &paths, component, from as u8)?;
             fill_row(alloc, classes, &paths, &leaving, &mut cells)?;
         } else {
-            skip_row(classes, c, from as u8, &mut cells)?;
+            skip_row(classes, component, from as u8, &mut cells)?;
         }
     }
     Ok(cells)

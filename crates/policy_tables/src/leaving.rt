@@ -5,7 +5,7 @@ ghost use Rattle.std.specs.Prelude.{◌≡◌, ◌<◌, ℕ, AllPairs, IfOk, len
 ghost use Rattle.cca_base.specs.Relations.{AreExactly};
 ghost use Rattle.policy_tables.specs.Leaving.{LeavesMode, IsLeavingOf};
 ghost use Rattle.reversibility.specs.Levels.{AreMovesWithin, IsAmong};
-ghost use Rattle.reversibility.specs.Parts.{in_row};
+ghost use Rattle.reversibility.specs.ClassParts.{in_row};
 ghost use Rattle.reversibility.specs.Paths.{ArePaths};
 
 use crate::cubes::cubes_of;
@@ -52,19 +52,19 @@ pub(crate) fn leaving_of(
     alloc: Global,
     classes: &Classes,
     paths: &Paths,
-    c: u16,
+    component: u16,
     from: u8,
 ) -> Result<Leaving, AllocError>
-    requires { ArePaths classes.now.compiled.model (in_row classes.now.rows) c paths.now }
+    requires { ArePaths classes.now.compiled.model (in_row classes.now.rows) component paths.now }
     ensures leaving { IfOk result (IsLeavingOf classes.now.compiled (in_row classes.now.rows)) }
-    ensures component { IfOk result (λ l. l.component ≡ c) }
+    ensures component { IfOk result (λ l. l.component ≡ component) }
     ensures mode { IfOk result (λ l. l.mode ≡ from) }
 {
     let compiled = classes.compiled();
     let numbers = numbers_leaving(alloc, compiled.model(), paths.numbers.as_slice(), from)?;
     let cubes = cubes_of(alloc, compiled, classes.rows(), numbers.as_slice())?;
     Ok(Leaving {
-        component: c,
+        component,
         mode: from,
         numbers,
         cubes,

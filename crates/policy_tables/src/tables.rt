@@ -4,7 +4,7 @@ ghost use Rattle.std.specs.Prelude.{◌≡◌, ◌+◌, ◌⊎◌, ◌↔◌, �
 ghost use Rattle.cca_base.specs.Model.{HasMode};
 ghost use Rattle.reach_laws.specs.Cells.{cell_at, IsCell};
 ghost use Rattle.reach_laws.specs.Classes.{Stands};
-ghost use Rattle.reversibility.specs.Parts.{CoversState, in_row};
+ghost use Rattle.reversibility.specs.ClassParts.{CoversState, in_row};
 ghost use Rattle.policy_tables.specs.Tables.{IsTables, IsChoiceFrom};
 
 use crate::filling::cells_of;

@@ -1,15 +1,14 @@
 -- A list without repeats is no longer than one that has all its members.
 use Rattle.std.proofs.Common.{◌≡◌, ◌≢◌, ℕ, zero, suc, ◌<◌, ◌≤◌, List, [], ◌∷◌, length, refl, sym, ◌∙◌, ap, arith, get_or, All, AllPairs, Contains, inl, inr}
 use Rattle.std.proofs.lemmas.List.{get_or_default}
-use Rattle.std.specs.Ordering.{nat_cmp}
-use Rattle.std.specs.Cmp.{nat_cmp_is}
+use Rattle.std.proofs.lemmas.List.Elements.{All-contains}
 use Rattle.std.specs.Cmp.Lexicographic.{slice_cmp}
 use Rattle.std.specs.declared.cmp.Ordering.TheVariants.{Less, Equal}
+use Rattle.list_laws.proofs.Orders.{nat_cmp-same}
 use Rattle.cca_base.specs.declared.cube.Pair.{Pair}
 use Rattle.cca_base.specs.Cube.{cube_cmp, pair_cmp, IsBeforeCube, AreInCubeOrder}
 use Rattle.cca_base.proofs.Members.{all_from, contains_cases, contains_here, contains_there, contains_none}
 use Rattle.cca_base.proofs.Pairwise.{AllPairs-head, AllPairs-tail}
-use Rattle.prime_implicants.proofs.PairLemmas.{all_of}
 
 -- the list without the member at k
 abbrev pub without_at : {X : Type 0} → List X → ℕ → List X
@@ -30,24 +29,21 @@ still_there (x ∷ xs) (suc k) y m n = elim (contains_cases x y xs m) [
   | inr there ↦ contains_there x y (without_at xs k) (still_there xs k y there n)
 ]
 
-pub no_longer : {X : Type 0} (firsts others : List X) → AllPairs (λ a b. a ≢ b) firsts → All (Contains others) firsts → length firsts ≤ length others
+no_longer : {X : Type 0} (firsts others : List X) → AllPairs (λ a b. a ≢ b) firsts → All (Contains others) firsts → length firsts ≤ length others
 no_longer [] others d m = omega arith
 no_longer {X} (a ∷ firsts) others d m =
     let at : Contains others a = m 0 a (omega arith) in
     let rest : All (Contains (without_at others at.0)) firsts =
-    all_from (Contains (without_at others at.0)) firsts (λ y h. still_there others at.0 y (all_of (Contains others) firsts y (λ k e l. m (suc k) e (omega arith)) h)
-    (λ e. all_of (λ y. a ≢ y) firsts y (AllPairs-head (λ a b. a ≢ b) a firsts d) h (sym at.2 ∙ get_or_default others at.0 a y at.1 ∙ e))) in
+    all_from (Contains (without_at others at.0)) firsts (λ y h. still_there others at.0 y (All-contains (Contains others) firsts y (λ k e l. m (suc k) e (omega arith)) h)
+    (λ e. All-contains (λ y. a ≢ y) firsts y (AllPairs-head (λ a b. a ≢ b) a firsts d) h (sym at.2 ∙ get_or_default others at.0 a y at.1 ∙ e))) in
     omega (arith, no_longer firsts (without_at others at.0) (AllPairs-tail (λ a b. a ≢ b) a firsts d) rest, length-without_at others at.0 at.1)
-
-nat_cmp-self : (n : ℕ) → nat_cmp n n ≡ Equal
-nat_cmp-self n = sym (nat_cmp_is n n Equal refl)
 
 slice_cmp-self : (ps : List Pair) → slice_cmp pair_cmp ps ps ≡ Equal
 slice_cmp-self [] = refl
-slice_cmp-self (p ∷ ps) = rw (nat_cmp-self p.item, nat_cmp-self p.value, slice_cmp-self ps)
+slice_cmp-self (p ∷ ps) = rw (nat_cmp-same p.item p.item refl, nat_cmp-same p.value p.value refl, slice_cmp-self ps)
 
 cube_cmp-self : (ps : List Pair) → cube_cmp ps ps ≡ Equal
-cube_cmp-self ps = rw (nat_cmp-self (length ps), slice_cmp-self ps)
+cube_cmp-self ps = rw (nat_cmp-same (length ps) (length ps) refl, slice_cmp-self ps)
 
 differs : (a b : List Pair) → IsBeforeCube a b → a ≢ b
 differs a b h e = let same : cube_cmp a a ≡ Less = ap (cube_cmp a) e ∙ h in let self = cube_cmp-self a in cc

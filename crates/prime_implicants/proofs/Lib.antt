@@ -1,9 +1,9 @@
-pub mod ChoiceLemmas
+pub mod FalsifyingChoices
 pub mod Completeness
-pub mod KeyLemmas
-pub mod PairLemmas
-pub mod ListedLemmas
-pub mod PrimeLemmas
-pub mod FoundLemmas
-pub mod AnswerLemmas
+pub mod KeySets
+pub mod PartialPairs
+pub mod ListedPairs
+pub mod PrimeCubes
+pub mod FoundKeys
+pub mod FoundAnswers
 pub mod Counting

@@ -6,10 +6,11 @@ use Rattle.std.specs.List.Sorted.{IsStrictlySortedBy}
 use Rattle.std.specs.Cmp.Lexicographic.{slice_cmp}
 use Rattle.std.specs.Ordering.{nat_cmp}
 use Rattle.std.specs.List.{list_all}
+use Rattle.cca_base.specs.declared.limits.TheConstants.{MAX_ROWS}
 use Rattle.cca_base.specs.Sets.{has}
 use Rattle.cca_base.specs.declared.cube.Pair.{Pair}
 use Rattle.elimination.specs.Partial.{IsTotal, IsWithin}
-use Rattle.elimination.specs.Rows.{all_open}
+use Rattle.elimination.specs.DenseClauses.{all_unfalsified}
 
 -- the first has the second's value, if it has one
 abbrev pub CoversAt : Option ℕ → Option ℕ → Type 0
@@ -25,7 +26,7 @@ Covers (o ∷ a) (p ∷ q) = CoversAt o p × Covers a q
 
 -- no values of all subjects that make all rows true have these
 abbrev pub IsBlockedByRows : List ℕ → List (List ℕ) → List (Option ℕ) → Type 0
-IsBlockedByRows sizes rows q = (a : List (Option ℕ)) → IsWithin sizes a → IsTotal a → Covers a q → all_open a rows ≡ false
+IsBlockedByRows sizes rows q = (a : List (Option ℕ)) → IsWithin sizes a → IsTotal a → Covers a q → all_unfalsified a rows ≡ false
 
 -- blocked, and each blocked part is the whole
 pub record IsPrimeByRows (sizes : List ℕ) (rows : List (List ℕ)) (q : List (Option ℕ)) : Type 0 where
@@ -40,12 +41,12 @@ all_below (suc n) test = all_below n test && test n
 
 -- the subject has no value, or all rows may be true without it
 abbrev pub is_needed : List (List ℕ) → List (Option ℕ) → ℕ → Bool
-is_needed rows q i = is_none (slice_index_or q i None) || all_open (slice_set q i None) rows
+is_needed rows q i = is_none (slice_index_or q i None) || all_unfalsified (slice_set q i None) rows
 
 -- in range, with a row that is false, and each value needed
 pub record IsFoundable (sizes : List ℕ) (rows : List (List ℕ)) (q : List (Option ℕ)) : Type 0 where
   pub within : IsWithin sizes q
-  pub refuted : all_open q rows ≡ false
+  pub refuted : all_unfalsified q rows ≡ false
   pub minimal : all_below (length q) (is_needed rows q) ≡ true
 
 -- the two agree below a subject
@@ -103,7 +104,7 @@ pairs_of_key (n ∷ rest) = pairs_listed rest
 abbrev pub are_listed_from : ℕ → List ℕ → Bool
 are_listed_from k [] = true
 are_listed_from k (i ∷ []) = false
-are_listed_from k (i ∷ v ∷ rest) = (nat_le k i && nat_lt i 65536) && (nat_lt v 256 && are_listed_from (suc i) rest)
+are_listed_from k (i ∷ v ∷ rest) = (nat_le k i && nat_lt i MAX_ROWS) && (nat_lt v 256 && are_listed_from (suc i) rest)
 
 -- a key of a cube
 abbrev pub is_proper : List ℕ → Bool

@@ -1,3 +1,5 @@
+//! All prime implicants as cubes, or that there are more than may be.
+
 use cca_base::{Cube, List};
 
 /// The minimal cubes that no values meeting all clauses extend, or that there are more than were asked for.

@@ -1,13 +1,15 @@
+//! Partial values that falsify some clause, chosen literal by literal.
+
 ghost use Rattle.std.specs.Prelude.{◌≡◌, ℕ, Bool, true, ◌<◌, ◌≤◌, length, OnOk, IfOk, IfSome, MatchOption, None, replicate, slice_index_or};
 ghost use Rattle.std.specs.List.{list_all};
 ghost use Rattle.std.specs.BTreeSet.{btree_set_len};
 ghost use Rattle.elimination.specs.Partial.{IsWithin, Partial};
-ghost use Rattle.elimination.specs.Rows.{is_wide};
+ghost use Rattle.elimination.specs.DenseClauses.{is_wide};
 ghost use Rattle.prime_implicants.specs.Found.{AgreesTo, AreMany, AreOrdered, IsChoiceFrom, IsFoundable, Key, all_keys, key_of};
 
 use crate::found::Found;
 use crate::minimal::add_minimal;
-use elimination::{Row, is_open};
+use elimination::{DenseClause, are_unfalsified};
 use std::alloc::{AllocError, Global};
 use std::collections::BTreeSet;
 
@@ -15,7 +17,7 @@ use std::collections::BTreeSet;
 pub fn all_minimal(
     alloc: Global,
     sizes: &[u8],
-    rows: &[Row],
+    rows: &[DenseClause],
     most: usize,
 ) -> Result<Option<Found>, AllocError>
     requires { list_all (is_wide (length sizes.now)) rows.now ≡ true }
@@ -46,8 +48,8 @@ pub fn all_minimal(
 fn choose_row(
     alloc: Global,
     sizes: &[u8],
-    rows: &[Row],
-    row: &Row,
+    rows: &[DenseClause],
+    row: &DenseClause,
     found: &mut Found,
     most: usize,
 ) -> Result<(), AllocError>
@@ -76,43 +78,43 @@ fn nothing(alloc: Global, n: usize) -> Result<Vec<Option<u8>>, AllocError>
 fn choose(
     alloc: Global,
     sizes: &[u8],
-    rows: &[Row],
-    row: &Row,
+    rows: &[DenseClause],
+    row: &DenseClause,
     at: usize,
-    q: &mut [Option<u8>],
+    partial: &mut [Option<u8>],
     found: &mut Found,
     most: usize,
 ) -> Result<(), AllocError>
-    requires at { at ≤ length q.old }
-    requires within { IsWithin sizes.now q.old }
-    requires wide { length row.now ≡ length q.old }
-    requires free { (i : ℕ) → at ≤ i → i < length q.old → slice_index_or q.old i None ≡ None }
-    ensures same { OnOk result (q.new ≡ q.old) }
+    requires at { at ≤ length partial.old }
+    requires within { IsWithin sizes.now partial.old }
+    requires wide { length row.now ≡ length partial.old }
+    requires free { (i : ℕ) → at ≤ i → i < length partial.old → slice_index_or partial.old i None ≡ None }
+    ensures same { OnOk result (partial.new ≡ partial.old) }
     ensures sound { OnOk result ((t : Key → Bool) → all_keys t found.old.keys ≡ true
         → ((p : Partial) → IsFoundable sizes.now rows.now p → t (key_of p) ≡ true)
         → all_keys t found.new.keys ≡ true) }
     ensures grown { OnOk result ((t : Key → Bool) → all_keys t found.new.keys ≡ true
         → all_keys t found.old.keys ≡ true) }
     ensures found { OnOk result (btree_set_len found.new ≤ most → (p : Partial)
-        → IsFoundable sizes.now rows.now p → AgreesTo at q.old p → IsChoiceFrom at row.now p
+        → IsFoundable sizes.now rows.now p → AgreesTo at partial.old p → IsChoiceFrom at row.now p
         → (t : Key → Bool) → all_keys t found.new.keys ≡ true → t (key_of p) ≡ true) }
 {
-    if !is_open(q, rows) {
-        add_minimal(alloc, rows, q, found)?;
+    if !are_unfalsified(partial, rows) {
+        add_minimal(alloc, rows, partial, found)?;
         return Ok(());
     }
-    if at == q.len() {
+    if at == partial.len() {
         return Ok(());
     }
     if row.get(at).is_empty() {
-        choose(alloc, sizes, rows, row, at + 1, q, found, most)?;
+        choose(alloc, sizes, rows, row, at + 1, partial, found, most)?;
         return Ok(());
     }
     for v in 0..sizes[at] {
         if !row.get(at).has(v) && found.len() <= most {
-            q[at] = Some(v);
-            choose(alloc, sizes, rows, row, at + 1, q, found, most)?;
-            q[at] = None;
+            partial[at] = Some(v);
+            choose(alloc, sizes, rows, row, at + 1, partial, found, most)?;
+            partial[at] = None;
         }
     }
     Ok(())

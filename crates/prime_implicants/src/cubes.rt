@@ -1,3 +1,5 @@
+//! Partial values as cubes.
+
 ghost use Rattle.std.specs.Prelude.{◌≡◌, true, IfOk, map};
 ghost use Rattle.prime_implicants.specs.Found.{all_keys, cubes_of_keys, is_proper, pairs_of_key};
 

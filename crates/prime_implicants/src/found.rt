@@ -1,3 +1,5 @@
+//! The found prime implicants in cube order, by keys in a set.
+
 ghost use Rattle.std.specs.Prelude.{◌≡◌, Bool, ◌&&◌, ◌++◌, ◌∷◌, [], IfOk, OnOk, filter, length, take};
 ghost use Rattle.std.specs.List.{list_all};
 ghost use Rattle.std.specs.Option.{is_some};
@@ -20,21 +22,21 @@ pub fn add_key(found: &mut Found, key: Vec<usize>) -> Result<(), AllocError>
 }
 
 /// The key of the subjects that have a value.
-pub fn make_key(alloc: Global, q: &[Option<u8>]) -> Result<Vec<usize>, AllocError>
-    ensures { IfOk result (λ k. k.items ≡ key_of q.now) }
+pub fn make_key(alloc: Global, partial: &[Option<u8>]) -> Result<Vec<usize>, AllocError>
+    ensures { IfOk result (λ k. k.items ≡ key_of partial.now) }
 {
     let mut key = Vec::new(alloc);
-    key.push(count_of(q))?;
-    for i in 0..q.len() {
-        push_pair(&mut key, i, q[i])?;
+    key.push(count_of(partial))?;
+    for i in 0..partial.len() {
+        push_pair(&mut key, i, partial[i])?;
     }
     Ok(key)
 }
 
-fn count_of(q: &[Option<u8>]) -> usize
-    ensures { result ≡ length (filter (λ o. is_some o) q.now) }
+fn count_of(partial: &[Option<u8>]) -> usize
+    ensures { result ≡ length (filter (λ o. is_some o) partial.now) }
 {
-    q.iter().filter(|o| o.is_some()).count()
+    partial.iter().filter(|o| o.is_some()).count()
 }
 
 fn push_pair(key: &mut Vec<usize>, i: usize, value: Option<u8>) -> Result<(), AllocError>

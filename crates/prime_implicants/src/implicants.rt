@@ -1,3 +1,5 @@
+//! The prime implicants of clauses, in cube order.
+
 ghost use Rattle.std.specs.Prelude.{◌↔◌, IfOk};
 ghost use Rattle.clause_form.specs.Clauses.{AreClauses};
 ghost use Rattle.prime_implicants.specs.Primes.{AreAllPrimes, AreMorePrimes, IfEvery, IsMore};

@@ -2,18 +2,19 @@
 use Rattle.std.proofs.Common.{◌≡◌, ◌<◌, ◌⊎◌, ℕ, true, false, zero, suc, List, [], ◌∷◌, length, slice_index, Contains, refl, sym, ap, subst, ◌∙◌, inl, inr}
 use Rattle.std.proofs.lemmas.Bool.{cases_Bool, both_ways}
 use Rattle.std.proofs.lemmas.List.Elements.{All-contains, Contains-append_right}
+use Rattle.list_laws.proofs.Places.{value_at}
 use Rattle.cca_base.specs.declared.cube.Pair.{Pair}
 use Rattle.cca_base.specs.declared.events.Reply.{Reply}
 use Rattle.cca_base.specs.declared.events.Reply.TheVariants.{Idle, Send, Achieved, Unreachable}
-use Rattle.cca_base.specs.Automata.{Automata}
-use Rattle.cca_base.specs.Accepted.{CompiledParts, IsCompiled}
+use Rattle.cca_base.specs.PlantModel.{PlantModel}
+use Rattle.cca_base.specs.Accepted.{CompiledModel, IsCompiled}
 use Rattle.cca_base.specs.Goals.{BeginsPlan, IsFirstUnreached}
 use Rattle.cca_base.specs.Model.{WellFormed, IsMended, is_broken}
 use Rattle.cca_base.specs.Orders.{AreInOrder, IsFirstMissing}
 use Rattle.cca_base.specs.Repairs.{Mending}
 use Rattle.cca_base.specs.State.{IsState, Extends}
 use Rattle.cca_base.specs.Steps.{Step, AllowedPlan, Reach}
-use Rattle.cca_base.specs.Choice.{PicksForGoal, Chosen}
+use Rattle.cca_base.specs.Choice.{PicksForGoal, IsChosenReply}
 use Rattle.cca_base.specs.Plans.{Whole, IsWanted, IsBackGoal}
 use Rattle.cca_base.proofs.Members.{all_from, contains_here}
 use Rattle.reach_laws.specs.declared.cell.Cell.TheVariants as cell
@@ -21,13 +22,13 @@ use Rattle.reach_laws.specs.Classes.{Test, AreInside, OpenRepairs, IsHome, IsOnW
 use Rattle.reach_laws.specs.Laws.{Setting}
 use Rattle.reach_laws.specs.Cells.{Cells, IsPolicy, Finds, FindsForGoal}
 use Rattle.reach_laws.specs.Plans.{IsAnswer, IsFirstOutside, IsSoundGoal, AnswersAreChosen, WholeIsAllowed, EmptyStays, WayBack}
-use Rattle.reach_laws.proofs.Facts.{RepairRules, at_get, get_at, step_other, step_state}
+use Rattle.reach_laws.proofs.Facts.{RepairRules, get_at, step_other, step_state}
 use Rattle.reach_laws.proofs.Order.{Among, repair_rules}
 use Rattle.reach_laws.proofs.Walk.{mended_by, repairs_from, way_on, member_sound, home_member}
 use Rattle.reach_laws.proofs.Sound.{Inner, HasNone, inner_covers, find_home, allowed_plan, class_is_reach, mending_one}
-use Rattle.reach_laws.proofs.Cells.{Held, missing_among, found_picks}
+use Rattle.reach_laws.proofs.Cells.{missing_among, found_picks}
 use Rattle.reach_laws.proofs.Serial.{Done, Led, led_inner, led_end, whole_led}
-use Rattle.cca_laws.proofs.GoalsLemmas.{one_first_missing}
+use Rattle.cca_laws.proofs.GoalLaws.{one_first_missing, Held}
 use Rattle.reach_laws.proofs.Needed.{Landed, landed, landed_inner, picks_are_needed}
 use Rattle.cca_base.proofs.NextModes.{next_sound}
 
@@ -39,7 +40,7 @@ same_command a b c d e f p q h = cc
 same_cube : (a b c d e f : ℕ) (p q : List Pair) → cell.Step a b p c ≡ cell.Step d e q f → p ≡ q
 same_cube a b c d e f p q h = cc
 
-pub one_found : (cells : Cells) (s : List ℕ) (n j c to k l : ℕ) → Finds cells s c to k n → Finds cells s c to l j → k ≡ l
+one_found : (cells : Cells) (s : List ℕ) (n j c to k l : ℕ) → Finds cells s c to k n → Finds cells s c to l j → k ≡ l
 one_found cells s zero j c to k l x y = absurd x
 one_found cells s (suc n) zero c to k l x y = absurd y
 one_found cells s (suc n) (suc j) c to k l x y =
@@ -59,7 +60,7 @@ one_found cells s (suc n) (suc j) c to k l x y =
       ]
     ]
 
-pub one_found_goal : (cells : Cells) (s : List ℕ) (goal : List Pair) (n j k l : ℕ) → FindsForGoal cells s goal k n → FindsForGoal cells s goal l j → k ≡ l
+one_found_goal : (cells : Cells) (s : List ℕ) (goal : List Pair) (n j k l : ℕ) → FindsForGoal cells s goal k n → FindsForGoal cells s goal l j → k ≡ l
 one_found_goal cells s goal n j k l x y =
     let same : x.0 ≡ y.0 = one_first_missing s goal x.0 y.0 x.1 y.1 in
     one_found cells s n j y.0.item y.0.value k l (subst (λ z. Finds cells s z.item z.value k n) same x.2) y.2
@@ -75,7 +76,7 @@ achieved_send k h = cc
 unreachable_send : (c mode k : ℕ) → Unreachable c mode ≡ Send k → ⊥
 unreachable_send c mode k h = cc
 
-module _ (b : CompiledParts) (base : List ℕ) (member : Test) (cells : Cells) (compiled : IsCompiled b) (policy : IsPolicy b base member cells)
+module _ (b : CompiledModel) (base : List ℕ) (member : Test) (cells : Cells) (compiled : IsCompiled b) (policy : IsPolicy b base member cells)
     (s : List ℕ) (g : Setting b.model b.order base member s) (goal : List Pair) (along : AreInOrder b.order goal) where
   begins : (each : (p : Pair) → Contains goal p → member p.item p.value ≡ true) → (k n : ℕ) → (Extends s goal → ⊥) → FindsForGoal cells s goal k n → (t : List ℕ) (ks : List ℕ)
       → Led b.model base member cells (λ d. Among d b.order) goal s ks t → BeginsPlan b.model s goal k
@@ -94,7 +95,7 @@ module _ (b : CompiledParts) (base : List ℕ) (member : Test) (cells : Cells) (
   picked each k n (p, first, found) =
       (p, first, found_picks b base member cells policy s g n p.item p.value k (each p (missing_among s goal p first)) found)
 
-  sends : (k : ℕ) → IsAnswer member cells s goal (Send k) → Chosen b s goal (Send k)
+  sends : (k : ℕ) → IsAnswer member cells s goal (Send k) → IsChosenReply b s goal (Send k)
   sends k (not_held, inside, (n, found)) =
       let each : (p : Pair) → Contains goal p → member p.item p.value ≡ true = λ p among. All-contains (λ q. member q.item q.value ≡ true) goal p inside among in
       let done : Done b base member cells policy compiled.bounds s g b.order goal s = whole_led b base member cells policy compiled.bounds s g goal along each in
@@ -118,7 +119,7 @@ module _ (b : CompiledParts) (base : List ℕ) (member : Test) (cells : Cells) (
             ((class_is_reach b.model b.order base member s g c mode).1 (All-contains (λ r. is_broken b.model.moves r.item r.value ≡ false) goal p sound among, reach));
       }
 
-  pub answers : IsSoundGoal b.model goal → (reply : Reply) → IsAnswer member cells s goal reply → Chosen b s goal reply
+  pub answers : IsSoundGoal b.model goal → (reply : Reply) → IsAnswer member cells s goal reply → IsChosenReply b s goal reply
   answers sound Idle h = absurd h
   answers sound Achieved h = record { good = h; picked = λ k e. absurd (achieved_send k e) }
   answers sound (Send k) h = sends k h
@@ -130,13 +131,13 @@ answers_are_chosen b base member cells compiled policy s g goal along sound repl
 -- ---- plans inside the classes
 
 -- a whole plan is one of inner steps, and moves no component whose class is empty
-pub record WholeInner (b : CompiledParts) (base : List ℕ) (member : Test) (s ks last : List ℕ) : Type 0 where
+pub record WholeInner (b : CompiledModel) (base : List ℕ) (member : Test) (s ks last : List ℕ) : Type 0 where
   pub run : Inner b.model base member s ks last
   pub state : IsState b.model last
   pub covers : Covers b.model base member last
   pub empty : (d : ℕ) → HasNone member d → slice_index last d ≡ slice_index s d
 
-pub whole_inner : (b : CompiledParts) (base : List ℕ) (member : Test) (goal : List Pair) → AreInside member goal → (s ks last : List ℕ) → Setting b.model b.order base member s
+whole_inner : (b : CompiledModel) (base : List ℕ) (member : Test) (goal : List Pair) → AreInside member goal → (s ks last : List ℕ) → Setting b.model b.order base member s
     → Whole b goal s ks last → WholeInner b base member s ks last
 whole_inner b base member goal inside s [] last g whole = record {
   run = whole.1;
@@ -168,7 +169,7 @@ whole_inner b base member goal inside s (k ∷ ks) last g whole =
           ∙ step_other b.model s next k step d (λ e. none h.to (subst (λ c. member c h.to ≡ true) (sym e) made.1));
     }
 
-whole_stands : (b : CompiledParts) (goal : List Pair) (s ks last : List ℕ) → Whole b goal s ks last → Extends last goal
+whole_stands : (b : CompiledModel) (goal : List Pair) (s ks last : List ℕ) → Whole b goal s ks last → Extends last goal
 whole_stands b goal s [] last whole = subst (λ x. Extends x goal) (sym whole.1) whole.0
 whole_stands b goal s (k ∷ ks) last whole = whole_stands b goal whole.2 ks last whole.4
 
@@ -187,7 +188,7 @@ empty_stays b base member s g goal ks last inside whole d none =
 -- ---- ways back
 
 -- where no repair leads to a broken mode, a broken mode on the way is the base mode
-pub on_way_base : (m : Automata) (base : List ℕ) (member : Test) → WellFormed m → (c a x n : ℕ) → is_broken m.moves c x ≡ true → OpenRepairs m member c a x n → x ≡ a
+pub on_way_base : (m : PlantModel) (base : List ℕ) (member : Test) → WellFormed m → (c a x n : ℕ) → is_broken m.moves c x ≡ true → OpenRepairs m member c a x n → x ≡ a
 on_way_base m base member w c a x zero broken e = sym e
 on_way_base m base member w c a x (suc n) broken p =
     let rules = repair_rules m w in
@@ -198,7 +199,7 @@ on_way_base m base member w c a x (suc n) broken p =
     later c a x zero sound e = subst (λ y. is_broken m.moves c y ≡ false) e sound
     later c a x (suc n) sound p = absurd (both_ways (is_broken m.moves c a) sound p.1)
 
-module _ (b : CompiledParts) (base : List ℕ) (member : Test) (from s : List ℕ) (g : Setting b.model b.order base member s)
+module _ (b : CompiledModel) (base : List ℕ) (member : Test) (from s : List ℕ) (g : Setting b.model b.order base member s)
     (state : IsState b.model from) (covers : Covers b.model base member from) (goal : List Pair) (back : IsBackGoal b s goal) where
   abbrev rules : RepairRules b.model
   rules = repair_rules b.model g.well_formed
@@ -210,7 +211,7 @@ module _ (b : CompiledParts) (base : List ℕ) (member : Test) (from s : List �
   ])
 
   wanted_stands : (last : List ℕ) → Extends last goal → (p : Pair) → IsWanted b.model s p → slice_index last p.item ≡ p.value
-  wanted_stands last stands p wanted = at_get last p.item p.value (All-contains (Held last) goal p stands ((back.each p).1 wanted))
+  wanted_stands last stands p wanted = value_at last p.item p.value (All-contains (Held last) goal p stands ((back.each p).1 wanted))
 
   mends_broken : (ks last : List ℕ) → Extends last goal → WholeInner b base member from ks last → (c : ℕ) → c < length b.model.components → is_broken b.model.moves c (slice_index s c) ≡ true
       → (on : IsOnWay b.model base member c (slice_index s c)) → ((a : ℕ) × IsHome b.model base member c a) ⊎ HasNone member c
@@ -257,7 +258,7 @@ way_back b base member from s g state covers goal back =
     (back_inside b base member from s g state covers goal back, back_mends b base member from s g state covers goal back)
 
 -- after a picked command the same classes cover the state
-pub next_setting : (b : CompiledParts) (base : List ℕ) (member : Test) (goal : List Pair) → AreInside member goal → (s next : List ℕ) (k : ℕ) → Setting b.model b.order base member s
+pub next_setting : (b : CompiledModel) (base : List ℕ) (member : Test) (goal : List Pair) → AreInside member goal → (s next : List ℕ) (k : ℕ) → Setting b.model b.order base member s
     → PicksForGoal b s goal k → Step b.model s k next → Setting b.model b.order base member next
 next_setting b base member goal inside s next k g (p, first, picks) step =
     let inside_p : member p.item p.value ≡ true = All-contains (λ q. member q.item q.value ≡ true) goal p inside (missing_among s goal p first) in

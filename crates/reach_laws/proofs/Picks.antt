@@ -2,8 +2,8 @@
 use Rattle.std.proofs.Common.{◌≡◌, [], ◌∷◌, sym, subst, ◌∙◌, refl}
 use Rattle.cca_base.specs.Plans.{Whole}
 use Rattle.cca_base.specs.Steps.{Step}
-use Rattle.cca_laws.proofs.OrderLemmas.{compiled_none_twice}
-use Rattle.cca_laws.proofs.PickLemmas.{one_command}
+use Rattle.cca_laws.proofs.OneOrder.{compiled_none_twice}
+use Rattle.cca_laws.proofs.OnePick.{one_command}
 use Rattle.reach_laws.specs.Plans.{OnePick, OneWhole}
 use Rattle.reach_laws.proofs.Commands.{one_step}
 

@@ -4,19 +4,19 @@ use Rattle.std.proofs.lemmas.Bool.{cases_eq, both_ways, eq-eqb, ne_eqb, not-true
 use Rattle.std.proofs.lemmas.List.Elements.{All-contains}
 use Rattle.std.proofs.lemmas.Option.{slice_get_within}
 use Rattle.std.proofs.lemmas.List.Kept.{AllPairs-filter}
+use Rattle.list_laws.proofs.Places.{value_at}
 use Rattle.cca_base.specs.declared.cube.Pair.{Pair}
-use Rattle.cca_base.specs.Automata.{Automata}
+use Rattle.cca_base.specs.PlantModel.{PlantModel}
 use Rattle.cca_base.specs.Model.{HasMode, is_broken}
 use Rattle.cca_base.specs.Implicants.{source_pair}
 use Rattle.cca_base.specs.Repairs.{pairs_of, sound_pairs}
 use Rattle.cca_base.specs.Steps.{support}
 use Rattle.reach_laws.specs.Laws.{EachStepIsReady}
-use Rattle.reach_laws.proofs.Facts.{at_get}
 use Rattle.cca_base.proofs.Members.{all_from, some_inj, contains_cases, contains_here, contains_there, to_filter, from_filter, stands_in}
 use Rattle.cca_laws.proofs.Minimal.{Candidate, minimal_part, pairs_rise}
 
 -- the pairs of a state that a step of c may lean on, but for those of c
-abbrev sound_others : Automata → List ℕ → ℕ → List Pair
+abbrev sound_others : PlantModel → List ℕ → ℕ → List Pair
 sound_others m s c = filter (λ p. not (p.item == c) && not (is_broken m.moves p.item p.value)) (pairs_of s)
 
 pub steps_are_ready : EachStepIsReady
@@ -34,7 +34,7 @@ steps_are_ready m s t k state step =
       rises = AllPairs-filter (λ a b. a.item < b.item) test (pairs_of s) (pairs_rise 0 s);
       modes = λ p among.
           let here = (told p among).2 in
-          subst (HasMode m p.item) (at_get s p.item p.value here)
+          subst (HasMode m p.item) (value_at s p.item p.value here)
           (state.modes p.item (subst (λ n. p.item < n) state.full (slice_get_within s p.item p.value here)));
       others = λ p among. (told p among).0;
       suffices = λ u there extends. step.guard u there (all_from (λ p. slice_get u p.item ≡ Some p.value) (support m s step.move) (λ p among.

@@ -3,9 +3,10 @@ use Rattle.std.proofs.Common.{◌≡◌, ◌<◌, ◌+◌, ◌⊎◌, ◌≢◌,
 use Rattle.std.proofs.lemmas.Bool.{cases_eq, cases_Bool, both_ways, cond-true, cond-false, eq-eqb, eqb-true, eqb-false, false_from_ne_true}
 use Rattle.std.proofs.lemmas.List.Elements.{All-contains}
 use Rattle.std.proofs.lemmas.Option.{slice_get_within}
+use Rattle.list_laws.proofs.Places.{value_at, get_at}
 use Rattle.cca_base.specs.declared.cube.Pair.{Pair}
 use Rattle.cca_base.specs.declared.model.Move.{Move}
-use Rattle.cca_base.specs.Automata.{Automata}
+use Rattle.cca_base.specs.PlantModel.{PlantModel}
 use Rattle.cca_base.specs.Cube.{IsRising}
 use Rattle.cca_base.specs.Model.{WellFormed, IsNext, IsMended, RepairChain, HasMode, is_broken, mode_counts}
 use Rattle.cca_base.specs.Implicants.{Needs}
@@ -14,10 +15,10 @@ use Rattle.cca_base.specs.Repairs.{Mending}
 use Rattle.cca_base.specs.Steps.{Step, Run, Allowed, AllowedPlan, Reach}
 use Rattle.cca_base.specs.Relations.{numbers_below}
 use Rattle.cca_base.proofs.Members.{all_from, some_inj, none_some, contains_cases, contains_here, contains_there, contains_none}
-use Rattle.cca_base.proofs.RelationLemmas.{below_contains}
+use Rattle.cca_base.proofs.PathLaws.{below_contains}
 use Rattle.reach_laws.specs.Classes.{Test, IsOpen, OpenMove, OpenWalk, Joined, OpenRepairs, IsHome, InClass, AreClasses, IsOnWay, Stands, Covers}
 use Rattle.reach_laws.specs.Laws.{Setting, Ready, ClassIsReach, OneClasses, Returns, ReturnsInside, RepairsLeadIn, StaysCovered}
-use Rattle.reach_laws.proofs.Facts.{RepairRules, at_get, held_at, run_one, step_within, step_source, step_target, step_other, step_state, join, go_one, repairs_join, repairs_walk}
+use Rattle.reach_laws.proofs.Facts.{RepairRules, run_one, step_within, step_source, step_target, step_other, step_state, join, go_one, repairs_join, repairs_walk}
 use Rattle.reach_laws.proofs.Support.{leans}
 use Rattle.reach_laws.proofs.Order.{repair_rules, Among, AreEffectsFirst, IsOrder, order_from}
 use Rattle.cca_laws.proofs.Minimal.{one_pair, search_list}
@@ -59,21 +60,21 @@ find_each cube rising p among =
     found.1 ∙ ap (λ r. Some r.value) same
 
 -- an option has a value or none
-pub known : (o : Option ℕ) → ((a : ℕ) × (o ≡ Some a)) ⊎ (o ≡ None)
+known : (o : Option ℕ) → ((a : ℕ) × (o ≡ Some a)) ⊎ (o ≡ None)
 known (Some a) = inl (a, refl)
 known None = inr refl
 
 -- ---- steps inside the classes
 
 -- a step from a covered state, by an open move, to where its component still stands in its class or on the way to it
-pub record InnerStep (m : Automata) (base : List ℕ) (member : Test) (s : List ℕ) (k : ℕ) (t : List ℕ) : Type 0 where
+pub record InnerStep (m : PlantModel) (base : List ℕ) (member : Test) (s : List ℕ) (k : ℕ) (t : List ℕ) : Type 0 where
   pub step : Step m s k t
   pub open_move : IsOpen m member step.move
   pub into : Stands m base member step.move.component step.move.target
   pub state : IsState m s
   pub covers : Covers m base member s
 
-abbrev pub Inner : Automata → List ℕ → Test → List ℕ → List ℕ → List ℕ → Type 0
+abbrev pub Inner : PlantModel → List ℕ → Test → List ℕ → List ℕ → List ℕ → Type 0
 Inner m base member s [] t = t ≡ s
 Inner m base member s (k ∷ ks) t = (mid : List ℕ) × InnerStep m base member s k mid × Inner m base member mid ks t
 
@@ -81,12 +82,12 @@ Inner m base member s (k ∷ ks) t = (mid : List ℕ) × InnerStep m base member
 abbrev pub HasNone : Test → ℕ → Type 0
 HasNone member c = (x : ℕ) → member c x ≡ true → ⊥
 
-module _ (m : Automata) (base : List ℕ) (member : Test) where
-  pub inner_join : (s t u : List ℕ) (ks ls : List ℕ) → Inner m base member s ks t → Inner m base member t ls u → Inner m base member s (ks ++ ls) u
+module _ (m : PlantModel) (base : List ℕ) (member : Test) where
+  inner_join : (s t u : List ℕ) (ks ls : List ℕ) → Inner m base member s ks t → Inner m base member t ls u → Inner m base member s (ks ++ ls) u
   inner_join s t u [] ls r q = subst (λ x. Inner m base member x ls u) r q
   inner_join s t u (k ∷ ks) ls r q = (r.0, r.1, inner_join r.0 t u ks ls r.2 q)
 
-  pub inner_run : (s t : List ℕ) (ks : List ℕ) → Inner m base member s ks t → Run m s ks t
+  inner_run : (s t : List ℕ) (ks : List ℕ) → Inner m base member s ks t → Run m s ks t
   inner_run s t [] r = r
   inner_run s t (k ∷ ks) r = (r.0, r.1.step, inner_run r.0 t ks r.2)
 
@@ -98,7 +99,7 @@ module _ (m : Automata) (base : List ℕ) (member : Test) where
   ]
 
   -- what is wanted of some components was reached, the others stand as they did, and so do those with no mode in their classes
-  pub record Outcome (s : List ℕ) (moved : ℕ → Type 0) (want : ℕ → Option ℕ) : Type 0 where
+  pub record Rearranged (s : List ℕ) (moved : ℕ → Type 0) (want : ℕ → Option ℕ) : Type 0 where
     pub t : List ℕ
     pub ks : List ℕ
     pub run : Inner m base member s ks t
@@ -112,9 +113,9 @@ module _ (m : Automata) (base : List ℕ) (member : Test) where
   IsWished want = (d x : ℕ) → want d ≡ Some x → member d x ≡ true
 
   abbrev pub Can : List ℕ → Type 0
-  Can order = (s : List ℕ) (want : ℕ → Option ℕ) → IsState m s → Covers m base member s → IsWished want → Outcome s (λ d. Among d order) want
+  Can order = (s : List ℕ) (want : ℕ → Option ℕ) → IsState m s → Covers m base member s → IsWished want → Rearranged s (λ d. Among d order) want
 
-module _ (m : Automata) (base : List ℕ) (member : Test) (rules : RepairRules m) (classes : AreClasses m base member) where
+module _ (m : PlantModel) (base : List ℕ) (member : Test) (rules : RepairRules m) (classes : AreClasses m base member) where
   -- open moves lead from where a covered component stands to each mode of its class
   pub covered_joined : (c a b : ℕ) → Stands m base member c a → member c b ≡ true → Joined m member c a b
   covered_joined c a b (inl inside) inside_b =
@@ -128,7 +129,7 @@ module _ (m : Automata) (base : List ℕ) (member : Test) (rules : RepairRules m
       join m member c a y.home b (record { count = rest.0; walk = repairs_walk m member c a y.home rest.0 rest.1 }) y.to
 
   -- an open repair leads from the way to the class on along it, or into the class
-  pub on_from : (c x y : ℕ) → c < length m.components → IsOnWay m base member c x → OpenMove m member c x y → Stands m base member c y
+  on_from : (c x y : ℕ) → c < length m.components → IsOnWay m base member c x → OpenMove m member c x y → Stands m base member c y
   on_from c x y within on o =
       let step : OpenRepairs m member c x y 1 = (y, on.broken, o, refl) in
       elim (cases_Bool (is_broken m.moves c y)) [
@@ -165,16 +166,16 @@ module _ (m : Automata) (base : List ℕ) (member : Test) (rules : RepairRules m
       let cube : List Pair = o.open_move.cube in
       let inside_p : (p : Pair) → Contains cube p → member p.item p.value ≡ true =
       λ p among. All-contains (λ q. member q.item q.value ≡ true) cube p o.open_move.inside among in
-      let first : Outcome m base member s (λ d. Among d rest) (find_mode cube) =
+      let first : Rearranged m base member s (λ d. Among d rest) (find_mode cube) =
       can s (find_mode cube) state covers (λ d y h. inside_p (record { item = d; value = y }) (found_in cube d y h)) in
       let mid : List ℕ = slice_set first.t o.move.component o.move.target in
       let source : slice_get first.t o.move.component ≡ Some o.move.source =
       subst (λ d. slice_get first.t d ≡ Some o.move.source) (sym o.own)
-      (held_at first.t c o.move.source (subst (λ n. c < n) (sym first.state.full) within) (first.others c apart ∙ sym o.source)) in
+      (get_at first.t c o.move.source (subst (λ n. c < n) (sym first.state.full) within) (first.others c apart ∙ sym o.source)) in
       let stands_p : (p : Pair) → Contains cube p → (slice_get first.t p.item ≡ Some p.value) × (is_broken m.moves p.item p.value ≡ false) =
       λ p among. (
         let need : Needs m c p.item = record { move = o.move; of_model = o.of_model; own = o.own; cube = cube; prime = o.open_move.prime; mode = p.value; occurs = among } in
-            held_at first.t p.item p.value (subst (λ n. p.item < n) (sym first.state.full) (member_within m base member rules classes p.item p.value (inside_p p among)))
+            get_at first.t p.item p.value (subst (λ n. p.item < n) (sym first.state.full) (member_within m base member rules classes p.item p.value (inside_p p among)))
             (first.stands p.item p.value (below p.item need) (find_each cube o.open_move.prime.rising p among)),
         member_sound m base member rules classes p.item p.value (inside_p p among),
       ) in
@@ -212,7 +213,7 @@ module _ (m : Automata) (base : List ℕ) (member : Test) (rules : RepairRules m
       }
 
   -- effects first, each component is brought to what is wanted of it
-  pub achieve : (order : List ℕ) → AreEffectsFirst m order → ((c : ℕ) → Among c order → c < length m.components) → Can m base member order
+  achieve : (order : List ℕ) → AreEffectsFirst m order → ((c : ℕ) → Among c order → c < length m.components) → Can m base member order
   achieve [] first all s want state covers wanted =
       record { t = s; ks = []; run = refl; state = state; covers = covers; others = λ d _. refl; idle = λ d _. refl; stands = λ d x none. absurd none }
   achieve (c ∷ rest) first all s want state covers wanted = elim (known (want c)) [
@@ -222,7 +223,7 @@ module _ (m : Automata) (base : List ℕ) (member : Test) (rules : RepairRules m
         let within : c < length m.components = all c (inl refl) in
         let way = covered_joined c (slice_index s c) b (covers c within) (wanted c b found.1) in
         let w : Walked c rest s b = walk_to c rest can first.0 first.1 within way.count b s state covers way.walk (wanted c b found.1) in
-        let after : Outcome m base member w.t (λ d. Among d rest) want = can w.t want w.state w.covers wanted in
+        let after : Rearranged m base member w.t (λ d. Among d rest) want = can w.t want w.state w.covers wanted in
         record {
           t = after.t;
           ks = w.ks ++ after.ks;
@@ -238,7 +239,7 @@ module _ (m : Automata) (base : List ℕ) (member : Test) (rules : RepairRules m
           ];
         }
     | inr none ↦
-        let after : Outcome m base member s (λ d. Among d rest) want = achieve rest first.2 (λ d i. all d (inr i)) s want state covers wanted in
+        let after : Rearranged m base member s (λ d. Among d rest) want = achieve rest first.2 (λ d i. all d (inr i)) s want state covers wanted in
         record {
           t = after.t;
           ks = after.ks;
@@ -316,7 +317,7 @@ module _ (m : Automata) (base : List ℕ) (member : Test) (rules : RepairRules m
       | inr other ↦ (0, sym (step_other m s t k inner.step c other))
     ]
 
-    wanted_back : (s t : List ℕ) (k : ℕ) → InnerStep m base member s k t → (a : Outcome m base member t (λ d. Among d order) (back_want s))
+    wanted_back : (s t : List ℕ) (k : ℕ) → InnerStep m base member s k t → (a : Rearranged m base member t (λ d. Among d order) (back_want s))
         → (c : ℕ) → c < length m.components → member c (slice_index s c) ≡ false → IsOnWay m base member c (slice_index s c)
         → (h : ((b : ℕ) × IsHome m base member c b) ⊎ HasNone member c) → back_want s c ≡ option_of c h
         → (n : ℕ) × RepairChain m.moves c (slice_index s c) (slice_index a.t c) n
@@ -336,7 +337,7 @@ module _ (m : Automata) (base : List ℕ) (member : Test) (rules : RepairRules m
 
     comes_back : (s t : List ℕ) (k : ℕ) → InnerStep m base member s k t → WayBack s t
     comes_back s t k inner =
-        let a : Outcome m base member t (λ d. Among d order) (back_want s) =
+        let a : Rearranged m base member t (λ d. Among d order) (back_want s) =
         achieve order ordered.effects_first ordered.within t (back_want s)
         (step_state m s t k inner.step rules inner.state) (inner_covers m base member s t k inner) (back_wanted s) in
         record {
@@ -373,7 +374,7 @@ module _ (m : Automata) (base : List ℕ) (member : Test) (rules : RepairRules m
           prime = r.prime;
           inside = all_from (λ p. member p.item p.value ≡ true) r.cube (λ p among.
               let stands = All-contains (λ q. (slice_get s q.item ≡ Some q.value) × (is_broken m.moves q.item q.value ≡ false)) r.cube p r.stands among in
-              let at_p = at_get s p.item p.value stands.0 in
+              let at_p = value_at s p.item p.value stands.0 in
               let within : p.item < length m.components = subst (λ n. p.item < n) state.full (slice_get_within s p.item p.value stands.0) in
               subst (λ v. member p.item v ≡ true) at_p
               (stands_sound m base member rules classes p.item (slice_index s p.item) (covers p.item within) (subst (λ v. is_broken m.moves p.item v ≡ false) (sym at_p) stands.1)));
@@ -438,27 +439,27 @@ module _ (m : Automata) (base : List ℕ) (member : Test) (rules : RepairRules m
     pub reach_inside : (s : List ℕ) → IsState m s → Covers m base member s → (c x : ℕ) → is_broken m.moves c x ≡ false → Reach m s c x → member c x ≡ true
     reach_inside s state covers c x sound reach =
         let end = stays_covered s reach.1 reach.0 state covers reach.2 in
-        let at_x = at_get reach.1 c x reach.3 in
+        let at_x = value_at reach.1 c x reach.3 in
         let within : c < length m.components = subst (λ n. c < n) end.0.full (slice_get_within reach.1 c x reach.3) in
         subst (λ v. member c v ≡ true) at_x
         (stands_sound m base member rules classes c (slice_index reach.1 c) (end.1 c within) (subst (λ v. is_broken m.moves c v ≡ false) (sym at_x) sound))
 
 -- ---- mendings, where no repair leads to a broken mode
 
-pub mending_one : (m : Automata) → WellFormed m → (c a b n : ℕ) → RepairChain m.moves c a b n → (b ≡ a) ⊎ IsMended m.moves c a b
+pub mending_one : (m : PlantModel) → WellFormed m → (c a b n : ℕ) → RepairChain m.moves c a b n → (b ≡ a) ⊎ IsMended m.moves c a b
 mending_one m w c a b zero e = inl (sym e)
 mending_one m w c a b (suc zero) p = inr (mended_of_next m.moves w.repairs c a b (subst (IsNext m.moves c a) p.2 p.1))
 mending_one m w c a b (suc (suc n)) p =
     absurd (both_ways (is_broken m.moves c p.0) (next_sound m.moves w.repairs c a p.0 p.1) (next_broken m.moves c p.0 p.2.0 p.2.1))
 
-pub mending_from : (m : Automata) → WellFormed m → (s t : List ℕ) → Mends m s t → Mending m s t
+mending_from : (m : PlantModel) → WellFormed m → (s t : List ℕ) → Mends m s t → Mending m s t
 mending_from m w s t h = record {
   full = h.full;
   each = λ c lt. let way = h.each c lt in mending_one m w c (slice_index s c) (slice_index t c) way.0 way.1;
 }
 
 -- in a well-formed model a repair leads into the class
-pub stands_mended : (m : Automata) (base : List ℕ) (member : Test) → WellFormed m → (move : Move) → Contains m.moves move
+stands_mended : (m : PlantModel) (base : List ℕ) (member : Test) → WellFormed m → (move : Move) → Contains m.moves move
     → Stands m base member move.component move.target → member move.component move.target ≡ true
 stands_mended m base member w move among (inl inside) = inside
 stands_mended m base member w move among (inr on) = absurd (both_ways (is_broken m.moves move.component move.target)
@@ -466,14 +467,14 @@ stands_mended m base member w move among (inr on) = absurd (both_ways (is_broken
 
 -- ---- the laws
 
-module _ (m : Automata) (order base : List ℕ) (member : Test) (s : List ℕ) (g : Setting m order base member s) where
+module _ (m : PlantModel) (order base : List ℕ) (member : Test) (s : List ℕ) (g : Setting m order base member s) where
   abbrev rules : RepairRules m
   rules = repair_rules m g.well_formed
 
   abbrev ordered : IsOrder m order
   ordered = order_from m order g.ordered
 
-  pub returns : (x y : List ℕ) (k : ℕ) → InnerStep m base member x k y → Returns m x y
+  returns : (x y : List ℕ) (k : ℕ) → InnerStep m base member x k y → Returns m x y
   returns x y k inner =
       let back = comes_back m base member rules g.classes g.grounded order ordered x y k inner in
       (back.ks, back.end, back.run, mending_from m g.well_formed x back.end back.mends)
@@ -485,7 +486,7 @@ module _ (m : Automata) (order base : List ℕ) (member : Test) (s : List ℕ) (
   allowed_plan x y [] run = run
   allowed_plan x y (k ∷ ks) run = (run.0, allowed x run.0 k run.1, allowed_plan run.0 y ks run.2)
 
-  pub reached : (c x : ℕ) → member c x ≡ true → Reach m s c x
+  reached : (c x : ℕ) → member c x ≡ true → Reach m s c x
   reached c x inside =
       let within : c < length m.components = member_within m base member rules g.classes c x inside in
       let want : ℕ → Option ℕ = λ d. cond (d == c) (Some x) None in
@@ -494,12 +495,12 @@ module _ (m : Automata) (order base : List ℕ) (member : Test) (s : List ℕ) (
             (subst (λ v. member c v ≡ true) (some_inj x y (sym (cond-true (d == c) (Some x) None same) ∙ h)) inside)
         | inr other ↦ absurd (none_some y (sym (cond-false (d == c) (Some x) None other) ∙ h))
       ] in
-      let a : Outcome m base member s (λ d. Among d order) want =
+      let a : Rearranged m base member s (λ d. Among d order) want =
       achieve m base member rules g.classes order ordered.effects_first ordered.within s want g.state g.covers wanted in
       let there : slice_index a.t c ≡ x = a.stands c x (ordered.all_there c within) (cond-true (c == c) (Some x) None (eq-eqb c c refl)) in
-      (a.ks, a.t, allowed_plan s a.t a.ks a.run, held_at a.t c x (subst (λ n. c < n) (sym a.state.full) within) there)
+      (a.ks, a.t, allowed_plan s a.t a.ks a.run, get_at a.t c x (subst (λ n. c < n) (sym a.state.full) within) there)
 
-  pub reaches : (c x : ℕ) → is_broken m.moves c x ≡ false → Reach m s c x → member c x ≡ true
+  reaches : (c x : ℕ) → is_broken m.moves c x ≡ false → Reach m s c x → member c x ≡ true
   reaches c x sound reach = reach_inside m base member rules g.classes g.grounded order ordered s g.state g.covers c x sound reach
 
 pub class_is_reach : ClassIsReach

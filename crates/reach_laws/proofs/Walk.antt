@@ -2,7 +2,8 @@
 use Rattle.std.proofs.Common.{◌≡◌, ◌<◌, ◌+◌, ℕ, true, false, zero, suc, List, [], ◌∷◌, ◌++◌, length, slice_get, slice_index, Some, refl, sym, ap, subst, ◌∙◌, inl, inr}
 use Rattle.std.proofs.lemmas.Bool.{cases_eq, cases_Bool, both_ways, false_from_ne_true}
 use Rattle.std.proofs.lemmas.List.Elements.{All-contains}
-use Rattle.cca_base.specs.Automata.{Automata}
+use Rattle.list_laws.proofs.Places.{value_at}
+use Rattle.cca_base.specs.PlantModel.{PlantModel}
 use Rattle.cca_base.specs.Model.{IsNext, RepairChain, is_broken}
 use Rattle.cca_base.specs.Implicants.{Needs}
 use Rattle.cca_base.specs.State.{IsState}
@@ -11,17 +12,18 @@ use Rattle.cca_base.specs.Steps.{Step, Run}
 use Rattle.cca_base.proofs.Members.{all_from}
 use Rattle.reach_laws.specs.Classes.{Test, OpenMove, OpenWalk, Joined, OpenRepairs, IsHome, InClass, AreClasses, IsOnWay, Stands, Covers}
 use Rattle.reach_laws.specs.Laws.{Ready, ClosedWalk}
-use Rattle.reach_laws.proofs.Facts.{RepairRules, at_get, run_join, run_one, step_source, step_target, step_other, run_state, join, stay, go_on, repairs_join}
+use Rattle.reach_laws.proofs.Facts.{RepairRules, run_one, step_source, step_target, step_other, run_state, join, stay, go_on, repairs_join}
 use Rattle.reach_laws.proofs.Order.{repair_rules, Among, AreEffectsFirst, IsOrder, order_from}
 use Rattle.reach_laws.proofs.Ready.{steps_are_ready}
 use Rattle.cca_base.proofs.NextModes.{next_broken, repair_of}
+use Rattle.cca_laws.proofs.PlanLaws.{runs_join}
 
 -- each component stands in a mode to which repairs lead from where it stood
-pub record Mends (m : Automata) (s t : List ℕ) : Type 0 where
+pub record Mends (m : PlantModel) (s t : List ℕ) : Type 0 where
   pub full : length t ≡ length s
   pub each : (c : ℕ) → c < length s → (n : ℕ) × RepairChain m.moves c (slice_index s c) (slice_index t c) n
 
-pub mends_from : (m : Automata) (s t : List ℕ) → Mending m s t → Mends m s t
+pub mends_from : (m : PlantModel) (s t : List ℕ) → Mending m s t → Mends m s t
 mends_from m s t h = record {
   full = h.full;
   each = λ c lt. elim (h.each c lt) [
@@ -32,7 +34,7 @@ mends_from m s t h = record {
 
 -- ---- repairs
 
-module _ (m : Automata) (member : Test) (rules : RepairRules m) where
+module _ (m : PlantModel) (member : Test) (rules : RepairRules m) where
   -- an open move that leaves a broken mode is its repair
   pub mended_by : (c a b : ℕ) → is_broken m.moves c a ≡ true → OpenMove m member c a b → IsNext m.moves c a b
   mended_by c a b broken o = record {
@@ -50,19 +52,19 @@ module _ (m : Automata) (member : Test) (rules : RepairRules m) where
   repairs_from c a b (suc n) p = (p.0, mended_by c a p.0 p.1 p.2, repairs_from c p.0 b n p.3)
 
   -- no open move leads from a sound mode to a broken one
-  pub sound_move : (c a b : ℕ) → OpenMove m member c a b → is_broken m.moves c a ≡ false → is_broken m.moves c b ≡ false
+  sound_move : (c a b : ℕ) → OpenMove m member c a b → is_broken m.moves c a ≡ false → is_broken m.moves c b ≡ false
   sound_move c a b o sound = false_from_ne_true (is_broken m.moves c b) (λ broken.
       both_ways (is_broken m.moves c a) sound
       (subst (λ x. is_broken m.moves c x ≡ true) o.source (subst (λ d. is_broken m.moves d o.move.source ≡ true) o.own
       (rules.repairs_leave o.move o.of_model (rules.only_repairs_enter o.move o.of_model
       (subst (λ d. is_broken m.moves d o.move.target ≡ true) (sym o.own) (subst (λ x. is_broken m.moves c x ≡ true) (sym o.target) broken)))))))
 
-  pub sound_walk : (c a b n : ℕ) → OpenWalk m member c a b n → is_broken m.moves c a ≡ false → is_broken m.moves c b ≡ false
+  sound_walk : (c a b n : ℕ) → OpenWalk m member c a b n → is_broken m.moves c a ≡ false → is_broken m.moves c b ≡ false
   sound_walk c a b zero e sound = subst (λ x. is_broken m.moves c x ≡ false) e sound
   sound_walk c a b (suc n) p sound = sound_walk c p.0 b n p.2 (sound_move c a p.0 p.1 sound)
 
   -- repairs lead from a sound mode only to itself
-  pub sound_repairs : (c a b n : ℕ) → RepairChain m.moves c a b n → is_broken m.moves c a ≡ false → a ≡ b
+  sound_repairs : (c a b n : ℕ) → RepairChain m.moves c a b n → is_broken m.moves c a ≡ false → a ≡ b
   sound_repairs c a b zero e sound = e
   sound_repairs c a b (suc n) p sound = absurd (both_ways (is_broken m.moves c a) sound (next_broken m.moves c a p.0 p.1))
 
@@ -91,7 +93,7 @@ module _ (m : Automata) (member : Test) (rules : RepairRules m) where
     pub way : OpenRepairs m member c a home count
     pub rest : Joined m member c home b
 
-  pub first_sound : (c a b n : ℕ) → OpenWalk m member c a b n → is_broken m.moves c b ≡ false → FirstSound c a b
+  first_sound : (c a b n : ℕ) → OpenWalk m member c a b n → is_broken m.moves c b ≡ false → FirstSound c a b
   first_sound c a b zero e sound = record {
     home = a;
     sound = subst (λ x. is_broken m.moves c x ≡ false) (sym e) sound;
@@ -108,14 +110,14 @@ module _ (m : Automata) (member : Test) (rules : RepairRules m) where
 
 -- ---- what classes are
 
-module _ (m : Automata) (base : List ℕ) (member : Test) (rules : RepairRules m) (classes : AreClasses m base member) where
+module _ (m : PlantModel) (base : List ℕ) (member : Test) (rules : RepairRules m) (classes : AreClasses m base member) where
   pub one_home : (c a b : ℕ) → IsHome m base member c a → IsHome m base member c b → a ≡ b
   one_home c a b h k =
       one_end m member rules c (slice_index base c) a b h.count k.count
       (repairs_from m member rules c (slice_index base c) a h.count h.way)
       (repairs_from m member rules c (slice_index base c) b k.count k.way) h.sound k.sound
 
-  pub in_class : (c a x : ℕ) → IsHome m base member c a → Joined m member c a x → Joined m member c x a → member c x ≡ true
+  in_class : (c a x : ℕ) → IsHome m base member c a → Joined m member c a x → Joined m member c x a → member c x ≡ true
   in_class c a x is_home to from = (classes.each c x).1 (record { home = a; is_home = is_home; to = to; from = from })
 
   pub home_member : (c a : ℕ) → IsHome m base member c a → member c a ≡ true
@@ -176,7 +178,7 @@ module _ (m : Automata) (base : List ℕ) (member : Test) (rules : RepairRules m
             prime = r.prime;
             inside = all_from (λ p. member p.item p.value ≡ true) r.cube (λ p among.
                 let stands = All-contains (λ q. (slice_get x q.item ≡ Some q.value) × (is_broken m.moves q.item q.value ≡ false)) r.cube p r.stands among in
-                let here = at_get x p.item p.value stands.0 in
+                let here = value_at x p.item p.value stands.0 in
                 let need : Needs m c p.item = record { move = step.move; of_model = step.of_model; own = own; cube = r.cube; prime = r.prime; mode = p.value; occurs = among } in
                 subst (λ v. member p.item v ≡ true) here (below p.item need x way (subst (λ v. is_broken m.moves p.item v ≡ false) (sym here) stands.1)));
           };
@@ -190,8 +192,8 @@ module _ (m : Automata) (base : List ℕ) (member : Test) (rules : RepairRules m
         let mid = run.0 in
         let step = run.1 in
         let rest : Joined m member c (slice_index mid c) (slice_index y c) =
-        walk c below ks mid y run.2 (before ++ k ∷ []) after (run_join m s x mid before (k ∷ []) first (run_one m x mid k step)) last in
-        let way : OnRun x = (before, (k ∷ ks) ++ after, first, run_join m x y t (k ∷ ks) after run last) in
+        walk c below ks mid y run.2 (before ++ k ∷ []) after (runs_join m s x mid before (k ∷ []) first (run_one m x mid k step)) last in
+        let way : OnRun x = (before, (k ∷ ks) ++ after, first, runs_join m x y t (k ∷ ks) after run last) in
         elim (cases_eq c step.move.component) [
           | inl own ↦ go_on m member c (slice_index x c) (slice_index mid c) (slice_index y c) (open_step c below x mid k step way (sym own)) rest
           | inr other ↦ subst (λ v. Joined m member c v (slice_index y c)) (step_other m x mid k step c other) rest

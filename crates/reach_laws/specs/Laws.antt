@@ -2,7 +2,7 @@
 use Rattle.std.specs.Prelude.{◌≡◌, ◌⊎◌, ◌↔◌, ◌<◌, ℕ, true, false, List, length, slice_get, slice_index, Some, All, IsTrue}
 use Rattle.cca_base.specs.declared.cube.Pair.{Pair}
 use Rattle.cca_base.specs.declared.model.Move.{Move}
-use Rattle.cca_base.specs.Automata.{Automata}
+use Rattle.cca_base.specs.PlantModel.{PlantModel}
 use Rattle.cca_base.specs.Model.{WellFormed, is_broken}
 use Rattle.cca_base.specs.State.{IsState}
 use Rattle.cca_base.specs.Implicants.{PrimeImplicant}
@@ -13,7 +13,7 @@ use Rattle.cca_base.specs.Choice.{IsOpenAt, Walk}
 use Rattle.reach_laws.specs.Classes.{Test, IsOpen, OpenWalk, AreClasses, Stands, Covers}
 
 -- classes of a model around a base, its order, and a state that they cover
-pub record Setting (m : Automata) (order base : List ℕ) (member : Test) (s : List ℕ) : Type 0 where
+pub record Setting (m : PlantModel) (order base : List ℕ) (member : Test) (s : List ℕ) : Type 0 where
   pub well_formed : WellFormed m
   pub ordered : IsEffectsFirst m order
   pub grounded : IsState m base
@@ -22,68 +22,68 @@ pub record Setting (m : Automata) (order base : List ℕ) (member : Test) (s : L
   pub covers : Covers m base member s
 
 -- a prime implicant of the move stands, on modes that are not broken
-pub record Ready (m : Automata) (s : List ℕ) (move : Move) : Type 0 where
+pub record Ready (m : PlantModel) (s : List ℕ) (move : Move) : Type 0 where
   pub cube : List Pair
   pub prime : PrimeImplicant m move cube
   pub stands : All (λ p. (slice_get s p.item ≡ Some p.value) × (is_broken m.moves p.item p.value ≡ false)) cube
 
 -- each step's move is ready
 abbrev pub EachStepIsReady : Type 0
-EachStepIsReady = (m : Automata) (s t : List ℕ) (k : ℕ) → IsState m s → (step : Step m s k t) → Ready m s step.move
+EachStepIsReady = (m : PlantModel) (s t : List ℕ) (k : ℕ) → IsState m s → (step : Step m s k t) → Ready m s step.move
 
 -- on the way to a mending, each mode that is not broken is in its class
 abbrev pub ClosedWalk : Type 0
-ClosedWalk = (m : Automata) (order base : List ℕ) (member : Test) (s : List ℕ) → Setting m order base member s
+ClosedWalk = (m : PlantModel) (order base : List ℕ) (member : Test) (s : List ℕ) → Setting m order base member s
     → (mid t : List ℕ) (ks ls : List ℕ) → Run m s ks mid → Run m mid ls t → Mending m s t
     → (c : ℕ) → c < length m.components → is_broken m.moves c (slice_index mid c) ≡ false → member c (slice_index mid c) ≡ true
 
 -- a class is exactly the modes that are not broken and that allowed plans reach
 abbrev pub ClassIsReach : Type 0
-ClassIsReach = (m : Automata) (order base : List ℕ) (member : Test) (s : List ℕ) → Setting m order base member s
+ClassIsReach = (m : PlantModel) (order base : List ℕ) (member : Test) (s : List ℕ) → Setting m order base member s
     → (c x : ℕ) → (member c x ≡ true) ↔ ((is_broken m.moves c x ≡ false) × Reach m s c x)
 
 -- there is one family of classes at most around a state
 abbrev pub OneClasses : Type 0
-OneClasses = (m : Automata) (order base : List ℕ) (member other : Test) → Setting m order base member base → Setting m order base other base
+OneClasses = (m : PlantModel) (order base : List ℕ) (member other : Test) → Setting m order base member base → Setting m order base other base
     → (c x : ℕ) → (member c x ≡ true) ↔ (other c x ≡ true)
 
 -- a step that is no repair is allowed exactly where its target is in the class
 abbrev pub AllowedInside : Type 0
-AllowedInside = (m : Automata) (order base : List ℕ) (member : Test) (s : List ℕ) → Setting m order base member s
+AllowedInside = (m : PlantModel) (order base : List ℕ) (member : Test) (s : List ℕ) → Setting m order base member s
     → (t : List ℕ) (k : ℕ) (step : Step m s k t) → step.move.repair ≡ false
     → Allowed m s k t ↔ (member step.move.component step.move.target ≡ true)
 
 -- some list of steps leads from t to a mending of s
-abbrev pub Returns : Automata → List ℕ → List ℕ → Type 0
+abbrev pub Returns : PlantModel → List ℕ → List ℕ → Type 0
 Returns m s t = (ks s3 : List ℕ) × Run m t ks s3 × Mending m s s3
 
 -- a step that is no repair has a way back exactly where its target is in the class
 abbrev pub ReturnsInside : Type 0
-ReturnsInside = (m : Automata) (order base : List ℕ) (member : Test) (s : List ℕ) → Setting m order base member s
+ReturnsInside = (m : PlantModel) (order base : List ℕ) (member : Test) (s : List ℕ) → Setting m order base member s
     → (t : List ℕ) (k : ℕ) (step : Step m s k t) → step.move.repair ≡ false
     → Returns m s t ↔ (member step.move.component step.move.target ≡ true)
 
 -- a repair that is a step leads into the class
 abbrev pub RepairsLeadIn : Type 0
-RepairsLeadIn = (m : Automata) (order base : List ℕ) (member : Test) (s : List ℕ) → Setting m order base member s
+RepairsLeadIn = (m : PlantModel) (order base : List ℕ) (member : Test) (s : List ℕ) → Setting m order base member s
     → (t : List ℕ) (k : ℕ) (step : Step m s k t) → IsTrue step.move.repair → member step.move.component step.move.target ≡ true
 
 -- what an allowed plan ends in is covered by the same classes
 abbrev pub StaysCovered : Type 0
-StaysCovered = (m : Automata) (order base : List ℕ) (member : Test) (s : List ℕ) → Setting m order base member s
+StaysCovered = (m : PlantModel) (order base : List ℕ) (member : Test) (s : List ℕ) → Setting m order base member s
     → (t ks : List ℕ) → AllowedPlan m s ks t → Setting m order base member t
 
 -- what is open by reach is open inside the classes
 abbrev pub OpenAgrees : Type 0
-OpenAgrees = (m : Automata) (order base : List ℕ) (member : Test) (s : List ℕ) → Setting m order base member s
+OpenAgrees = (m : PlantModel) (order base : List ℕ) (member : Test) (s : List ℕ) → Setting m order base member s
     → (move : Move) → IsOpenAt m s move ↔ IsOpen m member move
 
 -- the walks by reach are the walks inside the classes
 abbrev pub WalksAgree : Type 0
-WalksAgree = (m : Automata) (order base : List ℕ) (member : Test) (s : List ℕ) → Setting m order base member s
+WalksAgree = (m : PlantModel) (order base : List ℕ) (member : Test) (s : List ℕ) → Setting m order base member s
     → (c from to n : ℕ) → Walk m s c from to n ↔ OpenWalk m member c from to n
 
 -- where no repair leads to a broken mode, a covered component stands in its class or in its base mode
 abbrev pub StandsByBase : Type 0
-StandsByBase = (m : Automata) (base : List ℕ) (member : Test) → WellFormed m → AreClasses m base member
+StandsByBase = (m : PlantModel) (base : List ℕ) (member : Test) → WellFormed m → AreClasses m base member
     → (c x : ℕ) → c < length m.components → Stands m base member c x ↔ ((member c x ≡ true) ⊎ (x ≡ slice_index base c))

@@ -3,15 +3,15 @@ use Rattle.std.proofs.Common.{◌≡◌, ◌≢◌, ◌<◌, ◌≤◌, ◌+◌,
 use Rattle.std.proofs.lemmas.Bool.{cases_eq, cases_lt, or_cases, or_left, or_right}
 use Rattle.std.proofs.lemmas.Option.{slice_get_within, get_or_from_slice_get}
 use Rattle.cca_base.specs.declared.model.Move.{Move}
-use Rattle.cca_base.specs.Automata.{Automata}
+use Rattle.cca_base.specs.PlantModel.{PlantModel}
 use Rattle.cca_base.specs.Sets.{has}
 use Rattle.cca_base.proofs.Members.{some_inj, none_some}
-use Rattle.reversibility.specs.Parts.{in_row}
-use Rattle.reversibility.specs.Levels.{Edges, AreMovesWithin, Leads, EdgeWalk, IsNear, IsLevel, AreLevels, IsExpanded, IsSelf}
+use Rattle.reversibility.specs.ClassParts.{in_row}
+use Rattle.reversibility.specs.Levels.{Edges, AreMovesWithin, MoveLeads, EdgeWalk, IsNear, IsLevel, AreLevels, IsExpanded}
 
 -- ---- lists that grow
 
-pub push_get : {X : Type 0} (xs : List X) (y z : X) (k : ℕ) → slice_get (xs ++ y ∷ []) k ≡ Some z → (slice_get xs k ≡ Some z) ⊎ ((k ≡ length xs) × (y ≡ z))
+push_get : {X : Type 0} (xs : List X) (y z : X) (k : ℕ) → slice_get (xs ++ y ∷ []) k ≡ Some z → (slice_get xs k ≡ Some z) ⊎ ((k ≡ length xs) × (y ≡ z))
 push_get [] y z zero h = inr (refl, some_inj y z h)
 push_get [] y z (suc k) h = absurd (none_some z h)
 push_get (x ∷ xs) y z zero h = inl h
@@ -23,24 +23,24 @@ push_get (x ∷ xs) y z (suc k) h = elim (push_get xs y z k h) [
 -- ---- one move more
 
 -- what the move of a number leads between
-pub move_within : (m : Automata) (n : ℕ) (numbers : List ℕ) → AreMovesWithin m n numbers → (place : ℕ) → place < length numbers → (move : Move)
+pub move_within : (m : PlantModel) (n : ℕ) (numbers : List ℕ) → AreMovesWithin m n numbers → (place : ℕ) → place < length numbers → (move : Move)
     → slice_get m.moves (slice_index numbers place) ≡ Some move → (move.source < n) × (move.target < n)
 move_within m n numbers within place lt move at =
     let is = within place lt in
     let same : is.0 ≡ move = some_inj is.0 move (sym is.1 ∙ at) in
     (subst (λ (z : Move). z.source < n) same is.2, subst (λ (z : Move). z.target < n) same is.3)
 
-module _ (m : Automata) (numbers : List ℕ) (level : List ℕ) where
+module _ (m : PlantModel) (numbers : List ℕ) (level : List ℕ) where
   -- what the first n of the moves lead to besides
   abbrev pub IsExpandedBy : ℕ → List ℕ → Type 0
-  IsExpandedBy n next = IsExpanded (Leads m numbers n) level next
+  IsExpandedBy n next = IsExpanded (MoveLeads m numbers n) level next
 
-  more_leads : (n a x : ℕ) → Leads m numbers n a x → Leads m numbers (n + 1) a x
+  more_leads : (n a x : ℕ) → MoveLeads m numbers n a x → MoveLeads m numbers (n + 1) a x
   more_leads n a x h = record { place = h.place; below = omega (arith, h.below); move = h.move; move_at = h.move_at; source = h.source; target = h.target }
 
   -- the last of the moves, or one before it
-  pub last_or : (n a x : ℕ) (move : Move) → slice_get m.moves (slice_index numbers n) ≡ Some move → Leads m numbers (n + 1) a x
-      → Leads m numbers n a x ⊎ ((move.source ≡ a) × (move.target ≡ x))
+  pub last_or : (n a x : ℕ) (move : Move) → slice_get m.moves (slice_index numbers n) ≡ Some move → MoveLeads m numbers (n + 1) a x
+      → MoveLeads m numbers n a x ⊎ ((move.source ≡ a) × (move.target ≡ x))
   last_or n a x move at h = elim (cases_lt h.place n) [
     | inl below ↦ inl (record { place = h.place; below = below; move = h.move; move_at = h.move_at; source = h.source; target = h.target })
     | inr past ↦
@@ -48,18 +48,6 @@ module _ (m : Automata) (numbers : List ℕ) (level : List ℕ) where
         let same : h.move ≡ move = some_inj h.move move (sym h.move_at ∙ (ap (λ k. slice_get m.moves (slice_index numbers k)) here ∙ at)) in
         inr (sym (ap (λ z. z.source) same) ∙ h.source, sym (ap (λ z. z.target) same) ∙ h.target)
   ]
-
-  pub expand_none : IsExpandedBy 0 level
-  expand_none = record {
-    full = refl;
-    each = λ a b lt. (
-      (λ e. inl e),
-      (λ k. elim k [
-        | inl old ↦ old
-        | inr j ↦ let h : Leads m numbers 0 a j.0 = j.1 in absurd (omega (arith, h.below))
-      ]),
-    );
-  }
 
   pub expand_more : (n : ℕ) (next : List ℕ) → IsExpandedBy n next → (move : Move) → slice_get m.moves (slice_index numbers n) ≡ Some move
       → (old row set : ℕ) → slice_get next move.source ≡ Some old → slice_index level move.target ≡ row → ((b : ℕ) → has set b ≡ (has old b || has row b))
@@ -87,7 +75,7 @@ module _ (m : Automata) (numbers : List ℕ) (level : List ℕ) where
               ]
             ])),
           )
-          | inl e ↦ subst (λ z. (in_row (slice_set next s set) z b ≡ true) ↔ ((in_row level z b ≡ true) ⊎ ((x : ℕ) × Leads m numbers (n + 1) z x × (in_row level x b ≡ true)))) (sym e) (
+          | inl e ↦ subst (λ z. (in_row (slice_set next s set) z b ≡ true) ↔ ((in_row level z b ≡ true) ⊎ ((x : ℕ) × MoveLeads m numbers (n + 1) z x × (in_row level x b ≡ true)))) (sym e) (
             (λ yes_b. elim (or_cases (in_row next s b) (has row b) (sym (same_row b) ∙ yes_b)) [
               | inl before ↦ elim ((h.each s b (subst (λ z. z < length level) e lt)).0 before) [
                 | inl was ↦ inl was
@@ -108,19 +96,6 @@ module _ (m : Automata) (numbers : List ℕ) (level : List ℕ) where
 
 -- ---- levels
 
-pub self_level : (edge : Edges) (n : ℕ) (level : List ℕ) → IsSelf n level → IsLevel edge n 0 level
-self_level edge n level h = record {
-  full = h.full;
-  each = λ a b lt. (
-    (λ e. record { count = 0; few = omega arith; walk = (h.each a b lt).0 e }),
-    (λ near. (h.each a b lt).1 (nothing near.count near.few near.walk)),
-  );
-}
-  where
-    nothing : {a b : ℕ} (count : ℕ) → count ≤ 0 → EdgeWalk edge a b count → a ≡ b
-    nothing zero few walk = walk
-    nothing (suc count) few walk = absurd (omega (arith, few))
-
 module _ (edge : Edges) (n : ℕ) (stay : (a x : ℕ) → edge a x → x < n) where
   near_more : (k a b : ℕ) → IsNear edge k a b → IsNear edge (k + 1) a b
   near_more k a b h = record { count = h.count; few = omega (arith, h.few); walk = h.walk }
@@ -129,7 +104,7 @@ module _ (edge : Edges) (n : ℕ) (stay : (a x : ℕ) → edge a x → x < n) wh
   near_split k a b zero few walk = inl (record { count = 0; few = omega arith; walk = walk })
   near_split k a b (suc i) few walk = inr (walk.0, walk.1, record { count = i; few = omega (arith, few); walk = walk.2 })
 
-  pub level_next : (k : ℕ) (level next : List ℕ) → IsLevel edge n k level → IsExpanded edge level next → IsLevel edge n (k + 1) next
+  level_next : (k : ℕ) (level next : List ℕ) → IsLevel edge n k level → IsExpanded edge level next → IsLevel edge n (k + 1) next
   level_next k level next h made = record {
     full = made.full ∙ h.full;
     each = λ a b lt. (

@@ -5,21 +5,21 @@ use Rattle.std.proofs.lemmas.List.{get_or_default}
 use Rattle.std.proofs.lemmas.List.Elements.{All-contains}
 use Rattle.cca_base.specs.declared.cube.Pair.{Pair}
 use Rattle.cca_base.specs.declared.model.Move.{Move}
-use Rattle.cca_base.specs.Automata.{Automata}
-use Rattle.cca_base.specs.Accepted.{CompiledParts, IsCompiled, AreWays}
+use Rattle.cca_base.specs.PlantModel.{PlantModel}
+use Rattle.cca_base.specs.Accepted.{CompiledModel, IsCompiled, AreWays}
 use Rattle.cca_base.specs.Implicants.{PrimeImplicant}
 use Rattle.cca_base.specs.Model.{WellFormed, IsMove, HasMode, mode_counts}
 use Rattle.cca_base.proofs.Members.{all_from, some_inj}
 use Rattle.cca_base.proofs.Within.{mode_within}
 use Rattle.reach_laws.specs.Classes.{Test, IsOpen, OpenMove}
 use Rattle.reach_laws.proofs.Needed.{move_in}
-use Rattle.reversibility.specs.Levels.{SomeInside, IsOpenNumber, AreOpenMoves, AreMovesWithin, Leads}
+use Rattle.reversibility.specs.Levels.{SomeInside, IsOpenNumber, AreOpenMoves, AreMovesWithin, MoveLeads}
 use Rattle.reversibility.proofs.Exactly.{exactly_here, exactly_place}
 
 pub row_at : (rows : List ℕ) (i x : ℕ) → i < length rows → x ≡ get_or rows i x → slice_index rows i ≡ x
 row_at rows i x within is = get_or_default rows i 0 x within ∙ sym is
 
-module _ (b : CompiledParts) (is : IsCompiled b) (member : Test) (i : ℕ) (move : Move) (cubes : List (List Pair)) (move_at : slice_get b.model.moves i ≡ Some move) (ways_at : slice_get b.ways i ≡ Some cubes) where
+module _ (b : CompiledModel) (is : IsCompiled b) (member : Test) (i : ℕ) (move : Move) (cubes : List (List Pair)) (move_at : slice_get b.model.moves i ≡ Some move) (ways_at : slice_get b.ways i ≡ Some cubes) where
   ways : AreWays b.model move cubes
   ways = is.ways i move cubes move_at ways_at
 
@@ -36,7 +36,7 @@ module _ (b : CompiledParts) (is : IsCompiled b) (member : Test) (i : ℕ) (move
       let has_mode : HasMode b.model p.item p.value = All-contains (λ q. HasMode b.model q.item q.value) cube p prime.modes inside in
       subst (λ k. p.item < k) (sym full) (mode_within b.model p.item p.value has_mode)))
 
-module _ (m : Automata) (w : WellFormed m) (member : Test) (c : ℕ) where
+module _ (m : PlantModel) (w : WellFormed m) (member : Test) (c : ℕ) where
   -- a number past the moves names none
   pub number_within : (i : ℕ) → IsOpenNumber m member c i → i < length m.moves
   number_within i is = slice_get_within m.moves i is.move is.move_at
@@ -59,7 +59,7 @@ module _ (m : Automata) (w : WellFormed m) (member : Test) (c : ℕ) where
         (is.move, is.move_at, subst (λ d. HasMode m d is.move.source) is.own fits.source, subst (λ d. HasMode m d is.move.target) is.own fits.target)
 
     -- they lead where the open moves lead
-    pub leads_open : (a x : ℕ) → Leads m numbers (length numbers) a x → OpenMove m member c a x
+    pub leads_open : (a x : ℕ) → MoveLeads m numbers (length numbers) a x → OpenMove m member c a x
     leads_open a x h =
         let is : IsOpenNumber m member c (slice_index numbers h.place) = exactly_here (IsOpenNumber m member c) numbers are h.place h.below in
         let same : is.move ≡ h.move = some_inj is.move h.move (sym is.move_at ∙ h.move_at) in
@@ -72,7 +72,7 @@ module _ (m : Automata) (w : WellFormed m) (member : Test) (c : ℕ) where
           open_move = subst (IsOpen m member) same is.open_move;
         }
 
-    pub open_leads : (a x : ℕ) → OpenMove m member c a x → Leads m numbers (length numbers) a x
+    pub open_leads : (a x : ℕ) → OpenMove m member c a x → MoveLeads m numbers (length numbers) a x
     open_leads a x o =
         let at : slice_get m.moves o.of_model.0 ≡ Some o.move = slice_get-get_or m.moves o.of_model.0 o.move o.of_model.1 ∙ ap (λ z. Some z) o.of_model.2 in
         let there = exactly_place (IsOpenNumber m member c) numbers are o.of_model.0 (number_yes o.of_model.0 o.move at o.own o.open_move) in

@@ -9,7 +9,7 @@ use Rattle.reach_laws.proofs.Order.{repair_rules}
 use Rattle.reach_laws.proofs.Sound.{class_is_reach, repairs_lead_in, stays_covered_law}
 use Rattle.reach_laws.proofs.Stands.{stands_by_base}
 use Rattle.reach_laws.proofs.Walk.{home_member}
-use Rattle.reversibility.specs.Parts.{ClassParts, IsClasses, CoversState, in_row}
+use Rattle.reversibility.specs.ClassParts.{ClassParts, IsClasses, CoversState, in_row}
 use Rattle.reversibility.specs.Promises.{IsLost, IsEmptySet, IsReachOf, AllowsInside, MendsInside, StaysInside, StandsByBase}
 
 module _ (p : ClassParts) (is : IsClasses p) where

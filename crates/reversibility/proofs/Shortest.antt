@@ -2,11 +2,11 @@
 use Rattle.std.proofs.Common.{◌≡◌, ◌<◌, ◌≤◌, ◌-◌, ◌⊎◌, ℕ, true, false, zero, suc, List, length, slice_get, slice_index, Option, Some, None, refl, sym, ap, subst, ◌∙◌, inl, inr, arith}
 use Rattle.std.proofs.lemmas.Bool.{cases_lt, both_ways}
 use Rattle.cca_base.specs.declared.model.Move.{Move}
-use Rattle.cca_base.specs.Automata.{Automata}
+use Rattle.cca_base.specs.PlantModel.{PlantModel}
 use Rattle.cca_base.specs.Model.{WellFormed, HasMode, IsNext, is_broken, mode_counts}
 use Rattle.cca_base.specs.Relations.{numbers_below}
 use Rattle.cca_base.proofs.Members.{some_inj, none_some}
-use Rattle.cca_base.proofs.RelationLemmas.{below_contains, numbers_within}
+use Rattle.cca_base.proofs.PathLaws.{below_contains, numbers_within}
 use Rattle.reach_laws.specs.Classes.{Test, OpenMove, OpenWalk, Joined, OpenRepairs}
 use Rattle.reach_laws.specs.Cells.{IsShortest}
 use Rattle.reach_laws.proofs.Facts.{RepairRules}
@@ -15,8 +15,8 @@ use Rattle.cca_laws.proofs.Decided.{dec_equal}
 use Rattle.cca_laws.proofs.Minimal.{search_list}
 use Rattle.reach_laws.proofs.Trails.{shortest_few}
 use Rattle.reach_laws.proofs.Walk.{mended_by}
-use Rattle.reversibility.specs.Parts.{in_row}
-use Rattle.reversibility.specs.Levels.{Edges, Leads, AreOpenMoves, EdgeWalk, IsNear, IsLevel, AreLevels, AreEnough, AreLevelsOf}
+use Rattle.reversibility.specs.ClassParts.{in_row}
+use Rattle.reversibility.specs.Levels.{Edges, MoveLeads, AreOpenMoves, EdgeWalk, IsNear, IsLevel, AreLevels, AreEnough, AreLevelsOf}
 use Rattle.reversibility.specs.Homes.{IsAround, IsHomeBy, IsHomeFrom, IsClassFrom}
 use Rattle.reversibility.proofs.Near.{closed_walk}
 use Rattle.reversibility.proofs.OpenMoves.{leads_open, open_leads}
@@ -67,7 +67,7 @@ level_map edge other to from n k level h = record {
 
 -- ---- open moves
 
-module _ (m : Automata) (w : WellFormed m) (member : Test) (c : ℕ) where
+module _ (m : PlantModel) (w : WellFormed m) (member : Test) (c : ℕ) where
   abbrev rules : RepairRules m
   rules = repair_rules m w
 
@@ -90,14 +90,14 @@ module _ (m : Automata) (w : WellFormed m) (member : Test) (c : ℕ) where
   walk_end a b (suc n) has_a walk = walk_end walk.0 b n (target_mode a walk.0 walk.1) walk.2
 
   -- what a level has, open moves join
-  pub near_joined : (k a b : ℕ) → IsNear (OpenMove m member c) k a b → Joined m member c a b
+  near_joined : (k a b : ℕ) → IsNear (OpenMove m member c) k a b → Joined m member c a b
   near_joined k a b near = record { count = near.count; walk = to_open a b near.count near.walk }
 
   -- ---- the last level
 
   module _ (numbers : List ℕ) (are : AreOpenMoves m member c numbers) where
     abbrev Edge : Edges
-    Edge = Leads m numbers (length numbers)
+    Edge = MoveLeads m numbers (length numbers)
 
     dec_both : {A B : Type 0} → Dec A → Dec B → Dec (A × B)
     dec_both (yes a) (yes b) = yes (a, b)
@@ -192,7 +192,7 @@ module _ (m : Automata) (w : WellFormed m) (member : Test) (c : ℕ) where
   -- ---- homes
 
   module _ (numbers : List ℕ) (are : AreOpenMoves m member c numbers) where
-    pub home_from : (mode a : ℕ) → IsHomeBy m.moves (Leads m numbers (length numbers)) c mode a → IsHomeFrom m member c mode a
+    pub home_from : (mode a : ℕ) → IsHomeBy m.moves (MoveLeads m numbers (length numbers)) c mode a → IsHomeFrom m member c mode a
     home_from mode a (inl own) = record { sound = subst (λ x. is_broken m.moves c x ≡ false) (sym own.1) own.0; count = 0; way = sym own.1 }
     home_from mode a (inr mended) = record {
       sound = next_sound m.moves w.repairs c mode a mended.0;
@@ -200,16 +200,16 @@ module _ (m : Automata) (w : WellFormed m) (member : Test) (c : ℕ) where
       way = (a, next_broken m.moves c mode a mended.0, leads_open m w member c numbers are mode a mended.1, refl);
     }
 
-    pub home_by : (mode a : ℕ) → IsHomeFrom m member c mode a → IsHomeBy m.moves (Leads m numbers (length numbers)) c mode a
+    pub home_by : (mode a : ℕ) → IsHomeFrom m member c mode a → IsHomeBy m.moves (MoveLeads m numbers (length numbers)) c mode a
     home_by mode a h = by_count mode a h.count h.sound h.way
       where
-        by_count : (mode a n : ℕ) → is_broken m.moves c a ≡ false → OpenRepairs m member c mode a n → IsHomeBy m.moves (Leads m numbers (length numbers)) c mode a
+        by_count : (mode a n : ℕ) → is_broken m.moves c a ≡ false → OpenRepairs m member c mode a n → IsHomeBy m.moves (MoveLeads m numbers (length numbers)) c mode a
         by_count mode a zero sound e = inl (subst (λ x. is_broken m.moves c x ≡ false) (sym e) sound, sym e)
         by_count mode a (suc zero) sound p =
-            inr (subst (IsNext m.moves c mode) p.3 (mended_by m member rules c mode p.0 p.1 p.2), subst (Leads m numbers (length numbers) mode) p.3 (open_leads m w member c numbers are mode p.0 p.2))
+            inr (subst (IsNext m.moves c mode) p.3 (mended_by m member rules c mode p.0 p.1 p.2), subst (MoveLeads m numbers (length numbers) mode) p.3 (open_leads m w member c numbers are mode p.0 p.2))
         by_count mode a (suc (suc n)) sound p =
             absurd (both_ways (is_broken m.moves c p.0) (next_sound m.moves w.repairs c mode p.0 (mended_by m member rules c mode p.0 p.1 p.2)) p.3.1)
 
-    pub home_mode : (mode a : ℕ) → HasMode m c mode → IsHomeBy m.moves (Leads m numbers (length numbers)) c mode a → HasMode m c a
+    pub home_mode : (mode a : ℕ) → HasMode m c mode → IsHomeBy m.moves (MoveLeads m numbers (length numbers)) c mode a → HasMode m c a
     home_mode mode a has_mode (inl own) = subst (HasMode m c) (sym own.1) has_mode
     home_mode mode a has_mode (inr mended) = target_mode mode a (leads_open m w member c numbers are mode a mended.1)

@@ -1,11 +1,11 @@
 -- Where components stand: in their classes, or in their base modes.
-use Rattle.std.proofs.Common.{◌≡◌, false, ◌+◌, ◌<◌, ◌≤◌, ◌⊎◌, ◌↔◌, ◌==◌, ℕ, true, zero, suc, List, [], ◌∷◌, length, map, slice_get, slice_index, Some, refl, sym, ap, subst, ◌∙◌, inl, inr, arith}
+use Rattle.std.proofs.Common.{◌≡◌, false, ◌+◌, ◌<◌, ◌≤◌, ◌⊎◌, ◌↔◌, ◌==◌, ℕ, true, zero, suc, List, [], ◌∷◌, length, slice_get, slice_index, Some, refl, sym, ap, subst, ◌∙◌, inl, inr, arith, map}
 use Rattle.std.proofs.lemmas.Bool.{cases_lt, both_ways, eqb-true, eq-eqb}
 use Rattle.std.proofs.lemmas.Option.{get_or_from_slice_get, slice_get_within}
 use Rattle.cca_base.specs.Sets.{has}
-use Rattle.reversibility.specs.Parts.{ClassParts, IsClasses, in_row}
+use Rattle.reversibility.specs.ClassParts.{ClassParts, IsClasses, in_row}
 use Rattle.cca_base.specs.declared.model.Component.{Component}
-use Rattle.cca_base.specs.Automata.{Automata}
+use Rattle.cca_base.specs.PlantModel.{PlantModel}
 use Rattle.cca_base.specs.Model.{WellFormed, IsComponent, mode_counts}
 use Rattle.cca_base.specs.declared.limits.TheConstants.{MAX_CHOICES}
 use Rattle.std.proofs.lemmas.List.Elements.{All-contains}
@@ -18,7 +18,7 @@ mode_count [] c x h = absurd (none_some x h)
 mode_count (y ∷ components) zero x h = ap (λ (z : Component). length z.modes) (some_inj y x h)
 mode_count (y ∷ components) (suc c) x h = mode_count components c x h
 
-pub stands_here : (m : Automata) (base : List ℕ) (member : Test) (s : List ℕ) → WellFormed m → AreClasses m base member → (c mode : ℕ) → c < length m.components
+stands_here : (m : PlantModel) (base : List ℕ) (member : Test) (s : List ℕ) → WellFormed m → AreClasses m base member → (c mode : ℕ) → c < length m.components
     → slice_get s c ≡ Some mode → (member c mode ≡ true) ⊎ (mode ≡ slice_index base c) → Stands m base member c (slice_index s c)
 stands_here m base member s w classes c mode within at h =
     subst (Stands m base member c) (sym (get_or_from_slice_get s c mode 0 at)) ((stands_by_base m base member w classes c mode within).1 h)
@@ -53,7 +53,7 @@ module _ (p : ClassParts) (is : IsClasses p) (s : List ℕ) (c row mode : ℕ) (
       ]
 
 -- a component has no more modes than it may have
-pub modes_few : (m : Automata) → WellFormed m → (c : ℕ) → c < length m.components → slice_index (mode_counts m) c ≤ MAX_CHOICES
+pub modes_few : (m : PlantModel) → WellFormed m → (c : ℕ) → c < length m.components → slice_index (mode_counts m) c ≤ MAX_CHOICES
 modes_few m w c within =
     let found = some_at m.components c within in
     let is : IsComponent found.0 = All-contains IsComponent m.components found.0 w.components (c, within, get_or_from_slice_get m.components c found.0 found.0 found.1) in
@@ -75,9 +75,6 @@ module _ (p : ClassParts) (is : IsClasses p) (c row mode : ℕ) (at_row : slice_
 
   row_is : in_row p.rows c mode ≡ has row mode
   row_is = ap (λ r. has r mode) (get_or_from_slice_get p.rows c row 0 at_row)
-
-  pub stands_in : has row mode ≡ true → Stands p.compiled.model p.base (in_row p.rows) c mode
-  stands_in h = by_base.1 (inl (row_is ∙ h))
 
   pub stands_base : (b : ℕ) → slice_get p.base c ≡ Some b → has row mode ≡ false → ((mode == b) ≡ true) ↔ Stands p.compiled.model p.base (in_row p.rows) c mode
   stands_base b at_b outside = (

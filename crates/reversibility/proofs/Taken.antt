@@ -5,27 +5,27 @@ use Rattle.std.proofs.lemmas.Bool.{cases_eq, cases_lt, both_ways}
 use Rattle.std.proofs.lemmas.Option.{slice_get_within, get_or_from_slice_get}
 use Rattle.std.proofs.lemmas.List.{get_or_past}
 use Rattle.std.proofs.lemmas.List.Elements.{All-contains}
-use Rattle.cca_base.specs.Automata.{Automata}
-use Rattle.cca_base.specs.Accepted.{CompiledParts, IsCompiled}
+use Rattle.cca_base.specs.PlantModel.{PlantModel}
+use Rattle.cca_base.specs.Accepted.{CompiledModel, IsCompiled}
 use Rattle.cca_base.specs.Flags.{is_set}
 use Rattle.cca_base.specs.Implicants.{Needs}
 use Rattle.cca_base.specs.Model.{is_broken}
 use Rattle.cca_base.specs.Sets.{has}
 use Rattle.cca_base.specs.State.{IsState}
 use Rattle.cca_base.proofs.Members.{all_from}
-use Rattle.cca_base.proofs.SetLemmas.{has-empty}
+use Rattle.cca_base.proofs.SetLaws.{has-empty}
 use Rattle.reach_laws.specs.Classes.{Test, OpenMove, OpenWalk, Joined, OpenRepairs, IsHome, InClass}
 use Rattle.reach_laws.proofs.Order.{Among, AreEffectsFirst, IsOrder, order_from, repair_rules}
 use Rattle.reach_laws.proofs.Trails.{among_from}
 use Rattle.reach_laws.proofs.Facts.{RepairRules}
 use Rattle.reach_laws.proofs.Walk.{one_end, repairs_from}
 use Rattle.reach_laws.proofs.Needed.{needed_among}
-use Rattle.reversibility.specs.Parts.{in_row, IsClasses}
+use Rattle.reversibility.specs.ClassParts.{in_row, IsClasses}
 use Rattle.reversibility.specs.Homes.{IsHomeFrom, IsClassFrom, AreDone}
 
 -- ---- what depends on the needed components alone
 
-module _ (m : Automata) (base : List ℕ) (member other : Test) (d : ℕ) (same : (u x : ℕ) → Needs m d u → member u x ≡ other u x) where
+module _ (m : PlantModel) (base : List ℕ) (member other : Test) (d : ℕ) (same : (u x : ℕ) → Needs m d u → member u x ≡ other u x) where
   move_same : (a x : ℕ) → OpenMove m member d a x → OpenMove m other d a x
   move_same a x o = record {
     move = o.move;
@@ -46,25 +46,25 @@ module _ (m : Automata) (base : List ℕ) (member other : Test) (d : ℕ) (same 
   walk_same a b zero walk = walk
   walk_same a b (suc n) walk = (walk.0, move_same a walk.0 walk.1, walk_same walk.0 b n walk.2)
 
-  pub joined_same : (a b : ℕ) → Joined m member d a b → Joined m other d a b
+  joined_same : (a b : ℕ) → Joined m member d a b → Joined m other d a b
   joined_same a b j = record { count = j.count; walk = walk_same a b j.count j.walk }
 
   repairs_same : (a b n : ℕ) → OpenRepairs m member d a b n → OpenRepairs m other d a b n
   repairs_same a b zero way = way
   repairs_same a b (suc n) way = (way.0, way.1, move_same a way.0 way.2, repairs_same way.0 b n way.3)
 
-  pub home_same : (a : ℕ) → IsHome m base member d a → IsHome m base other d a
+  home_same : (a : ℕ) → IsHome m base member d a → IsHome m base other d a
   home_same a h = record { within = h.within; sound = h.sound; count = h.count; way = repairs_same (slice_index base d) a h.count h.way }
 
-  pub class_same : (x : ℕ) → InClass m base member d x → InClass m base other d x
+  class_same : (x : ℕ) → InClass m base member d x → InClass m base other d x
   class_same x k = record { home = k.home; is_home = home_same k.home k.is_home; to = joined_same k.home x k.to; from = joined_same x k.home k.from }
 
-  pub from_same : (a : ℕ) → d < length m.components → IsHomeFrom m member d (slice_index base d) a → IsHome m base other d a
+  from_same : (a : ℕ) → d < length m.components → IsHomeFrom m member d (slice_index base d) a → IsHome m base other d a
   from_same a within h = record { within = within; sound = h.sound; count = h.count; way = repairs_same (slice_index base d) a h.count h.way }
 
 -- ---- one component more
 
-module _ (m : Automata) (base rows : List ℕ) (flags : List Bool) (c : ℕ) (done : List ℕ) (first : AreEffectsFirst m (c ∷ done)) (within : c < length m.components)
+module _ (m : PlantModel) (base rows : List ℕ) (flags : List Bool) (c : ℕ) (done : List ℕ) (first : AreEffectsFirst m (c ∷ done)) (within : c < length m.components)
     (rules : RepairRules m) (h : AreDone m base rows flags done) where
   new_apart : Among c done → ⊥
   new_apart = first.1
@@ -181,13 +181,13 @@ module _ (m : Automata) (base rows : List ℕ) (flags : List Bool) (c : ℕ) (do
 
 -- ---- the rest of an order
 
-pub effects_drop : (m : Automata) (k : ℕ) (order : List ℕ) → AreEffectsFirst m order → AreEffectsFirst m (drop k order)
+effects_drop : (m : PlantModel) (k : ℕ) (order : List ℕ) → AreEffectsFirst m order → AreEffectsFirst m (drop k order)
 effects_drop m zero order first = first
 effects_drop m (suc k) [] first = first
 effects_drop m (suc k) (c ∷ order) first = effects_drop m k order first.2
 
 -- the next component from the order's end
-pub next_done : (order : List ℕ) (i c : ℕ) → i < length order → slice_get order (length order - 1 - i) ≡ Some c → drop (length order - (i + 1)) order ≡ c ∷ drop (length order - i) order
+next_done : (order : List ℕ) (i c : ℕ) → i < length order → slice_get order (length order - 1 - i) ≡ Some c → drop (length order - (i + 1)) order ≡ c ∷ drop (length order - i) order
 next_done order i c lt at =
     let j : ℕ = length order - (i + 1) in
     let here : length order - 1 - i ≡ j = omega arith in
@@ -197,7 +197,7 @@ next_done order i c lt at =
     drop-cons order j 0 within ∙ (ap (λ x. x ∷ drop (suc j) order) item ∙ ap (λ k. c ∷ drop k order) next)
 
 -- all components are done
-pub all_done : (b : CompiledParts) (is : IsCompiled b) (base rows : List ℕ) (flags : List Bool) → IsState b.model base → AreDone b.model base rows flags b.order
+pub all_done : (b : CompiledModel) (is : IsCompiled b) (base rows : List ℕ) (flags : List Bool) → IsState b.model base → AreDone b.model base rows flags b.order
     → IsClasses (record { compiled = b; base = base; rows = rows; mendable = flags })
 all_done b is base rows flags state h =
     let ordered : IsOrder b.model b.order = order_from b.model b.order is.order in
@@ -219,11 +219,11 @@ all_done b is base rows flags state h =
     }
 
 -- a component of the order is one of the model
-pub order_at : (b : CompiledParts) → IsCompiled b → (j c : ℕ) → slice_get b.order j ≡ Some c → c < length b.model.components
+pub order_at : (b : CompiledModel) → IsCompiled b → (j c : ℕ) → slice_get b.order j ≡ Some c → c < length b.model.components
 order_at b is j c at =
     (order_from b.model b.order is.order).within c (among_from c b.order (j, slice_get_within b.order j c at, get_or_from_slice_get b.order j c c at))
 
-module _ (b : CompiledParts) (is : IsCompiled b) (base : List ℕ) (i c : ℕ) (lt : i < length b.order) (at : slice_get b.order (length b.order - 1 - i) ≡ Some c) (rows : List ℕ) (flags : List Bool)
+module _ (b : CompiledModel) (is : IsCompiled b) (base : List ℕ) (i c : ℕ) (lt : i < length b.order) (at : slice_get b.order (length b.order - 1 - i) ≡ Some c) (rows : List ℕ) (flags : List Bool)
     (h : AreDone b.model base rows flags (drop (length b.order - i) b.order)) where
   next : drop (length b.order - (i + 1)) b.order ≡ c ∷ drop (length b.order - i) b.order
   next = next_done b.order i c lt at

@@ -1,14 +1,14 @@
 -- Homes and classes of single components, and of those that are done.
 use Rattle.std.specs.Prelude.{◌≡◌, ◌⊎◌, ◌↔◌, ◌<◌, ℕ, Bool, true, false, List, length, slice_index}
 use Rattle.cca_base.specs.declared.model.Move.{Move}
-use Rattle.cca_base.specs.Automata.{Automata}
+use Rattle.cca_base.specs.PlantModel.{PlantModel}
 use Rattle.cca_base.specs.Flags.{is_set}
 use Rattle.cca_base.specs.Model.{is_broken, IsNext}
 use Rattle.cca_base.specs.Sets.{has}
 use Rattle.reach_laws.specs.Classes.{Test, Joined, OpenRepairs, IsHome, InClass}
 use Rattle.reach_laws.proofs.Order.{Among}
 use Rattle.reversibility.specs.Levels.{Edges}
-use Rattle.reversibility.specs.Parts.{in_row}
+use Rattle.reversibility.specs.ClassParts.{in_row}
 
 -- the numbers that the last level joins both ways with the home
 abbrev pub IsAround : List ℕ → ℕ → ℕ → ℕ → Type 0
@@ -19,19 +19,19 @@ abbrev pub IsHomeBy : List Move → Edges → ℕ → ℕ → ℕ → Type 0
 IsHomeBy moves edge c mode a = ((is_broken moves c mode ≡ false) × (a ≡ mode)) ⊎ (IsNext moves c mode a × edge mode a)
 
 -- the first mode that is not broken on the way from a mode along open repairs
-pub record IsHomeFrom (m : Automata) (member : Test) (c mode a : ℕ) : Type 0 where
+pub record IsHomeFrom (m : PlantModel) (member : Test) (c mode a : ℕ) : Type 0 where
   pub sound : is_broken m.moves c a ≡ false
   pub count : ℕ
   pub way : OpenRepairs m member c mode a count
 
 -- exactly the modes that are joined both ways with the home
-pub record IsClassFrom (m : Automata) (member : Test) (c mode set : ℕ) : Type 0 where
+pub record IsClassFrom (m : PlantModel) (member : Test) (c mode set : ℕ) : Type 0 where
   pub home : ℕ
   pub is_home : IsHomeFrom m member c mode home
   pub each : (x : ℕ) → (has set x ≡ true) ↔ (Joined m member c home x × Joined m member c x home)
 
 -- the classes of these components stand, and the others are empty
-pub record AreDone (m : Automata) (base rows : List ℕ) (flags : List Bool) (done : List ℕ) : Type 0 where
+pub record AreDone (m : PlantModel) (base rows : List ℕ) (flags : List Bool) (done : List ℕ) : Type 0 where
   pub rows_full : length rows ≡ length m.components
   pub flags_full : length flags ≡ length m.components
   pub each : (d x : ℕ) → Among d done → (in_row rows d x ≡ true) ↔ InClass m base (in_row rows) d x

@@ -2,11 +2,11 @@
 use Rattle.std.specs.Prelude.{◌≡◌, ◌⊎◌, ◌↔◌, ◌<◌, ◌≤◌, ◌-◌, ℕ, zero, suc, true, List, length, slice_index, slice_get, Some, Contains}
 use Rattle.cca_base.specs.declared.cube.Pair.{Pair}
 use Rattle.cca_base.specs.declared.model.Move.{Move}
-use Rattle.cca_base.specs.Automata.{Automata}
+use Rattle.cca_base.specs.PlantModel.{PlantModel}
 use Rattle.cca_base.specs.Model.{HasMode, mode_counts}
 use Rattle.cca_base.specs.Relations.{AreExactly}
 use Rattle.reach_laws.specs.Classes.{Test, AreInside, IsOpen, OpenMove, Joined}
-use Rattle.reversibility.specs.Parts.{in_row}
+use Rattle.reversibility.specs.ClassParts.{in_row}
 
 -- ---- open moves
 
@@ -17,18 +17,18 @@ pub record SomeInside (member : Test) (cubes : List (List Pair)) : Type 0 where
   pub inside : AreInside member cube
 
 -- the number is that of an open move of the component
-pub record IsOpenNumber (m : Automata) (member : Test) (c i : ℕ) : Type 0 where
+pub record IsOpenNumber (m : PlantModel) (member : Test) (c i : ℕ) : Type 0 where
   pub move : Move
   pub move_at : slice_get m.moves i ≡ Some move
   pub own : move.component ≡ c
   pub open_move : IsOpen m member move
 
 -- exactly the numbers of the component's open moves, rising
-abbrev pub AreOpenMoves : Automata → Test → ℕ → List ℕ → Type 0
+abbrev pub AreOpenMoves : PlantModel → Test → ℕ → List ℕ → Type 0
 AreOpenMoves m member c = AreExactly (IsOpenNumber m member c)
 
 -- exactly those of them that come before a number
-abbrev pub AreOpenBefore : Automata → Test → ℕ → ℕ → List ℕ → Type 0
+abbrev pub AreOpenBefore : PlantModel → Test → ℕ → ℕ → List ℕ → Type 0
 AreOpenBefore m member c n = AreExactly (λ i. (i < n) × IsOpenNumber m member c i)
 
 -- the number stands at one of the first places
@@ -36,7 +36,7 @@ abbrev pub IsAmong : List ℕ → ℕ → ℕ → Type 0
 IsAmong xs n i = (place : ℕ) × (place < n) × (slice_index xs place ≡ i)
 
 -- each of the numbers names a move between modes below n
-abbrev pub AreMovesWithin : Automata → ℕ → List ℕ → Type 0
+abbrev pub AreMovesWithin : PlantModel → ℕ → List ℕ → Type 0
 AreMovesWithin m n numbers = (place : ℕ) → place < length numbers
     → (move : Move) × (slice_get m.moves (slice_index numbers place) ≡ Some move) × (move.source < n) × (move.target < n)
 
@@ -47,7 +47,7 @@ abbrev pub Edges : Type 1
 Edges = ℕ → ℕ → Type 0
 
 -- one of the first numbers is that of a move from a to x
-pub record Leads (m : Automata) (numbers : List ℕ) (n a x : ℕ) : Type 0 where
+pub record MoveLeads (m : PlantModel) (numbers : List ℕ) (n a x : ℕ) : Type 0 where
   pub place : ℕ
   pub below : place < n
   pub move : Move
@@ -92,7 +92,7 @@ pub record IsSelf (n : ℕ) (level : List ℕ) : Type 0 where
 -- ---- a component
 
 -- the levels of a component's open moves from 0 on, of which the last has all that open moves lead to
-pub record AreLevelsOf (m : Automata) (member : Test) (c : ℕ) (levels : List (List ℕ)) : Type 0 where
+pub record AreLevelsOf (m : PlantModel) (member : Test) (c : ℕ) (levels : List (List ℕ)) : Type 0 where
   pub some : 0 < length levels
   pub few : length levels ≤ suc (slice_index (mode_counts m) c)
   pub each : AreLevels (OpenMove m member c) (slice_index (mode_counts m) c) levels

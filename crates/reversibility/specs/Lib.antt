@@ -1,4 +1,4 @@
-pub mod Parts
+pub mod ClassParts
 pub mod Levels
 pub mod Homes
 pub mod Paths

@@ -4,7 +4,7 @@ use Rattle.cca_base.specs.Model.{is_broken}
 use Rattle.cca_base.specs.Sets.{has}
 use Rattle.cca_base.specs.Steps.{Step, Allowed, AllowedPlan, Reach}
 use Rattle.reach_laws.specs.Classes.{IsHome}
-use Rattle.reversibility.specs.Parts.{ClassParts, CoversState, in_row}
+use Rattle.reversibility.specs.ClassParts.{ClassParts, CoversState, in_row}
 
 -- the base mode is broken, and open repairs lead from it to a mode that is not
 abbrev pub IsMendable : ClassParts → ℕ → Type 0
@@ -37,6 +37,10 @@ MendsInside p s = (t : List ℕ) (k : ℕ) (step : Step p.compiled.model s k t) 
 abbrev pub StaysInside : ClassParts → List ℕ → Type 0
 StaysInside p s = (t ks : List ℕ) → AllowedPlan p.compiled.model s ks t → CoversState p t
 
+-- the mode is in the component's class, or is its base mode
+abbrev pub StandsAt : ClassParts → ℕ → ℕ → Type 0
+StandsAt p c mode = (in_row p.rows c mode ≡ true) ⊎ (mode ≡ slice_index p.base c)
+
 -- each component stands in its class or in its base mode
 abbrev pub StandsByBase : ClassParts → List ℕ → Type 0
-StandsByBase p s = (c : ℕ) → c < length p.compiled.model.components → (in_row p.rows c (slice_index s c) ≡ true) ⊎ (slice_index s c ≡ slice_index p.base c)
+StandsByBase p s = (c : ℕ) → c < length p.compiled.model.components → StandsAt p c (slice_index s c)

@@ -4,8 +4,8 @@ ghost use Rattle.std.specs.Prelude.{◌≡◌, ◌<◌, ◌≤◌, ◌↔◌, �
 ghost use Rattle.cca_base.specs.declared.limits.TheConstants.{MAX_CHOICES};
 ghost use Rattle.cca_base.specs.Model.{HasMode};
 ghost use Rattle.reversibility.specs.Homes.{IsAround, IsHomeBy, IsHomeFrom, IsClassFrom};
-ghost use Rattle.reversibility.specs.Levels.{AreMovesWithin, Leads};
-ghost use Rattle.reversibility.specs.Parts.{in_row};
+ghost use Rattle.reversibility.specs.Levels.{AreMovesWithin, MoveLeads};
+ghost use Rattle.reversibility.specs.ClassParts.{in_row};
 
 use crate::paths::paths_of;
 use cca_base::{Compiled, Model, ValueSet};
@@ -14,7 +14,7 @@ use std::alloc::{AllocError, Global};
 /// Whether one of the moves leads from the one mode to the other.
 fn leads(model: &Model, numbers: &[u16], from: u8, to: u8) -> bool
     requires { (n : ℕ) × AreMovesWithin model.now n numbers.now }
-    ensures { IsTrue result ↔ Leads model.now numbers.now (length numbers.now) from to }
+    ensures { IsTrue result ↔ MoveLeads model.now numbers.now (length numbers.now) from to }
 {
     let moves = model.moves();
     for k in 0..numbers.len() {
@@ -27,14 +27,14 @@ fn leads(model: &Model, numbers: &[u16], from: u8, to: u8) -> bool
 }
 
 /// The home of a mode by the open moves: the mode itself, or where it is broken its mended mode.
-fn home_of(model: &Model, numbers: &[u16], c: u16, mode: u8) -> Option<u8>
+fn home_of(model: &Model, numbers: &[u16], component: u16, mode: u8) -> Option<u8>
     requires { (n : ℕ) × AreMovesWithin model.now n numbers.now }
     ensures { MatchOption result
-        ((a : ℕ) → IsHomeBy model.now.moves (Leads model.now numbers.now (length numbers.now)) c mode a → ⊥)
-        (IsHomeBy model.now.moves (Leads model.now numbers.now (length numbers.now)) c mode) }
+        ((a : ℕ) → IsHomeBy model.now.moves (MoveLeads model.now numbers.now (length numbers.now)) component mode a → ⊥)
+        (IsHomeBy model.now.moves (MoveLeads model.now numbers.now (length numbers.now)) component mode) }
 {
     let _moves = model.moves();
-    match model.mended(c, mode) {
+    match model.mended(component, mode) {
         None => Some(mode),
         Some(mended) => {
             if leads(model, numbers, mode, mended) {
@@ -66,18 +66,18 @@ pub(crate) fn class_around(
     alloc: Global,
     compiled: &Compiled,
     rows: &[ValueSet],
-    c: u16,
+    component: u16,
     mode: u8,
 ) -> Result<Option<ValueSet>, AllocError>
-    requires within { c < length compiled.now.model.components }
+    requires within { component < length compiled.now.model.components }
     requires full { length rows.now ≡ length compiled.now.model.components }
-    requires mode { HasMode compiled.now.model c mode }
+    requires mode { HasMode compiled.now.model component mode }
     ensures { IfOk result (λ o. MatchOption o
-        ((a : ℕ) → IsHomeFrom compiled.now.model (in_row rows.now) c mode a → ⊥)
-        (IsClassFrom compiled.now.model (in_row rows.now) c mode)) }
+        ((a : ℕ) → IsHomeFrom compiled.now.model (in_row rows.now) component mode a → ⊥)
+        (IsClassFrom compiled.now.model (in_row rows.now) component mode)) }
 {
-    let paths = paths_of(alloc, compiled, rows, c)?;
-    let Some(home) = home_of(compiled.model(), paths.numbers.as_slice(), c, mode) else {
+    let paths = paths_of(alloc, compiled, rows, component)?;
+    let Some(home) = home_of(compiled.model(), paths.numbers.as_slice(), component, mode) else {
         return Ok(None);
     };
     let closed = paths.levels.get(paths.levels.len() - 1);

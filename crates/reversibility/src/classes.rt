@@ -4,8 +4,8 @@ ghost use Rattle.std.specs.Prelude.{◌≡◌, ◌↔◌, ◌<◌, IsTrue, IfOk,
 ghost use Rattle.cca_base.specs.Flags.{is_set};
 ghost use Rattle.cca_base.specs.State.{IsState};
 ghost use Rattle.reach_laws.specs.Classes.{Covers, Stands};
-ghost use Rattle.reversibility.specs.Parts.{IsClasses, CoversState, in_row};
-ghost use Rattle.reversibility.specs.Promises.{IsMendable, IsLost, IsEmptySet, IsReachOf, AllowsInside, MendsInside, StaysInside, StandsByBase};
+ghost use Rattle.reversibility.specs.ClassParts.{IsClasses, CoversState, in_row};
+ghost use Rattle.reversibility.specs.Promises.{IsMendable, IsLost, IsEmptySet, IsReachOf, AllowsInside, MendsInside, StaysInside, StandsAt, StandsByBase};
 
 use crate::taking::{Taken, take};
 use cca_base::{Compiled, List, State, ValueSet};
@@ -22,7 +22,7 @@ pub struct Classes {
 }
 
 impl std::marker::Model for Classes {
-    ghost use Rattle.reversibility.specs.Parts.{ClassParts};
+    ghost use Rattle.reversibility.specs.ClassParts.{ClassParts};
 
     ghost Value = { ClassParts };
 
@@ -31,7 +31,7 @@ impl std::marker::Model for Classes {
 
     ghost coded = { Prim.hlevel (codes, formula.the_row.coded) };
 
-    ghost use Rattle.reversibility.specs.Parts.{IsClasses};
+    ghost use Rattle.reversibility.specs.ClassParts.{IsClasses};
 
     ghost view = { λ c. record {
       compiled = c.compiled.value;
@@ -109,12 +109,14 @@ impl Classes {
     }
 
     /// Whether the component may stand in the mode where the classes cover a state.
-    pub fn stands(&self, c: u16, mode: u8) -> bool
-        requires { c < length self.now.compiled.model.components }
-        ensures value { IsTrue result ↔ Stands self.now.compiled.model self.now.base (in_row self.now.rows) c mode }
+    pub fn stands(&self, component: u16, mode: u8) -> bool
+        requires { component < length self.now.compiled.model.components }
+        ensures value { IsTrue result ↔ Stands self.now.compiled.model self.now.base (in_row self.now.rows) component mode }
+        ensures mode { IsTrue result ↔ StandsAt self.now component mode }
         ensures classes { IsClasses self.now }
     {
-        self.rows.get(c as usize).has(mode) || mode == *self.base.modes.get(c as usize)
+        self.rows.get(component as usize).has(mode)
+            || mode == *self.base.modes.get(component as usize)
     }
 
     /// Whether the component is broken in the base, and can be mended.

@@ -3,7 +3,7 @@
 
 ghost use Rattle.std.specs.Prelude.{◌≡◌, ◌+◌, ◌<◌, ◌≤◌, IfOk, length};
 ghost use Rattle.cca_base.specs.declared.limits.TheConstants.{MAX_CHOICES};
-ghost use Rattle.reversibility.specs.Levels.{AreMovesWithin, Leads, AreLevels, AreEnough, IsLevel, IsExpanded};
+ghost use Rattle.reversibility.specs.Levels.{AreMovesWithin, MoveLeads, AreLevels, AreEnough, IsLevel, IsExpanded};
 
 use cca_base::{List, Model, ValueSet};
 use std::alloc::{AllocError, Global};
@@ -16,7 +16,7 @@ fn first_level(
     modes: usize,
 ) -> Result<List<ValueSet>, AllocError>
     requires { modes ≤ MAX_CHOICES }
-    ensures { IfOk result (IsLevel (Leads model.now numbers.now (length numbers.now)) modes 0) }
+    ensures { IfOk result (IsLevel (MoveLeads model.now numbers.now (length numbers.now)) modes 0) }
 {
     let mut level = List::new(alloc);
     for a in 0..modes {
@@ -33,7 +33,7 @@ fn expand(
     level: &[ValueSet],
 ) -> Result<List<ValueSet>, AllocError>
     requires { AreMovesWithin model.now (length level.now) numbers.now }
-    ensures { IfOk result (IsExpanded (Leads model.now numbers.now (length numbers.now)) level.now) }
+    ensures { IfOk result (IsExpanded (MoveLeads model.now numbers.now (length numbers.now)) level.now) }
 {
     let moves = model.moves();
     let mut next = List::of(Vec::from_slice(alloc, level)?);
@@ -54,8 +54,8 @@ pub(crate) fn levels(
 ) -> Result<List<List<ValueSet>>, AllocError>
     requires few { modes ≤ MAX_CHOICES }
     requires within { AreMovesWithin model.now modes numbers.now }
-    ensures levels { IfOk result (AreLevels (Leads model.now numbers.now (length numbers.now)) modes) }
-    ensures enough { IfOk result (AreEnough (Leads model.now numbers.now (length numbers.now)) modes) }
+    ensures levels { IfOk result (AreLevels (MoveLeads model.now numbers.now (length numbers.now)) modes) }
+    ensures enough { IfOk result (AreEnough (MoveLeads model.now numbers.now (length numbers.now)) modes) }
     ensures some { IfOk result (λ l. 0 < length l) }
     ensures short { IfOk result (λ l. length l ≤ modes + 1) }
 {

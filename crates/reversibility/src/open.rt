@@ -3,7 +3,7 @@
 ghost use Rattle.std.specs.Prelude.{◌≡◌, ◌↔◌, ◌<◌, IsTrue, IfOk, All, length};
 ghost use Rattle.reach_laws.specs.Classes.{AreInside};
 ghost use Rattle.reversibility.specs.Levels.{AreOpenMoves, SomeInside};
-ghost use Rattle.reversibility.specs.Parts.{in_row};
+ghost use Rattle.reversibility.specs.ClassParts.{in_row};
 
 use cca_base::{Compiled, Cube, List, Pair, ValueSet};
 use std::alloc::{AllocError, Global};
@@ -39,15 +39,15 @@ pub(crate) fn open_moves(
     alloc: Global,
     compiled: &Compiled,
     rows: &[ValueSet],
-    c: u16,
+    component: u16,
 ) -> Result<List<u16>, AllocError>
     requires { length rows.now ≡ length compiled.now.model.components }
-    ensures { IfOk result (AreOpenMoves compiled.now.model (in_row rows.now) c) }
+    ensures { IfOk result (AreOpenMoves compiled.now.model (in_row rows.now) component) }
 {
     let moves = compiled.model().moves();
     let mut numbers = List::new(alloc);
     for i in 0..moves.len() {
-        if moves.get(i).component == c && is_open(compiled.ways().get(i).as_slice(), rows) {
+        if moves.get(i).component == component && is_open(compiled.ways().get(i).as_slice(), rows) {
             numbers.push(i as u16)?;
         }
     }

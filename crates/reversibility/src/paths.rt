@@ -2,7 +2,7 @@
 
 ghost use Rattle.std.specs.Prelude.{◌≡◌, ◌<◌, IfOk, length};
 ghost use Rattle.reversibility.specs.Paths.{ArePaths};
-ghost use Rattle.reversibility.specs.Parts.{in_row};
+ghost use Rattle.reversibility.specs.ClassParts.{in_row};
 
 use crate::level::levels;
 use crate::open::open_moves;
@@ -23,15 +23,15 @@ pub fn paths_of(
     alloc: Global,
     compiled: &Compiled,
     rows: &[ValueSet],
-    c: u16,
+    component: u16,
 ) -> Result<Paths, AllocError>
-    requires within { c < length compiled.now.model.components }
+    requires within { component < length compiled.now.model.components }
     requires full { length rows.now ≡ length compiled.now.model.components }
-    ensures { IfOk result (ArePaths compiled.now.model (in_row rows.now) c) }
+    ensures { IfOk result (ArePaths compiled.now.model (in_row rows.now) component) }
 {
-    let numbers = open_moves(alloc, compiled, rows, c)?;
+    let numbers = open_moves(alloc, compiled, rows, component)?;
     let model = compiled.model();
-    let modes = model.components().get(c as usize).modes.len();
+    let modes = model.components().get(component as usize).modes.len();
     let levels = levels(alloc, model, numbers.as_slice(), modes)?;
     Ok(Paths { numbers, levels })
 }

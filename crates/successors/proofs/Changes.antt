@@ -1,19 +1,20 @@
 -- The least costs of failures, and what changes cost.
-use Rattle.std.proofs.Common.{◌≡◌, ◌≢◌, ◌+◌, inl, inr, ℕ, zero, suc, ◌<◌, ◌≤◌, ◌==◌, ◌||◌, min, Bool, true, false, List, [], ◌∷◌, ◌++◌, length, get_or, set, Contains, Option, Some, None, refl, sym, ap, subst, ◌∙◌, arith}
+use Rattle.std.proofs.Common.{◌≡◌, ◌≢◌, ◌+◌, inl, inr, ℕ, zero, suc, ◌<◌, ◌≤◌, ◌==◌, min, true, false, List, [], ◌∷◌, ◌++◌, length, get_or, set, Contains, Option, Some, None, refl, sym, ap, subst, ◌∙◌, arith}
 use Rattle.std.specs.List.{IsDistinct, list_any}
 use Rattle.std.specs.List.Sorted.{IsPermutation, IsSorted}
-use Rattle.std.specs.Ordering.{nat_cmp, ordering_then, ordering_reverse, is_lt}
+use Rattle.std.specs.Ordering.{nat_cmp, ordering_reverse, is_lt}
 use Rattle.std.specs.Cmp.{IsTotalOrder, IsEquivalence, on_total, on_equiv, then_total, nat_cmp_total, nat_eq_equiv}
 use Rattle.std.specs.declared.cmp.Ordering.{Ordering}
 use Rattle.std.specs.declared.cmp.Ordering.TheVariants.{Less, Equal, Greater}
-use Rattle.std.proofs.lemmas.Bool.{cases_eq, cases_lt, both_ways, ne_eqb, eq-eqb}
-use Rattle.std.proofs.lemmas.Bool.Decides.{nat_tests}
+use Rattle.std.proofs.lemmas.Bool.{cases_eq, cases_lt, both_ways, ne_eqb, eq-eqb, or_from}
 use Rattle.std.proofs.lemmas.List.{get_or-set_same, get_or-set_other, length-set, get_or-map}
 use Rattle.std.proofs.lemmas.List.Elements.{Contains-append_left, Contains-push, Contains-push_cases, All-contains, All-from_recursion}
 use Rattle.std.proofs.lemmas.List.Sorted.{sorted_far, ranks_by, Contains-permutation, All-permutation, IsPermutation-sym}
 use Rattle.std.proofs.lemmas.Map.Keys.{IsDistinct-IsPermutation, IsDistinct-push}
+use Rattle.std.proofs.lemmas.Map.Lookups.{exact_unsigned}
+use Rattle.list_laws.proofs.Orders.{then_equal}
 use Rattle.cca_base.specs.declared.model.Failure.{Failure}
-use Rattle.cca_base.specs.Automata.{Automata}
+use Rattle.cca_base.specs.PlantModel.{PlantModel}
 use Rattle.cca_base.specs.declared.model.Component.{Component}
 use Rattle.cca_base.specs.Model.{IsFailure, WellFormed, mode_counts}
 use Rattle.cca_base.specs.Successors.{ChangeCosts}
@@ -22,11 +23,12 @@ use Rattle.cca_base.specs.declared.choice.Choice.{Choice}
 use Rattle.cca_base.specs.declared.limits.TheConstants.{MAX_COST}
 use Rattle.cca_base.specs.Choices.{IsRow, choice_cmp}
 use Rattle.successors.specs.Choices.{AreLeast, IsLeast, IsChange, AreChanges, IsAdded, failing, lesser_of, same_mode}
+use Rattle.cca_laws.proofs.CostLaws.{one_change}
 
 cost_of : (f : Failure) (c from to k : ℕ) → f ≡ failing c from to k → f.cost ≡ k
 cost_of f c from to k e = ap (λ (x : Failure). x.cost) e
 
-pub least_more : (fs : List Failure) (f : Failure) (c from to : ℕ) (o : Option ℕ) → IsLeast fs c from to o → f ≡ failing c from to f.cost → IsLeast (fs ++ f ∷ []) c from to (Some (lesser_of o f.cost))
+least_more : (fs : List Failure) (f : Failure) (c from to : ℕ) (o : Option ℕ) → IsLeast fs c from to o → f ≡ failing c from to f.cost → IsLeast (fs ++ f ∷ []) c from to (Some (lesser_of o f.cost))
 least_more fs f c from to None h e = (
   subst (Contains (fs ++ f ∷ [])) e (Contains-push fs f),
   (λ k among. elim (Contains-push_cases fs f (failing c from to k) among) [ inl there ↦ absurd (h k there) | inr same ↦ (let s = cost_of f c from to k same in omega arith) ]),
@@ -42,14 +44,14 @@ least_more fs f c from to (Some k) h e = (
   ]),
 )
 
-pub least_other : (fs : List Failure) (f : Failure) (c from to : ℕ) (o : Option ℕ) → IsLeast fs c from to o → ((k : ℕ) → f ≡ failing c from to k → ⊥) → IsLeast (fs ++ f ∷ []) c from to o
+least_other : (fs : List Failure) (f : Failure) (c from to : ℕ) (o : Option ℕ) → IsLeast fs c from to o → ((k : ℕ) → f ≡ failing c from to k → ⊥) → IsLeast (fs ++ f ∷ []) c from to o
 least_other fs f c from to None h e = λ k among. elim (Contains-push_cases fs f (failing c from to k) among) [ inl there ↦ h k there | inr same ↦ e k same ]
 least_other fs f c from to (Some k) h e = (
   Contains-append_left fs (f ∷ []) (failing c from to k) h.0,
   (λ other among. elim (Contains-push_cases fs f (failing c from to other) among) [ inl there ↦ h.1 other there | inr same ↦ absurd (e other same) ]),
 )
 
-pub is_failing : (f : Failure) (c from : ℕ) → f.component ≡ c → f.source ≡ from → f ≡ failing c from f.target f.cost
+is_failing : (f : Failure) (c from : ℕ) → f.component ≡ c → f.source ≡ from → f ≡ failing c from f.target f.cost
 is_failing f c from e g = λ d. record { component = e d; source = g d; target = f.target; cost = f.cost }
 
 pub least_set : (fs : List Failure) (f : Failure) (c from : ℕ) (costs : List (Option ℕ)) (least : ℕ) → AreLeast fs c from costs → f.component ≡ c → f.source ≡ from → f.target < length costs
@@ -70,24 +72,18 @@ least_keeps fs f c from costs h apart mode inside =
 -- ---- rows
 
 -- changes to the modes below this one, each mode once
-pub record IsRowTo (m : Automata) (c from nominal bound : ℕ) (row : List Choice) : Type 0 where
+pub record IsRowTo (m : PlantModel) (c from nominal bound : ℕ) (row : List Choice) : Type 0 where
   pub each : AreChanges m c from nominal bound row
   pub distinct : IsDistinct same_mode row
 
-pub row_none : (m : Automata) (c from nominal : ℕ) (row : List Choice) → row ≡ [] → IsRowTo m c from nominal 0 row
+pub row_none : (m : PlantModel) (c from nominal : ℕ) (row : List Choice) → row ≡ [] → IsRowTo m c from nominal 0 row
 unfolding IsDistinct
 row_none m c from nominal row e = subst (IsRowTo m c from nominal 0) (sym e) (record {
   each = λ x. ((λ among. absurd (contains_none x among)), (λ h. absurd (omega (arith, h.0))));
   distinct = tt;
 })
 
-one_cost : (m : Automata) (c from nominal to a b : ℕ) → ChangeCosts m c from nominal to a → ChangeCosts m c from nominal to b → a ≡ b
-one_cost m c from nominal to a b (inl h) (inl k) = h.1 ∙ sym k.1
-one_cost m c from nominal to a b (inl h) (inr k) = absurd (k.0 h.0)
-one_cost m c from nominal to a b (inr h) (inl k) = absurd (h.0 k.0)
-one_cost m c from nominal to a b (inr h) (inr k) = let x = h.2 b k.1 in let y = k.2 a h.1 in omega arith
-
-pub change_is : (m : Automata) (c from nominal to : ℕ) (failure r : Option ℕ) → IsLeast m.failures c from to failure → (to ≡ nominal → r ≡ Some 0) → (to ≢ nominal → r ≡ failure)
+pub change_is : (m : PlantModel) (c from nominal to : ℕ) (failure r : Option ℕ) → IsLeast m.failures c from to failure → (to ≡ nominal → r ≡ Some 0) → (to ≢ nominal → r ≡ failure)
     → IsChange m c from nominal to r
 change_is m c from nominal to failure r h same other = elim (cases_eq to nominal) [
   | inl e ↦ subst (IsChange m c from nominal to) (sym (same e)) (inl (e, refl))
@@ -101,18 +97,14 @@ change_is m c from nominal to failure r h same other = elim (cases_eq to nominal
 same_mode_laws : IsEquivalence same_mode
 same_mode_laws = on_equiv (λ (x : Choice). x.mode) nat_eq_equiv
 
-or_from_false : (a b : Bool) → a ≡ false → b ≡ false → (a || b) ≡ false
-or_from_false true b e f = absurd (cc)
-or_from_false false b e f = f
-
 none_same : (y : Choice) (row : List Choice) → ((x : Choice) → Contains row x → x.mode < y.mode) → list_any (same_mode y) row ≡ false
 none_same y [] f = refl
 none_same y (x ∷ row) f =
     let less : x.mode < y.mode = f x (contains_here x x row refl) in
     let no : (y.mode == x.mode) ≡ false = ne_eqb y.mode x.mode (λ e. absurd (omega arith)) in
-    or_from_false (same_mode y x) (list_any (same_mode y) row) no (none_same y row (λ z among. f z (contains_there x z row among)))
+    or_from (same_mode y x) (list_any (same_mode y) row) no (none_same y row (λ z among. f z (contains_there x z row among)))
 
-pub row_more : (m : Automata) (c from nominal to : ℕ) (old new : List Choice) (o : Option ℕ) → IsChange m c from nominal to o → IsAdded old to o new → IsRowTo m c from nominal to old
+pub row_more : (m : PlantModel) (c from nominal to : ℕ) (old new : List Choice) (o : Option ℕ) → IsChange m c from nominal to o → IsAdded old to o new → IsRowTo m c from nominal to old
     → IsRowTo m c from nominal (to + 1) new
 row_more m c from nominal to old new None change added h = subst (IsRowTo m c from nominal (to + 1)) (sym added) (record {
   each = λ x. (
@@ -136,7 +128,7 @@ row_more m c from nominal to old new (Some k) change added h =
           | inl lt ↦ Contains-append_left old (y ∷ []) x ((h.each x).1 (lt, its.1))
           | inr ge ↦
               let e : x.mode ≡ to = omega (arith, its.0) in
-              let cost : x.cost ≡ k = one_cost m c from nominal to x.cost k (subst (λ t. ChangeCosts m c from nominal t x.cost) e its.1) change in
+              let cost : x.cost ≡ k = one_change m c from nominal to x.cost k (subst (λ t. ChangeCosts m c from nominal t x.cost) e its.1) change in
               let whole : y ≡ x = (λ d. record { mode = sym e d; cost = sym cost d }) in
               subst (Contains (old ++ y ∷ [])) whole (Contains-push old y)
         ]),
@@ -151,14 +143,6 @@ distinct_at (x ∷ row) h i zero d lt within = absurd (omega arith)
 distinct_at (x ∷ row) h zero (suc j) d lt within = All-from_recursion (λ y. same_mode x y ≡ false) row h.0 j d (omega arith)
 distinct_at (x ∷ row) h (suc i) (suc j) d lt within = distinct_at row h.1 i j d (omega arith) (omega arith)
 
-nat_equal : (x y : ℕ) → nat_cmp x y ≡ Equal → x ≡ y
-nat_equal x y e = grind (arith, nat_tests)
-
-then_equal : (a b : Ordering) → ordering_then a b ≡ Equal → (a ≡ Equal) × (b ≡ Equal)
-then_equal Less b e = absurd (cc)
-then_equal Equal b e = (refl, e)
-then_equal Greater b e = absurd (cc)
-
 choice_total : IsTotalOrder choice_cmp
 choice_total = then_total (on_total (λ (x : Choice). x.cost) nat_cmp_total) (on_total (λ (x : Choice). x.mode) nat_cmp_total)
 
@@ -166,12 +150,12 @@ strictly : (x y : Choice) (o : Ordering) → choice_cmp y x ≡ o → is_lt o �
 strictly x y Less e f n = absurd (cc)
 strictly x y Equal e f n =
     let both = then_equal (nat_cmp y.cost x.cost) (nat_cmp y.mode x.mode) e in
-    let mode : x.mode ≡ y.mode = sym (nat_equal y.mode x.mode both.1) in
+    let mode : x.mode ≡ y.mode = sym (exact_unsigned y.mode x.mode both.1) in
     let yes : same_mode x y ≡ true = eq-eqb x.mode y.mode mode in absurd (cc)
 strictly x y Greater e f n = choice_total.antisymm x y ∙ ap ordering_reverse e
 
 -- a row, sorted
-pub row_sorted : (m : Automata) (c from nominal bound : ℕ) (old new : List Choice) → WellFormed m → IsRowTo m c from nominal bound old → IsPermutation old new → IsSorted choice_cmp new → IsRow new
+pub row_sorted : (m : PlantModel) (c from nominal bound : ℕ) (old new : List Choice) → WellFormed m → IsRowTo m c from nominal bound old → IsPermutation old new → IsSorted choice_cmp new → IsRow new
 row_sorted m c from nominal bound old new fits h perm sorted =
     let apart = distinct_at new (IsDistinct-IsPermutation same_mode same_mode_laws.symm old new perm h.distinct) in
     record {
@@ -185,9 +169,9 @@ row_sorted m c from nominal bound old new fits h perm sorted =
       ]));
     }
 
-pub sorted_each : (m : Automata) (c from nominal bound : ℕ) (old new : List Choice) → AreChanges m c from nominal bound old → IsPermutation old new → AreChanges m c from nominal bound new
+pub sorted_each : (m : PlantModel) (c from nominal bound : ℕ) (old new : List Choice) → AreChanges m c from nominal bound old → IsPermutation old new → AreChanges m c from nominal bound new
 sorted_each m c from nominal bound old new h perm x =
     ((λ among. (h x).0 (Contains-permutation new old x (IsPermutation-sym old new perm) among)), (λ its. Contains-permutation old new x perm ((h x).1 its)))
 
-pub mode_count : (m : Automata) (c : ℕ) (x : Component) → c < length m.components → x ≡ get_or m.components c x → get_or (mode_counts m) c 0 ≡ length x.modes
+pub mode_count : (m : PlantModel) (c : ℕ) (x : Component) → c < length m.components → x ≡ get_or m.components c x → get_or (mode_counts m) c 0 ≡ length x.modes
 mode_count m c x h e = get_or-map (λ (z : Component). length z.modes) m.components c x 0 h ∙ ap (λ (z : Component). length z.modes) (sym e)

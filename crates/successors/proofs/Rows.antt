@@ -4,7 +4,7 @@ use Rattle.std.proofs.lemmas.Bool.{cases_eq, eq-eqb, ne_eqb, cond-true, cond-fal
 use Rattle.std.proofs.lemmas.List.{get_or_push, get_or_append_left, get_or-set_same, get_or-set_other, length_push}
 use Rattle.std.proofs.lemmas.List.Elements.{All-push, All-nil}
 use Rattle.cca_base.specs.declared.cube.Pair.{Pair}
-use Rattle.cca_base.specs.Automata.{Automata}
+use Rattle.cca_base.specs.PlantModel.{PlantModel}
 use Rattle.cca_base.specs.Model.{WellFormed, mode_counts}
 use Rattle.cca_base.specs.State.{IsState}
 use Rattle.cca_base.specs.Successors.{Nominal}
@@ -13,10 +13,10 @@ use Rattle.cca_base.specs.Choices.{IsRow}
 use Rattle.successors.specs.Nominal.{IsSent, NoneSent}
 use Rattle.successors.specs.Choices.{AreRowsTo, AreChanges, AreChoices, mode_after, state_after}
 
-pub rows_none : (m : Automata) (s : List ℕ) (moved : Option Pair) (rows : List (List Choice)) → rows ≡ [] → AreRowsTo m s moved 0 rows
+pub rows_none : (m : PlantModel) (s : List ℕ) (moved : Option Pair) (rows : List (List Choice)) → rows ≡ [] → AreRowsTo m s moved 0 rows
 rows_none m s moved rows e = subst (AreRowsTo m s moved 0) (sym e) (record { full = refl; rows_fit = All-nil IsRow; each = λ c h. absurd (omega arith) })
 
-pub rows_more : (m : Automata) (s : List ℕ) (moved : Option Pair) (c : ℕ) (rows : List (List Choice)) (row : List Choice) → AreRowsTo m s moved c rows → IsRow row
+pub rows_more : (m : PlantModel) (s : List ℕ) (moved : Option Pair) (c : ℕ) (rows : List (List Choice)) (row : List Choice) → AreRowsTo m s moved c rows → IsRow row
     → AreChanges m c (get_or s c 0) (mode_after moved c (get_or s c 0)) (get_or (mode_counts m) c 0) row → AreRowsTo m s moved (c + 1) (rows ++ row ∷ [])
 rows_more m s moved c rows row h own changes = record {
   full = omega (arith, length_push rows row, h.full);
@@ -29,7 +29,7 @@ rows_more m s moved c rows row h own changes = record {
   ];
 }
 
-nominal_by : (m : Automata) (s : List ℕ) (k : Option ℕ) (moved : Option Pair) → IfSome moved (IsSent m s k) → (IsNone moved → NoneSent m s k) → Nominal m s k (state_after moved s)
+nominal_by : (m : PlantModel) (s : List ℕ) (k : Option ℕ) (moved : Option Pair) → IfSome moved (IsSent m s k) → (IsNone moved → NoneSent m s k) → Nominal m s k (state_after moved s)
 nominal_by m s k None some none = inr (none refl, refl)
 nominal_by m s k (Some p) some none = inl (some.move, some.commanded, ap (λ (q : Pair). set s q.item q.value) some.is_target)
 
@@ -41,7 +41,7 @@ mode_by (Some p) s c h = elim (cases_eq p.item c) [
   | inr ne ↦ cond-false (p.item == c) p.value (get_or s c 0) (ne_eqb p.item c ne) ∙ sym (get_or-set_other s p.item c p.value 0 (λ same. ne (sym same)))
 ]
 
-pub all_choices : (m : Automata) (s : List ℕ) (k : Option ℕ) (moved : Option Pair) (n : ℕ) (rows : List (List Choice)) → WellFormed m → IsState m s → IfSome moved (IsSent m s k)
+pub all_choices : (m : PlantModel) (s : List ℕ) (k : Option ℕ) (moved : Option Pair) (n : ℕ) (rows : List (List Choice)) → WellFormed m → IsState m s → IfSome moved (IsSent m s k)
     → (IsNone moved → NoneSent m s k) → n ≡ length m.components → AreRowsTo m s moved n rows → AreChoices m s k rows
 all_choices m s k moved n rows fits state some none e h =
     let few = fits.limits.components in

@@ -8,13 +8,13 @@ use Rattle.std.proofs.lemmas.List.Elements.{All-contains}
 use Rattle.cca_base.specs.Model.{IsMove, mode_counts}
 use Rattle.cca_base.specs.declared.cube.Pair.{Pair}
 use Rattle.cca_base.specs.declared.model.Move.{Move}
-use Rattle.cca_base.specs.Accepted.{CompiledParts, IsCompiled}
+use Rattle.cca_base.specs.Accepted.{CompiledModel, IsCompiled}
 use Rattle.cca_base.specs.State.{IsState, Holds}
 use Rattle.cca_base.proofs.Members.{some_inj}
 use Rattle.successors.specs.Nominal.{SomeStands}
 use Rattle.successors.proofs.Standing.{holds_by_prime, prime_holds}
 
-pub stands_holds : (b : CompiledParts) → IsCompiled b → (s : List ℕ) → IsState b.model s → (at : ℕ) (move : Move) (cubes : List (List Pair)) → slice_get b.model.moves at ≡ Some move
+pub stands_holds : (b : CompiledModel) → IsCompiled b → (s : List ℕ) → IsState b.model s → (at : ℕ) (move : Move) (cubes : List (List Pair)) → slice_get b.model.moves at ≡ Some move
     → slice_get b.ways at ≡ Some cubes → slice_get s move.component ≡ Some move.source → SomeStands s cubes ↔ Holds b.model s move.guard
 stands_holds b h s state at move cubes of_model of_ways source =
     let ways = h.ways at move cubes of_model of_ways in (
@@ -29,7 +29,7 @@ pub same_at : (moves : List Move) (at : ℕ) (a b : Move) → slice_get moves at
 same_at moves at a b x y = some_inj a b (sym x ∙ y)
 
 -- a move's component is one of the state's
-pub component_within : (b : CompiledParts) → IsCompiled b → (s : List ℕ) → IsState b.model s → (at : ℕ) (move : Move) → slice_get b.model.moves at ≡ Some move → move.component < length s
+pub component_within : (b : CompiledModel) → IsCompiled b → (s : List ℕ) → IsState b.model s → (at : ℕ) (move : Move) → slice_get b.model.moves at ≡ Some move → move.component < length s
 component_within b h s state at move of_model =
     let fits : IsMove b.model move = All-contains (IsMove b.model) b.model.moves move h.accepted.well_formed.moves (among_at b.model.moves at move of_model) in
     let full = state.full in

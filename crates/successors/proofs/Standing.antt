@@ -1,29 +1,22 @@
 -- A guard holds in the source's states exactly where a prime implicant stands.
-use Rattle.std.proofs.Common.{◌≡◌, ◌<◌, ◌≢◌, ◌==◌, ℕ, not, List, ◌∷◌, length, get_or, slice_get, Some, Contains, filter, refl, sym, ap, subst, ◌∙◌, inl, inr, arith}
+use Rattle.std.proofs.Common.{◌≡◌, ◌<◌, ◌≢◌, ◌==◌, ℕ, not, List, ◌∷◌, slice_get, Some, Contains, filter, refl, sym, ap, subst, ◌∙◌, inl, inr}
 use Rattle.std.proofs.lemmas.Bool.{cases_eq, both_ways, eq-eqb, ne_eqb, not-true, not_from_false}
-use Rattle.std.proofs.lemmas.List.{ext_get_or}
 use Rattle.std.proofs.lemmas.List.Elements.{All-contains, All-cons, All-weaker}
 use Rattle.std.proofs.lemmas.List.Kept.{AllPairs-filter}
-use Rattle.std.proofs.lemmas.Option.{slice_get_within, get_or_from_slice_get, slice_get-get_or}
+use Rattle.std.proofs.lemmas.Option.{slice_get_within, get_or_from_slice_get}
 use Rattle.cca_base.specs.declared.cube.Pair.{Pair}
 use Rattle.cca_base.specs.declared.model.Move.{Move}
-use Rattle.cca_base.specs.Automata.{Automata}
+use Rattle.cca_base.specs.PlantModel.{PlantModel}
 use Rattle.cca_base.specs.Model.{HasMode}
 use Rattle.cca_base.specs.Implicants.{PrimeImplicant, source_pair}
 use Rattle.cca_base.specs.Repairs.{pairs_of}
 use Rattle.cca_base.specs.State.{IsState, Holds, Extends}
-use Rattle.cca_base.proofs.Members.{all_from, some_inj, contains_here, contains_there, to_filter, from_filter, stands_in, in_pairs}
+use Rattle.cca_base.proofs.Members.{all_from, some_inj, contains_here, contains_there, to_filter, from_filter, stands_in}
+use Rattle.cca_base.proofs.StateLaws.{same_state}
 use Rattle.cca_laws.specs.Conditions.{IsSufficient}
 use Rattle.cca_laws.proofs.Minimal.{pairs_rise, prime_parts}
 
--- only the state itself extends its pairs
-same_state : (s t : List ℕ) → length t ≡ length s → Extends t (pairs_of s) → t ≡ s
-same_state s t e extends = ext_get_or 0 t s e (λ i below.
-    let inside : i < length s = omega (arith, e) in
-    let p : Pair = record { item = i; value = get_or s i 0 } in
-    get_or_from_slice_get t i (get_or s i 0) 0 (All-contains (λ q. slice_get t q.item ≡ Some q.value) (pairs_of s) p extends (in_pairs s p (slice_get-get_or s i 0 inside))))
-
-module _ (m : Automata) (s : List ℕ) (move : Move) (state : IsState m s) (source : slice_get s move.component ≡ Some move.source) where
+module _ (m : PlantModel) (s : List ℕ) (move : Move) (state : IsState m s) (source : slice_get s move.component ≡ Some move.source) where
   -- the pairs of the components that the move leaves as they are
   abbrev others : List Pair
   others = filter (λ p. not (p.item == move.component)) (pairs_of s)

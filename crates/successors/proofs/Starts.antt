@@ -1,21 +1,7 @@
 -- The plant's modes at the start, one component after the other.
 use Rattle.std.proofs.Common.{◌≡◌, ◌<◌, ◌+◌, ℕ, List, [], ◌∷◌, ◌++◌, length, map, get_or, take, sym, ap, ◌∙◌, arith}
 use Rattle.std.proofs.lemmas.List.{length-map, get_or-map, take_more}
-use Rattle.cca_base.specs.Automata.{Automata}
 use Rattle.cca_base.specs.declared.model.Component.{Component}
-use Rattle.cca_base.specs.Model.{WellFormed}
-use Rattle.cca_base.specs.State.{IsState, start_modes}
-
--- the start modes are a state
-pub start_state : (m : Automata) → WellFormed m → IsState m (start_modes m)
-start_state m good = record {
-  full = length-map m.components (λ (x : Component). x.start);
-  modes = λ c within.
-      let none : Component = record { name = []; modes = []; start = 0 } in
-      let start = get_or-map (λ (x : Component). x.start) m.components c none 0 within in
-      let count = get_or-map (λ (x : Component). length x.modes) m.components c none 0 within in
-      omega (arith, start, count, (good.components c none within).start);
-}
 
 -- one more start mode
 pub starts_more : (cs : List Component) (i : ℕ) (modes : List ℕ) (x : Component) → i < length cs → x ≡ get_or cs i x → modes ≡ take i (map (λ c. c.start) cs)

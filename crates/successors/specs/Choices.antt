@@ -2,7 +2,7 @@
 use Rattle.std.specs.Prelude.{◌≡◌, ◌↔◌, ℕ, ◌<◌, ◌≤◌, List, [], ◌∷◌, ◌++◌, length, All, Contains, Option, Some, None, Bool, ◌==◌, min, if◌then◌else◌, slice_set, slice_index, slice_index_or}
 use Rattle.cca_base.specs.declared.cube.Pair.{Pair}
 use Rattle.cca_base.specs.declared.model.Failure.{Failure}
-use Rattle.cca_base.specs.Automata.{Automata}
+use Rattle.cca_base.specs.PlantModel.{PlantModel}
 use Rattle.cca_base.specs.Model.{HasMode, mode_counts}
 use Rattle.cca_base.specs.Successors.{Nominal, ChangeCosts}
 use Rattle.cca_base.specs.declared.choice.Choice.{Choice}
@@ -27,12 +27,12 @@ lesser_of None cost = cost
 lesser_of (Some k) cost = min k cost
 
 -- what the component's change to the mode costs, if it can change to it
-abbrev pub IsChange : Automata → ℕ → ℕ → ℕ → ℕ → Option ℕ → Type 0
+abbrev pub IsChange : PlantModel → ℕ → ℕ → ℕ → ℕ → Option ℕ → Type 0
 IsChange m c from nominal to None = (cost : ℕ) → ChangeCosts m c from nominal to cost → ⊥
 IsChange m c from nominal to (Some k) = ChangeCosts m c from nominal to k
 
 -- exactly the changes to modes below this one
-abbrev pub AreChanges : Automata → ℕ → ℕ → ℕ → ℕ → List Choice → Type 0
+abbrev pub AreChanges : PlantModel → ℕ → ℕ → ℕ → ℕ → List Choice → Type 0
 AreChanges m c from nominal bound row = (x : Choice) → Contains row x ↔ ((x.mode < bound) × ChangeCosts m c from nominal x.mode x.cost)
 
 -- the row with the mode, where the change to it has a cost
@@ -55,14 +55,14 @@ state_after None s = s
 state_after (Some p) s = slice_set s p.item p.value
 
 -- rows of the components below this one
-pub record AreRowsTo (m : Automata) (s : List ℕ) (moved : Option Pair) (bound : ℕ) (rows : List (List Choice)) : Type 0 where
+pub record AreRowsTo (m : PlantModel) (s : List ℕ) (moved : Option Pair) (bound : ℕ) (rows : List (List Choice)) : Type 0 where
   pub full : length rows ≡ bound
   pub rows_fit : All IsRow rows
   pub each : (c : ℕ) → c < bound
       → AreChanges m c (slice_index s c) (mode_after moved c (slice_index s c)) (slice_index (mode_counts m) c) (slice_index_or rows c [])
 
 -- per component exactly the modes to which it can change, each with what that costs
-pub record AreChoices (m : Automata) (s : List ℕ) (k : Option ℕ) (rows : List (List Choice)) : Type 0 where
+pub record AreChoices (m : PlantModel) (s : List ℕ) (k : Option ℕ) (rows : List (List Choice)) : Type 0 where
   pub rows_fit : AreRows rows
   pub full : length rows ≡ length m.components
   pub nominal : List ℕ

@@ -10,12 +10,18 @@ use cca_base::{Choices, Compiled, List, Pair, State};
 use std::alloc::{AllocError, Global};
 
 /// The component's mode after the one that moves has moved.
-fn nominal_mode(moved: Option<Pair>, c: u16, mode: u8) -> u8
-    ensures { result ≡ mode_after moved c mode }
+fn nominal_mode(moved: Option<Pair>, component: u16, mode: u8) -> u8
+    ensures { result ≡ mode_after moved component mode }
 {
     match moved {
         None => mode,
-        Some(pair) => { if pair.item == c { pair.value } else { mode } }
+        Some(pair) => {
+            if pair.item == component {
+                pair.value
+            } else {
+                mode
+            }
+        }
     }
 }
 

@@ -2,7 +2,7 @@
 //! takes the mode of each fault.
 
 ghost use Rattle.std.specs.Prelude.{◌≡◌, ◌<◌, IfOk, Some, length, slice_set};
-ghost use Rattle.cca_base.specs.Automata.{Automata};
+ghost use Rattle.cca_base.specs.PlantModel.{PlantModel};
 ghost use Rattle.cca_base.specs.Model.{HasMode};
 ghost use Rattle.cca_base.specs.State.{IsState, start_modes};
 ghost use Rattle.cca_base.specs.Successors.{Nominal};
@@ -59,7 +59,7 @@ impl Plant {
     pub fn fault(&mut self, pair: Pair)
         requires { pair.item < length self.old }
         ensures sets { self.new ≡ slice_set self.old pair.item pair.value }
-        ensures fits { (m : Automata) → IsState m self.old → HasMode m pair.item pair.value → IsState m self.new }
+        ensures fits { (m : PlantModel) → IsState m self.old → HasMode m pair.item pair.value → IsState m self.new }
     {
         self.state.modes.set(pair.item as usize, pair.value);
     }

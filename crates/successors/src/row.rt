@@ -21,12 +21,12 @@ fn lesser(known: Option<u32>, cost: u32) -> u32
 }
 
 /// Takes in a failure.
-fn note_cost(costs: &mut Vec<Option<u32>>, failure: &Failure, c: u16, from: u8)
-    requires { failure.now.component ≡ c → failure.now.target < length costs.old.items }
+fn note_cost(costs: &mut Vec<Option<u32>>, failure: &Failure, component: u16, from: u8)
+    requires { failure.now.component ≡ component → failure.now.target < length costs.old.items }
     ensures full { length costs.new.items ≡ length costs.old.items }
-    ensures least { (fs : List Failure) → AreLeast fs c from costs.old.items → AreLeast (fs ++ failure.now ∷ []) c from costs.new.items }
+    ensures least { (fs : List Failure) → AreLeast fs component from costs.old.items → AreLeast (fs ++ failure.now ∷ []) component from costs.new.items }
 {
-    if failure.component != c {
+    if failure.component != component {
         return;
     }
     if failure.source != from {
@@ -41,17 +41,17 @@ fn note_cost(costs: &mut Vec<Option<u32>>, failure: &Failure, c: u16, from: u8)
 fn least_costs(
     alloc: Global,
     model: &Model,
-    c: u16,
+    component: u16,
     from: u8,
 ) -> Result<Vec<Option<u32>>, AllocError>
-    requires { c < length model.now.components }
-    ensures full { IfOk result (λ v. length v.items ≡ slice_index (mode_counts model.now) c) }
-    ensures each { IfOk result (λ v. AreLeast model.now.failures c from v.items) }
+    requires { component < length model.now.components }
+    ensures full { IfOk result (λ v. length v.items ≡ slice_index (mode_counts model.now) component) }
+    ensures each { IfOk result (λ v. AreLeast model.now.failures component from v.items) }
 {
-    let modes = model.components().get(c as usize).modes.len();
+    let modes = model.components().get(component as usize).modes.len();
     let mut costs = vec![in alloc; None; modes]?;
     for failure in model.failures().as_slice() {
-        note_cost(&mut costs, failure, c, from);
+        note_cost(&mut costs, failure, component, from);
     }
     Ok(costs)
 }
@@ -85,17 +85,17 @@ fn add_choice(row: &mut Vec<Choice>, mode: u8, cost: Option<u64>) -> Result<(), 
 pub fn row_of(
     alloc: Global,
     model: &Model,
-    c: u16,
+    component: u16,
     from: u8,
     nominal: u8,
 ) -> Result<List<Choice>, AllocError>
-    requires { c < length model.now.components }
+    requires { component < length model.now.components }
     ensures row { IfOk result IsRow }
-    ensures each { IfOk result (AreChanges model.now c from nominal (slice_index (mode_counts model.now) c)) }
+    ensures each { IfOk result (AreChanges model.now component from nominal (slice_index (mode_counts model.now) component)) }
 {
-    let least = least_costs(alloc, model, c, from)?;
+    let least = least_costs(alloc, model, component, from)?;
     let mut row = Vec::new(alloc);
-    for to in 0..model.components().get(c as usize).modes.len() as u8 {
+    for to in 0..model.components().get(component as usize).modes.len() as u8 {
         add_choice(&mut row, to, change(to, nominal, least[to as usize]))?;
     }
     row.sort_unstable();

@@ -1,5 +1,6 @@
 pub mod Loop
 pub mod Spans
-pub mod NumberLemmas
-pub mod NamesLemmas
-pub mod KindLemmas
+pub mod NumberTexts
+pub mod NamesRead
+pub mod TokenKinds
+pub mod LexemeLaws

@@ -1,21 +1,15 @@
 -- Reading tokens one after the other, as a loop does.
-use Rattle.std.proofs.Common.{◌≡◌, ℕ, zero, suc, ◌+◌, ◌-◌, ◌<◌, ◌≤◌, not, List, [], ◌∷◌, ◌++◌, length, get_or, take, drop, Option, Result, Ok, Err, refl, sym, ap, ◌∙◌, append_assoc, add-one, add-zero, drop-cons, arith, length-drop}
-use Rattle.std.specs.Prelude.{position}
-use Rattle.std.proofs.lemmas.List.{append-nil, take_rest, drop-drop, nil_from_length}
+use Rattle.std.proofs.Common.{◌≡◌, ℕ, zero, suc, ◌+◌, ◌-◌, ◌<◌, ◌≤◌, List, [], ◌∷◌, ◌++◌, length, get_or, take, drop, Result, Ok, Err, refl, sym, ap, ◌∙◌, append_assoc, add-one, add-zero, drop-cons, arith}
+use Rattle.std.proofs.lemmas.List.{take_rest, drop-drop}
 use Rattle.text_base.specs.declared.token.Piece.{Piece}
 use Rattle.text_base.specs.declared.token.Kind.{Kind}
-use Rattle.text_base.specs.declared.token.Piece.TheVariants.{Blank, Comment, Run, Bad}
-use Rattle.text_base.specs.Bytes.{is_comment_byte}
-use Rattle.text_base.specs.Tokens.{Tok, piece_of, comment_end, with_first, tokens_of_piece, tokens_from, tokens_of}
+use Rattle.text_base.specs.declared.token.Piece.TheVariants.{Run}
+use Rattle.text_base.specs.Tokens.{Tok, piece_of, with_first, tokens_of_piece, tokens_from, tokens_of}
 
 -- what was read before, and what is still read
 abbrev pub with_front : List Tok → Result (List Tok) ℕ → Result (List Tok) ℕ
 with_front front (Ok ts) = Ok (front ++ ts)
 with_front front (Err at) = Err at
-
-drop_nil : (k : ℕ) → drop k (let xs : List ℕ = [] in xs) ≡ []
-drop_nil zero = refl
-drop_nil (suc k) = refl
 
 -- what comes before covers k bytes
 skip : (bs : List ℕ) (k at : ℕ) → tokens_from k at bs ≡ tokens_from 0 (at + k) (drop k bs)
@@ -45,13 +39,6 @@ pub record IsReading (line : List ℕ) (front : List Tok) (at : ℕ) : Type 0 wh
   pub within : at ≤ length line
   pub same : with_front front (tokens_from 0 at (drop at line)) ≡ tokens_of line
 
-pub starts : (line : List ℕ) → IsReading line [] 0
-starts line = record { within = omega arith; same = nothing (tokens_of line) }
-  where
-    nothing : (r : Result (List Tok) ℕ) → with_front [] r ≡ r
-    nothing (Ok ts) = refl
-    nothing (Err at) = refl
-
 -- the piece at a place
 abbrev pub PieceIs : List ℕ → ℕ → Piece → Type 0
 PieceIs line at piece = piece ≡ piece_of (get_or line at 0) (take (length line - (at + 1)) (drop (at + 1) line))
@@ -59,9 +46,6 @@ PieceIs line at piece = piece ≡ piece_of (get_or line at 0) (take (length line
 by_piece : (line : List ℕ) (front : List Tok) (at : ℕ) (piece : Piece) → IsReading line front at → at < length line → PieceIs line at piece → with_front front (rest_of line at piece) ≡ tokens_of line
 by_piece line front at piece r h p =
     ap (λ (q : Piece). with_front front (rest_of line at q)) p ∙ ap (with_front front) (sym (step line at h)) ∙ r.same
-
-pub after_blank : (line : List ℕ) (front : List Tok) (at : ℕ) → IsReading line front at → at < length line → PieceIs line at Blank → IsReading line front (at + 1)
-after_blank line front at r h p = record { within = omega arith; same = by_piece line front at Blank r h p }
 
 regroup : (front : List Tok) (t : Tok) (r : Result (List Tok) ℕ) → with_front front (with_first t r) ≡ with_front (front ++ t ∷ []) r
 regroup front t (Ok ts) = ap (λ (l : List Tok). Ok l) (simp append_assoc)
@@ -85,15 +69,3 @@ after_run line front at kind more r h le p =
           ∙ ap (with_front (front ++ t ∷ [])) (sym tail) ∙ sym (regroup front t (tokens_from more (at + 1) (drop (at + 1) line)))
           ∙ by_piece line front at (Run kind more) r h p;
     }
-
-pub at_bad : (line : List ℕ) (front : List Tok) (at : ℕ) → IsReading line front at → at < length line → PieceIs line at Bad → tokens_of line ≡ Err at
-at_bad line front at r h p = sym (by_piece line front at Bad r h p)
-
-pub in_comment : (line : List ℕ) (front : List Tok) (at : ℕ) (o : Option ℕ) → IsReading line front at → at < length line → PieceIs line at Comment → o ≡ position (λ b. not (is_comment_byte b)) (take (length line - at) (drop at line)) → tokens_of line ≡ with_front front (comment_end at o)
-in_comment line front at o r h p e =
-    sym (by_piece line front at Comment r h p) ∙ ap (λ (x : Option ℕ). with_front front (comment_end at x)) (sym (e ∙ ap (position (λ b. not (is_comment_byte b))) (take_rest line at)))
-
-pub at_end : (line : List ℕ) (front : List Tok) (at : ℕ) → IsReading line front at → length line ≤ at → tokens_of line ≡ Ok front
-at_end line front at r h =
-    let e : drop at line ≡ [] = nil_from_length (drop at line) (omega (arith, length-drop at line)) in
-    sym (sym (ap (λ (l : List Tok). Ok l) (append-nil front)) ∙ ap (λ (l : List ℕ). with_front front (tokens_from 0 at l)) (sym e) ∙ r.same)

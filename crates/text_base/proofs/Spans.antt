@@ -37,7 +37,7 @@ piece_within b bs =
     (pair_within b bs _ (choose (is_symbol b) (Run Symbol 0) Bad n (omega arith) tt)))))
 
 -- the list that a step gave
-oks : (ts us : List Tok) → (let r : Result (List Tok) ℕ = Ok ts in r) ≡ Ok us → ts ≡ us
+pub oks : (ts us : List Tok) → (let r : Result (List Tok) ℕ = Ok ts in r) ≡ Ok us → ts ≡ us
 oks ts us e = cc
 
 run_fine : (line : List ℕ) (b : ℕ) (bs : List ℕ) (kind : Kind) (more at : ℕ) (r : Result (List Tok) ℕ) (ts : List Tok) → b ∷ bs ≡ drop at line → more ≤ length bs → ((us : List Tok) → r ≡ Ok us → Fine line (at + 1 + more) us)

@@ -21,8 +21,8 @@ pub record Tok : Type 0 where
   pub text : List ℕ
 
 -- a token of the code, without where its bytes lie
-abbrev pub shown : Token → Tok
-shown t = record { kind = t.kind; start = t.start; end = t.end; text = t.text.now }
+abbrev pub token_view : Token → Tok
+token_view t = record { kind = t.kind; start = t.start; end = t.end; text = t.text.now }
 
 -- -> or !=
 abbrev pub is_pair : ℕ → List ℕ → Bool

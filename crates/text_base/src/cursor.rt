@@ -1,3 +1,5 @@
+//! A walk over the tokens of a line.
+
 ghost use Rattle.std.specs.Prelude.{◌≡◌, map, IfOk};
 ghost use Rattle.std.specs.Option.{option_map};
 ghost use Rattle.text_base.specs.Lexemes.{lexeme_of, same_kind, is_lexeme, is_name_word, next_is, name_word_at, names_at};

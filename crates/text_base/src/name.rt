@@ -1,3 +1,5 @@
+//! Words that are names.
+
 ghost use Rattle.std.specs.Prelude.{◌≡◌, false, IfSome, IfNone, IsTrue};
 ghost use Rattle.cca_base.specs.Names.{is_word, is_reserved, is_name};
 

@@ -1,3 +1,5 @@
+//! Decimal numbers of at most 128 bits.
+
 ghost use Rattle.std.specs.Prelude.{◌≡◌, ◌≢◌, ◌<◌, ◌^◌, ℕ, IfSome, IfNone};
 ghost use Rattle.std.specs.Fmt.{decimal};
 ghost use Rattle.text_base.specs.Numerals.{is_numeral};

@@ -1,7 +1,9 @@
+//! The tokens of a line, each as long as it can be.
+
 ghost use Rattle.std.specs.Prelude.{◌≡◌, ℕ, ◌+◌, ◌<◌, ◌≤◌, not, ◌∷◌, List, length, drop, position, map, MatchOption, None, Some, Ok};
 ghost use Rattle.std.specs.List.{AllByRecursion};
 ghost use Rattle.text_base.specs.Bytes.{is_comment_byte};
-ghost use Rattle.text_base.specs.Tokens.{Tok, IsPartOf, IsOfItsKind, Rise, piece_of, StaysWithin, tokens_of, shown, Gives};
+ghost use Rattle.text_base.specs.Tokens.{Tok, IsPartOf, IsOfItsKind, Rise, piece_of, StaysWithin, tokens_of, token_view, Gives};
 
 use crate::bytes::{digits_len, is_blank, is_comment_byte, is_symbol, word_len};
 use std::alloc::{AllocError, AllocFailed, Global};
@@ -109,7 +111,7 @@ fn bad_in_comment(bytes: &[u8]) -> Option<usize>
 
 /// The tokens of a line, each as long as it can be, or the first byte that belongs to nothing.
 pub fn tokens<'a>(alloc: Global, line: &'a [u8]) -> Result<Vec<Token<'a>>, TokenFault>
-    ensures { Gives (λ v. map shown v.items) result (tokens_of line.now) }
+    ensures { Gives (λ v. map token_view v.items) result (tokens_of line.now) }
 {
     let mut out = Vec::new(alloc);
     let mut at = 0;

@@ -1,16 +1,20 @@
 -- An item is read from its spelling, and from nothing else.
-use Rattle.std.proofs.Common.{◌≡◌, ℕ, Bool, true, false, cond, ◌||◌, codes, List, [], ◌∷◌, ◌++◌, Option, Some, None, refl, sym, ap, subst, ◌∙◌, append-nil, arith}
+use Rattle.std.proofs.Common.{◌≡◌, ℕ, true, cond, codes, List, [], ◌∷◌, ◌++◌, Option, Some, None, refl, sym, ap, subst, ◌∙◌, append-nil, arith}
 use Rattle.std.specs.List.{list_any}
 use Rattle.std.specs.Str.{bytes_eq}
 use Rattle.std.proofs.lemmas.Slice.Eq.{bytes_eq-Decides}
+use Rattle.std.proofs.lemmas.Bool.{and_parts}
+use Rattle.std.proofs.lemmas.Option.{same_Some}
+use Rattle.list_laws.proofs.Tests.{cond_either, cond_found, either}
 use Rattle.text_base.specs.declared.token.Kind.{Kind}
 use Rattle.text_base.specs.declared.token.Kind.TheVariants.{Word}
 use Rattle.text_base.specs.Lexemes.{Lexeme, word, same_kind, is_lexeme}
+use Rattle.text_base.proofs.LexemeLaws.{lexeme_is, kind_is}
 use Rattle.titan_top.specs.Items.{NamedPair, Item, Goal, Tick, Unbuilt, ended, pairs_at, goal_at, unbuilt_words, is_unbuilt, item_of, pairs_spelled, goal_spelled, spelling, ArePairWords, IsSpelled}
-use Rattle.titan_top.proofs.ListGrammar.{both, bind_some, then, cond_either, cond_some, some_is, kind_is, lexeme_is, after, reads_pairs, pairs_read}
+use Rattle.titan_top.proofs.ListGrammar.{bind_some, then, after, reads_pairs, pairs_read}
 
 ended_read : (x y : Item) (ls : List Lexeme) → ended x ls ≡ Some y → (ls ≡ []) × (x ≡ y)
-ended_read x y [] e = (refl, some_is x y e)
+ended_read x y [] e = (refl, same_Some x y e)
 ended_read x y (l ∷ ls) e = absurd cc
 
 -- this item is spelled so
@@ -42,10 +46,6 @@ goal_written ls i e =
     let w = pairs.0 ∙ ap (λ (x : List Lexeme). goal_spelled a.0.0 ++ x) d.0 ∙ append-nil (goal_spelled a.0.0) in
     same_item (word (codes "goal")) ls (Goal a.0.0) i d.1 (after (word (codes "goal")) w, (pairs.1, pairs.2))
 
-either : {P : Type 0} (a b : Bool) → (a || b) ≡ true → (a ≡ true → P) → (b ≡ true → P) → P
-either true b e f g = f refl
-either false b e f g = g e
-
 abbrev AllHave : (List ℕ → Type 0) → List (List ℕ) → Type 0
 AllHave P [] = Unit {0}
 AllHave P (w ∷ ws) = P w × AllHave P ws
@@ -69,9 +69,9 @@ item_again (Unbuilt first rest) h = reads_unbuilt first rest h
 
 unbuilt_written : (l : Lexeme) (ls : List Lexeme) (i : Item) → cond (is_unbuilt l) (Some (Unbuilt l.1 ls)) None ≡ Some i → IsWritten (l ∷ ls) i
 unbuilt_written l ls i e =
-    let p = cond_some (is_unbuilt l) (Some (Unbuilt l.1 ls)) i e in
-    let q = both (same_kind l.0 Word) (list_any (bytes_eq l.1) unbuilt_words) p.0 in
-    same_item l ls (Unbuilt l.1 ls) i (some_is (Unbuilt l.1 ls) i p.1) (ap (λ (k : Kind). (k, l.1) ∷ ls) (kind_is l.0 Word q.0), q.1)
+    let p = cond_found (is_unbuilt l) (Some (Unbuilt l.1 ls)) i e in
+    let q = and_parts (same_kind l.0 Word) (list_any (bytes_eq l.1) unbuilt_words) p.0 in
+    same_item l ls (Unbuilt l.1 ls) i (same_Some (Unbuilt l.1 ls) i p.1) (ap (λ (k : Kind). (k, l.1) ∷ ls) (kind_is l.0 Word q.0), q.1)
 
 -- a test of the first word
 keyword : (k : List ℕ) (l : Lexeme) (ls : List Lexeme) (i : Item) (x y : Option Item)

@@ -2,7 +2,7 @@
 use Rattle.std.proofs.Common.{◌≡◌, ◌≢◌, ℕ, inl, inr, Bool, true, false, cond, List, [], ◌∷◌, ◌++◌, map, All, refl, sym, ap, subst, ◌∙◌, eqb}
 use Rattle.std.proofs.lemmas.Bool.{cases_Bool, eqb-true}
 use Rattle.std.proofs.lemmas.List.Elements.{All-head, All-tail}
-use Rattle.cca_base.specs.Automata.{Automata}
+use Rattle.cca_base.specs.PlantModel.{PlantModel}
 use Rattle.cca_base.specs.Model.{WellFormed}
 use Rattle.text_base.specs.Lexemes.{Lexeme}
 use Rattle.model_syntax.specs.Printing.{joined, lines_said, printed_lines, printed_model}
@@ -10,7 +10,7 @@ use Rattle.model_syntax.specs.RoundTrip.{ReadsTo}
 use Rattle.model_syntax.proofs.PrintedModel.{model_read, lines_whole}
 use Rattle.titan_top.specs.Laws.{PrintedTextsReadBack}
 use Rattle.titan_top.specs.Lines.{lines_of, onto_first}
-use Rattle.titan_top.specs.Reading.{nothing_read}
+use Rattle.titan_top.specs.Document.{nothing_read}
 
 -- no line's end is in the line
 abbrev IsWhole : List ℕ → Type 0
@@ -31,7 +31,7 @@ lines_again (l ∷ lines) h =
     first_line (joined l) (printed_lines lines) (All-head IsWhole (joined l) (map joined lines) h)
     ∙ ap (λ (ls : List (List ℕ)). joined l ∷ ls) (lines_again lines (All-tail IsWhole (joined l) (map joined lines) h))
 
-printed_again : (m : Automata) → WellFormed m → lines_of (printed_model m) ≡ map joined (lines_said m)
+printed_again : (m : PlantModel) → WellFormed m → lines_of (printed_model m) ≡ map joined (lines_said m)
 unfolding printed_model
 printed_again m w = lines_again (lines_said m) (lines_whole m w)
 

@@ -4,6 +4,7 @@ use Rattle.std.specs.Io.KnownBytes.{append_known}
 use Rattle.std.proofs.lemmas.List.{append-nil, take_all, take-append-drop, nil_from_length}
 use Rattle.std.proofs.lemmas.Grind.{flat_map-append}
 use Rattle.titan_wire.specs.Wire.{HasRoom, less_space}
+use Rattle.titan_wire.proofs.Bytes.{append_known-append}
 use Rattle.titan_top.specs.declared.status.Status.{Status}
 use Rattle.titan_top.specs.declared.status.Status.TheVariants.{Ended, Rejected, Usage, Refused, ReadFault, WriteFault, Memory}
 use Rattle.titan_top.specs.Lines.{lines_of}
@@ -11,21 +12,18 @@ use Rattle.cca_base.specs.declared.events.Stop.{Stop}
 use Rattle.cca_base.specs.declared.events.Stop.TheVariants as stops
 use Rattle.cca_base.specs.declared.events.Event.{Event}
 use Rattle.cca_base.specs.declared.events.TickReport.{TickReport}
-use Rattle.cca_base.specs.Automata.{Automata}
+use Rattle.cca_base.specs.PlantModel.{PlantModel}
 use Rattle.plain_laws.specs.Executive.{Standing, after_event, reports_at, reports_from}
 use Rattle.titan_top.specs.EventLines.{event_line}
-use Rattle.titan_top.specs.Reading.{Reading, with_event, after_event_line, script_lines}
-use Rattle.titan_top.specs.Verdicts.{bare}
+use Rattle.titan_top.specs.Document.{Document, with_event, after_event_line, script_lines}
+use Rattle.cca_base.specs.Refusals.{bare}
 use Rattle.trace_text.specs.Reports.{report_line, reports_text}
 use Rattle.titan_top.specs.Standing.{acted, line_acted}
-use Rattle.titan_top.specs.Stops.{StopsAs, refusal_code, stop_code}
-use Rattle.titan_top.specs.Text.{Outcome, with_text, ending, printed_from, refusal, IsCut}
-use Rattle.titan_top.specs.Wire.{WritesFront, Answers}
-use Rattle.titan_top.proofs.LineLemmas.{ok_is}
-
-append_twice : (o : Option (List ℕ)) (a b : List ℕ) → append_known (append_known o a) b ≡ append_known o (a ++ b)
-append_twice None a b = refl
-append_twice (Some x) a b = ap (λ (l : List ℕ). Some l) (append_assoc x a b)
+use Rattle.titan_top.specs.Results.{StopsAs, refusal_code}
+use Rattle.cca_base.specs.Refusals.{stop_code}
+use Rattle.titan_top.specs.Output.{Outcome, with_text, ending, printed_from, refusal, IsCut}
+use Rattle.titan_top.specs.Wire.{WritesFront, Prints}
+use Rattle.titan_top.proofs.LineItems.{ok_is}
 
 append_nothing : (o : Option (List ℕ)) → o ≡ append_known o []
 append_nothing None = refl
@@ -38,25 +36,14 @@ pub record IsSending (old now : Option (List ℕ)) (first space : Option ℕ) (l
   pub room : space ≡ less_space first (length front)
   pub whole : with_text front left ≡ total
 
-no_space_used : (first : Option ℕ) → first ≡ less_space first 0
-no_space_used None = refl
-no_space_used (Some s) = let e : s ≡ s - 0 = omega arith in ap (λ (n : ℕ). Some n) e
-
-pub sends_nothing : (old : Option (List ℕ)) (first : Option ℕ) (total : Outcome) → IsSending old old first first total total
-sends_nothing old first total = record { front = []; sent = append_nothing old; room = no_space_used first; whole = refl }
-
--- a front of the whole text is out
-pub sent_so_far : (old now : Option (List ℕ)) (first space : Option ℕ) (left total : Outcome) → IsSending old now first space left total → WritesFront old now total.text
-sent_so_far old now first space left total s = record { front = s.front; rest = left.text; parts = ap (λ (o : Outcome). o.text) s.whole; sent = s.sent }
-
 -- a part of the next piece went out
-pub sent_part : (old now new : Option (List ℕ)) (first space : Option ℕ) (text : List ℕ) (k : ℕ) (left total : Outcome) → IsSending old now first space (with_text text left) total → new ≡ append_known now (take k text) → WritesFront old new total.text
+sent_part : (old now new : Option (List ℕ)) (first space : Option ℕ) (text : List ℕ) (k : ℕ) (left total : Outcome) → IsSending old now first space (with_text text left) total → new ≡ append_known now (take k text) → WritesFront old new total.text
 sent_part old now new first space text k left total s e =
     record {
       front = s.front ++ take k text;
       rest = drop k text ++ left.text;
       parts = append_assoc s.front (take k text) (drop k text ++ left.text) ∙ ap (λ (l : List ℕ). s.front ++ l) (sym (append_assoc (take k text) (drop k text) left.text) ∙ ap (λ (l : List ℕ). l ++ left.text) (take-append-drop k text)) ∙ ap (λ (o : Outcome). o.text) s.whole;
-      sent = e ∙ ap (λ (o : Option (List ℕ)). append_known o (take k text)) s.sent ∙ append_twice old s.front (take k text);
+      sent = e ∙ ap (λ (o : Option (List ℕ)). append_known o (take k text)) s.sent ∙ append_known-append old s.front (take k text);
     }
 
 less_twice : (o : Option ℕ) (m n : ℕ) → less_space (less_space o m) n ≡ less_space o (m + n)
@@ -64,12 +51,12 @@ less_twice None m n = refl
 less_twice (Some x) m n = let k : (x - m) - n ≡ x - (m + n) = omega arith in ap (λ (i : ℕ). Some i) k
 
 -- the whole next piece went out
-pub sent_piece : (old now new : Option (List ℕ)) (first space after : Option ℕ) (text : List ℕ) (left total : Outcome) → IsSending old now first space (with_text text left) total → new ≡ append_known now (take (length text) text) → after ≡ less_space space (length text) → IsSending old new first after left total
+sent_piece : (old now new : Option (List ℕ)) (first space after : Option ℕ) (text : List ℕ) (left total : Outcome) → IsSending old now first space (with_text text left) total → new ≡ append_known now (take (length text) text) → after ≡ less_space space (length text) → IsSending old new first after left total
 sent_piece old now new first space after text left total s e f =
     let n : length s.front + length text ≡ length (s.front ++ text) = omega (arith, length-append s.front text) in
     record {
       front = s.front ++ text;
-      sent = e ∙ ap (append_known now) (take_all (length text) text (omega arith)) ∙ ap (λ (o : Option (List ℕ)). append_known o text) s.sent ∙ append_twice old s.front text;
+      sent = e ∙ ap (append_known now) (take_all (length text) text (omega arith)) ∙ ap (λ (o : Option (List ℕ)). append_known o text) s.sent ∙ append_known-append old s.front text;
       room = f ∙ ap (λ (o : Option ℕ). less_space o (length text)) s.room ∙ less_twice first (length s.front) (length text) ∙ ap (less_space first) n;
       whole = ap (λ (l : List ℕ). record { text = l; status = left.status }) (append_assoc s.front text left.text) ∙ s.whole;
     }
@@ -79,12 +66,12 @@ room_for None space k m n h e le = rw e tt
 room_for (Some x) space k m n h e le = rw e (omega arith)
 
 -- what is left fits, and so does its first piece
-pub room_left : (old now : Option (List ℕ)) (first space : Option ℕ) (left total : Outcome) → HasRoom first (length total.text) → IsSending old now first space left total → HasRoom space (length left.text)
+room_left : (old now : Option (List ℕ)) (first space : Option ℕ) (left total : Outcome) → HasRoom first (length total.text) → IsSending old now first space left total → HasRoom space (length left.text)
 room_left old now first space left total h s =
     let e : s.front ++ left.text ≡ total.text = ap (λ (o : Outcome). o.text) s.whole in
     room_for first space (length s.front) (length left.text) (length total.text) h s.room (omega (arith, length-append s.front left.text, ap length e))
 
-pub room_piece : (old now : Option (List ℕ)) (first space : Option ℕ) (text : List ℕ) (left total : Outcome) → HasRoom first (length total.text) → IsSending old now first space (with_text text left) total → HasRoom space (length text)
+room_piece : (old now : Option (List ℕ)) (first space : Option ℕ) (text : List ℕ) (left total : Outcome) → HasRoom first (length total.text) → IsSending old now first space (with_text text left) total → HasRoom space (length text)
 room_piece old now first space text left total h s =
     let e : s.front ++ (text ++ left.text) ≡ total.text = ap (λ (o : Outcome). o.text) s.whole in
     room_for first space (length s.front) (length text) (length total.text) h s.room (omega (arith, length-append s.front (text ++ left.text), length-append text left.text, ap length e))
@@ -108,7 +95,7 @@ module _ {old now : Option (List ℕ)} {first space : Option ℕ} {t : Status} {
   pub piece_cut : (new : Option (List ℕ)) (k : ℕ) → new ≡ append_known now (take k line) → WritesFront old new total.text
   piece_cut new k e = sent_part old now new first space line k (rest_of t after) total next_piece e
 
-nothing_more : (t : Status) (now : Option (List ℕ)) → (IsCut t → ⊥) → Answers t now now (rest_of t [])
+nothing_more : (t : Status) (now : Option (List ℕ)) → (IsCut t → ⊥) → Prints t now now (rest_of t [])
 nothing_more ReadFault now whole = absurd (whole tt)
 nothing_more WriteFault now whole = absurd (whole tt)
 nothing_more Memory now whole = absurd (whole tt)
@@ -118,15 +105,15 @@ nothing_more Usage now whole = (refl, append_nothing now)
 nothing_more Refused now whole = (refl, append_nothing now)
 
 -- the outcome of the lines of a script that are left
-abbrev pub left_of : Automata → Standing → ℕ → List ℕ → Outcome
+abbrev pub left_of : PlantModel → Standing → ℕ → List ℕ → Outcome
 left_of m x n rest = printed_from m x (script_lines m n (lines_of rest))
 
 -- the lines of two lists of reports
-trace_joined : (m : Automata) (before after : List TickReport) → reports_text m (before ++ after) ≡ reports_text m before ++ reports_text m after
+trace_joined : (m : PlantModel) (before after : List TickReport) → reports_text m (before ++ after) ≡ reports_text m before ++ reports_text m after
 trace_joined m before after = flat_map-append (report_line m) before after
 
 -- the reports of an event come before those of the later ones
-event_first : (m : Automata) (x : Standing) (e : Event) (r : Reading) → printed_from m x (with_event e r) ≡ with_text (reports_text m (reports_at m x e)) (printed_from m (after_event m x e) r)
+event_first : (m : PlantModel) (x : Standing) (e : Event) (r : Document) → printed_from m x (with_event e r) ≡ with_text (reports_text m (reports_at m x e)) (printed_from m (after_event m x e) r)
 unfolding printed_from
 event_first m x e r =
     let first : List ℕ = reports_text m (reports_at m x e) in
@@ -134,13 +121,13 @@ event_first m x e r =
     ap (λ (l : List ℕ). with_text l (ending m r.ending)) (trace_joined m (reports_at m x e) (reports_from m (after_event m x e) r.events))
     ∙ ap (λ (l : List ℕ). record { text = l; status = (ending m r.ending).status }) (append_assoc first rest (ending m r.ending).text)
 
-by_event : (m : Automata) (x y : Standing) (n : ℕ) (v : Result (Option Event) ℕ) (text : List ℕ) (r : Reading) → acted m x v ≡ Ok (y, text) → printed_from m x (after_event_line v m n r) ≡ with_text text (printed_from m y r)
+by_event : (m : PlantModel) (x y : Standing) (n : ℕ) (v : Result (Option Event) ℕ) (text : List ℕ) (r : Document) → acted m x v ≡ Ok (y, text) → printed_from m x (after_event_line v m n r) ≡ with_text text (printed_from m y r)
 by_event m x y n (Err code) text r e = absurd cc
 by_event m x y n (Ok None) text r e = ap (λ (p : Standing × List ℕ). with_text p.1 (printed_from m p.0 r)) (ok_is (x, []) (y, text) e)
 by_event m x y n (Ok (Some v)) text r e =
     event_first m x v r ∙ ap (λ (p : Standing × List ℕ). with_text p.1 (printed_from m p.0 r)) (ok_is (after_event m x v, reports_text m (reports_at m x v)) (y, text) e)
 
-pub next_line : (m : Automata) (x y : Standing) (n : ℕ) (rest line after text : List ℕ) → lines_of rest ≡ line ∷ lines_of after → line_acted m x line ≡ Ok (y, text) → left_of m x n rest ≡ with_text text (left_of m y (n + 1) after)
+next_line : (m : PlantModel) (x y : Standing) (n : ℕ) (rest line after text : List ℕ) → lines_of rest ≡ line ∷ lines_of after → line_acted m x line ≡ Ok (y, text) → left_of m x n rest ≡ with_text text (left_of m y (n + 1) after)
 unfolding script_lines
 next_line m x y n rest line after text e f =
     ap (λ ls. printed_from m x (script_lines m n ls)) e ∙ by_event m x y (n + 1) (event_line m line) text (script_lines m (n + 1) (lines_of after)) f
@@ -149,13 +136,13 @@ abbrev code_or : Option ℕ → ℕ
 code_or None = 0
 code_or (Some code) = code
 
-by_refusal : (m : Automata) (x : Standing) (n code : ℕ) (v : Result (Option Event) ℕ) (r : Reading) → refusal_code (acted m x v) ≡ Some code → printed_from m x (after_event_line v m n r) ≡ refusal m n (bare code)
+by_refusal : (m : PlantModel) (x : Standing) (n code : ℕ) (v : Result (Option Event) ℕ) (r : Document) → refusal_code (acted m x v) ≡ Some code → printed_from m x (after_event_line v m n r) ≡ refusal m n (bare code)
 unfolding printed_from
 by_refusal m x n code (Err other) r e = ap (λ (o : Option ℕ). refusal m n (bare (code_or o))) e
 by_refusal m x n code (Ok None) r e = absurd cc
 by_refusal m x n code (Ok (Some v)) r e = absurd cc
 
-pub refused_line : (m : Automata) (x : Standing) (n code : ℕ) (rest line after : List ℕ) → lines_of rest ≡ line ∷ lines_of after → refusal_code (line_acted m x line) ≡ Some code → left_of m x n rest ≡ refusal m (n + 1) (bare code)
+refused_line : (m : PlantModel) (x : Standing) (n code : ℕ) (rest line after : List ℕ) → lines_of rest ≡ line ∷ lines_of after → refusal_code (line_acted m x line) ≡ Some code → left_of m x n rest ≡ refusal m (n + 1) (bare code)
 unfolding script_lines
 refused_line m x n code rest line after e f =
     ap (λ ls. printed_from m x (script_lines m n ls)) e ∙ by_refusal m x (n + 1) code (event_line m line) (script_lines m (n + 1) (lines_of after)) f
@@ -164,7 +151,7 @@ refused_line m x n code rest line after e f =
 abbrev pub nothing_left : Outcome
 nothing_left = record { text = []; status = Ended }
 
-no_line : (m : Automata) (x : Standing) (n : ℕ) → left_of m x n [] ≡ nothing_left
+no_line : (m : PlantModel) (x : Standing) (n : ℕ) → left_of m x n [] ≡ nothing_left
 unfolding script_lines printed_from
 no_line m x n = refl
 
@@ -174,17 +161,17 @@ front_all old now new first space left total s w =
       front = s.front ++ w.front;
       rest = w.rest;
       parts = append_assoc s.front w.front w.rest ∙ ap (λ (l : List ℕ). s.front ++ l) w.parts ∙ ap (λ (o : Outcome). o.text) s.whole;
-      sent = w.sent ∙ ap (λ (o : Option (List ℕ)). append_known o w.front) s.sent ∙ append_twice old s.front w.front;
+      sent = w.sent ∙ ap (λ (o : Option (List ℕ)). append_known o w.front) s.sent ∙ append_known-append old s.front w.front;
     }
 
 whole_all : (t : Status) (old now new : Option (List ℕ)) (first space : Option ℕ) (left total : Outcome) → IsSending old now first space left total → (left.status ≡ t) × (new ≡ append_known now left.text) → (total.status ≡ t) × (new ≡ append_known old total.text)
 whole_all t old now new first space left total s h = (
   ap (λ (o : Outcome). o.status) (sym s.whole) ∙ h.0,
-  h.1 ∙ ap (λ (o : Option (List ℕ)). append_known o left.text) s.sent ∙ append_twice old s.front left.text ∙ ap (λ (o : Outcome). append_known old o.text) s.whole,
+  h.1 ∙ ap (λ (o : Option (List ℕ)). append_known o left.text) s.sent ∙ append_known-append old s.front left.text ∙ ap (λ (o : Outcome). append_known old o.text) s.whole,
 )
 
 -- what a call said of the rest holds of the whole
-pub answers_all : (s : Status) (old now new : Option (List ℕ)) (first space : Option ℕ) (left total : Outcome) → IsSending old now first space left total → Answers s now new left → Answers s old new total
+answers_all : (s : Status) (old now new : Option (List ℕ)) (first space : Option ℕ) (left total : Outcome) → IsSending old now first space left total → Prints s now new left → Prints s old new total
 answers_all ReadFault old now new first space left total s h = front_all old now new first space left total s h
 answers_all WriteFault old now new first space left total s h = front_all old now new first space left total s h
 answers_all Memory old now new first space left total s h = front_all old now new first space left total s h
@@ -194,26 +181,20 @@ answers_all Usage old now new first space left total s h = whole_all Usage old n
 answers_all Refused old now new first space left total s h = whole_all Refused old now new first space left total s h
 
 -- all lines were sent
-pub all_sent : {old now : Option (List ℕ)} {first space : Option ℕ} {t : Status} {rest : List ℕ} {total : Outcome} → IsSending old now first space (rest_of t rest) total → length rest ≡ 0 → (IsCut t → ⊥) → Answers t old now total
+pub all_sent : {old now : Option (List ℕ)} {first space : Option ℕ} {t : Status} {rest : List ℕ} {total : Outcome} → IsSending old now first space (rest_of t rest) total → length rest ≡ 0 → (IsCut t → ⊥) → Prints t old now total
 all_sent {old} {now} {first} {space} {t} {rest} {total} s e whole =
     answers_all t old now now first space (rest_of t []) total (subst (λ (l : List ℕ). IsSending old now first space (rest_of t l) total) (nil_from_length rest e) s) (nothing_more t now whole)
 
 -- ---- the loop's exits and its next turn, by the loop's own facts
 
 -- the loop's invariant, with n lines behind it and these bytes before it
-pub record IsPrinting (old now : Option (List ℕ)) (first space : Option ℕ) (m : Automata) (x : Standing) (n : ℕ) (rest : List ℕ) (total : Outcome) : Type 0 where
+pub record IsPrinting (old now : Option (List ℕ)) (first space : Option ℕ) (m : PlantModel) (x : Standing) (n : ℕ) (rest : List ℕ) (total : Outcome) : Type 0 where
   pub so_far : IsSending old now first space (left_of m x n rest) total
-
-pub starts : (old : Option (List ℕ)) (first : Option ℕ) (m : Automata) (x y : Standing) (n : ℕ) (rest : List ℕ) → x ≡ y → IsPrinting old old first first m x n rest (left_of m y n rest)
-starts old first m x y n rest e = subst (λ (z : Standing). IsPrinting old old first first m x n rest (left_of m z n rest)) e (record { so_far = sends_nothing old first (left_of m x n rest) })
 
 on_left : (old now : Option (List ℕ)) (first space : Option ℕ) (left other total : Outcome) → left ≡ other → IsSending old now first space left total → IsSending old now first space other total
 on_left old now first space left other total e s = subst (λ (o : Outcome). IsSending old now first space o total) e s
 
-module _ {m : Automata} {x : Standing} {n : ℕ} {rest : List ℕ} {old now : Option (List ℕ)} {first space : Option ℕ} {total : Outcome} (s : IsPrinting old now first space m x n rest total) where
-  pub printed_front : WritesFront old now total.text
-  printed_front = sent_so_far old now first space (left_of m x n rest) total s.so_far
-
+module _ {m : PlantModel} {x : Standing} {n : ℕ} {rest : List ℕ} {old now : Option (List ℕ)} {first space : Option ℕ} {total : Outcome} (s : IsPrinting old now first space m x n rest total) where
   module _ (y : Standing) (line after text : List ℕ) (e : lines_of rest ≡ line ∷ lines_of after) (f : line_acted m x line ≡ Ok (y, text)) where
     moved : IsSending old now first space (with_text text (left_of m y (n + 1) after)) total
     moved = on_left old now first space _ _ total (next_line m x y n rest line after text e f) s.so_far
@@ -231,7 +212,7 @@ module _ {m : Automata} {x : Standing} {n : ℕ} {rest : List ℕ} {old now : Op
     refused : IsSending old now first space (refusal m (n + 1) (bare code)) total
     refused = on_left old now first space _ _ total (refused_line m x n code rest line after e f) s.so_far
 
-    pub turn_refused : (t : Status) (new : Option (List ℕ)) → Answers t now new (refusal m (n + 1) (bare code)) → Answers t old new total
+    pub turn_refused : (t : Status) (new : Option (List ℕ)) → Prints t now new (refusal m (n + 1) (bare code)) → Prints t old new total
     turn_refused t new a = answers_all t old now new first space (refusal m (n + 1) (bare code)) total refused a
 
     pub refused_room : HasRoom first (length total.text) → HasRoom space (length (refusal m (n + 1) (bare code)).text)
@@ -241,7 +222,7 @@ module _ {m : Automata} {x : Standing} {n : ℕ} {rest : List ℕ} {old now : Op
     ended : IsSending old now first space nothing_left total
     ended = on_left old now first space _ _ total (ap (left_of m x n) (nil_from_length rest e) ∙ no_line m x n) s.so_far
 
-    pub end_answers : Answers Ended old now total
+    pub end_answers : Prints Ended old now total
     end_answers = answers_all Ended old now now first space nothing_left total ended (refl, append_nothing now)
 
 -- a refusal by its code

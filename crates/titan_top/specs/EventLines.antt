@@ -4,18 +4,18 @@ use Rattle.std.specs.List.{list_any}
 use Rattle.cca_base.specs.declared.cube.Pair.{Pair}
 use Rattle.cca_base.specs.declared.events.Event.{Event}
 use Rattle.cca_base.specs.declared.events.Event.TheVariants as event
-use Rattle.cca_base.specs.Automata.{Automata}
-use Rattle.titan_top.specs.declared.stops.TheConstants.{NAME_UNKNOWN, UNSUPPORTED}
+use Rattle.cca_base.specs.PlantModel.{PlantModel}
+use Rattle.cca_base.specs.declared.codes.TheConstants.{NAME_UNKNOWN, UNSUPPORTED}
 use Rattle.titan_top.specs.Items.{Item, Goal, Tick, Unbuilt, NamedPair, ◌>>=◌}
 use Rattle.titan_top.specs.LineForms.{by_line, if_short}
 use Rattle.titan_top.specs.Lookup.{component_number, mode_number}
 
 -- the pair of these words
-abbrev pub pair_of : Automata → NamedPair → Option Pair
+abbrev pub pair_of : PlantModel → NamedPair → Option Pair
 pair_of m p = component_number m p.name >>= λ c. mode_number m c p.value >>= λ mode. Some (record { item = c; value = mode })
 
 -- the pairs of these words, if each of them names one
-abbrev pub pairs_of : Automata → List NamedPair → Option (List Pair)
+abbrev pub pairs_of : PlantModel → List NamedPair → Option (List Pair)
 pairs_of m [] = Some []
 pairs_of m (p ∷ rest) = pair_of m p >>= λ q. pairs_of m rest >>= λ qs. Some (q ∷ qs)
 
@@ -34,11 +34,11 @@ goal_from None = Err NAME_UNKNOWN
 goal_from (Some pairs) = if no_component_twice pairs then Ok (Some (event.Goal pairs)) else Err UNSUPPORTED
 
 -- what an item says of a script
-abbrev pub event_item : Automata → Item → Result (Option Event) ℕ
+abbrev pub event_item : PlantModel → Item → Result (Option Event) ℕ
 event_item m (Goal pairs) = goal_from (pairs_of m pairs)
 event_item m Tick = Ok (Some event.Tick)
 event_item m (Unbuilt first rest) = Err UNSUPPORTED
 
 -- what a line says of a script: an event, or none where it has no tokens; or the code of its refusal
-unfoldable pub event_line : Automata → List ℕ → Result (Option Event) ℕ
+unfoldable pub event_line : PlantModel → List ℕ → Result (Option Event) ℕ
 event_line m l = if_short l (by_line None (event_item m) l)

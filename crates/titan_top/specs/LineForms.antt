@@ -3,7 +3,7 @@ use Rattle.std.specs.Prelude.{ℕ, List, [], ◌∷◌, length, map, Option, Som
 use Rattle.text_base.specs.Tokens.{Tok, tokens_of}
 use Rattle.text_base.specs.Lexemes.{lexeme}
 use Rattle.titan_top.specs.declared.line.TheConstants.{MAX_LINE}
-use Rattle.titan_top.specs.declared.stops.TheConstants.{MALFORMED, UNSUPPORTED}
+use Rattle.cca_base.specs.declared.codes.TheConstants.{MALFORMED, UNSUPPORTED}
 use Rattle.titan_top.specs.Items.{Item, item_of}
 
 -- a line of no form is malformed

@@ -1,20 +1,22 @@
+//! A model and its script, run or shown.
+
 ghost use Rattle.std.specs.Prelude.{◌≡◌, ◌≢◌, ◌≤◌, ◌+◌, ◌<◌, ◌^◌, true, length};
 ghost use Rattle.titan_wire.specs.Wire.{Rose, HasRoom};
 ghost use Rattle.cca_base.specs.Model.{IsComplete};
 ghost use Rattle.titan_top.specs.Lines.{lines_of};
 ghost use Rattle.titan_top.specs.ModelOutcomes.{IsModelOutcome};
-ghost use Rattle.titan_top.specs.Reading.{Scripted};
-ghost use Rattle.titan_top.specs.Text.{IsOutcomeByEnd, shown_model};
-ghost use Rattle.titan_top.specs.Wire.{Answers, AnswersAs, IsRoomFor, SentOrKnown};
+ghost use Rattle.titan_top.specs.Document.{Scripted};
+ghost use Rattle.titan_top.specs.Output.{IsOutcomeByEnd, shown_model};
+ghost use Rattle.titan_top.specs.Wire.{Prints, PrintsAs, IsRoomFor, SentOrKnown};
 
 use crate::model::{Halt, Script, read_model};
 use crate::output::{refuse, refuse_code, send_lines};
 use crate::plain::is_plain;
 use crate::script::run_script;
 use crate::status::Status;
-use crate::stops::UNSUPPORTED;
 use crate::words::Form;
 use acceptance::{NotAccepted, accept};
+use cca_base::codes::UNSUPPORTED;
 use cca_base::{Compiled, Model};
 use model_syntax::ModelReader;
 use std::alloc::Global;
@@ -26,7 +28,7 @@ fn run<K: Sink>(alloc: Global, sink: &mut K, compiled: &Compiled, script: Script
     requires few { script.lines + length script.rest.now < 2 ^ 64 }
     requires short { script.short ≡ true }
     requires room { IsRoomFor (K.space sink.old) (IsOutcomeByEnd Form.Run (Scripted compiled.now.model script.lines script.short (lines_of script.rest.now))) }
-    ensures sent { AnswersAs result (K.written sink.old) (K.written sink.new) (IsOutcomeByEnd Form.Run (Scripted compiled.now.model script.entry.lines script.entry.short (lines_of script.entry.rest.now))) }
+    ensures sent { PrintsAs result (K.written sink.old) (K.written sink.new) (IsOutcomeByEnd Form.Run (Scripted compiled.now.model script.entry.lines script.entry.short (lines_of script.entry.rest.now))) }
     ensures known { SentOrKnown result (K.written sink.old) (K.written sink.new) (IsOutcomeByEnd Form.Run (Scripted compiled.now.model script.entry.lines script.entry.short (lines_of script.entry.rest.now))) }
     ensures later { K.faults sink.old ≤ K.faults sink.new }
     ensures fault { result ≡ Status.WriteFault → Rose (K.faults sink.old) (K.faults sink.new) }
@@ -45,7 +47,7 @@ fn run<K: Sink>(alloc: Global, sink: &mut K, compiled: &Compiled, script: Script
 /// Prints what is shown of an accepted model.
 fn show<K: Sink>(alloc: Global, sink: &mut K, compiled: &Compiled) -> Status
     requires { HasRoom (K.space sink.old) (length (shown_model compiled.now).text) }
-    ensures sent { Answers result (K.written sink.old) (K.written sink.new) (shown_model compiled.now) }
+    ensures sent { Prints result (K.written sink.old) (K.written sink.new) (shown_model compiled.now) }
     ensures later { K.faults sink.old ≤ K.faults sink.new }
     ensures fault { result ≡ Status.WriteFault → Rose (K.faults sink.old) (K.faults sink.new) }
     ensures not_read { result ≢ Status.ReadFault }
@@ -68,7 +70,7 @@ fn print_accepted<K: Sink>(
 ) -> Status
     requires few { script.lines + length script.rest.now < 2 ^ 64 }
     requires room { IsRoomFor (K.space sink.old) (IsOutcomeByEnd form (Scripted compiled.now.model script.lines script.short (lines_of script.rest.now))) }
-    ensures sent { AnswersAs result (K.written sink.old) (K.written sink.new) (IsOutcomeByEnd form (Scripted compiled.now.model script.entry.lines script.entry.short (lines_of script.entry.rest.now))) }
+    ensures sent { PrintsAs result (K.written sink.old) (K.written sink.new) (IsOutcomeByEnd form (Scripted compiled.now.model script.entry.lines script.entry.short (lines_of script.entry.rest.now))) }
     ensures known { SentOrKnown result (K.written sink.old) (K.written sink.new) (IsOutcomeByEnd form (Scripted compiled.now.model script.entry.lines script.entry.short (lines_of script.entry.rest.now))) }
     ensures later { K.faults sink.old ≤ K.faults sink.new }
     ensures fault { result ≡ Status.WriteFault → Rose (K.faults sink.old) (K.faults sink.new) }
@@ -97,7 +99,7 @@ fn print_scripted<K: Sink>(
     requires complete { IsComplete model }
     requires few { script.lines + length script.rest.now < 2 ^ 64 }
     requires room { IsRoomFor (K.space sink.old) (IsOutcomeByEnd form (Scripted model script.lines script.short (lines_of script.rest.now))) }
-    ensures sent { AnswersAs result (K.written sink.old) (K.written sink.new) (IsOutcomeByEnd form (Scripted model script.entry.lines script.entry.short (lines_of script.entry.rest.now))) }
+    ensures sent { PrintsAs result (K.written sink.old) (K.written sink.new) (IsOutcomeByEnd form (Scripted model script.entry.lines script.entry.short (lines_of script.entry.rest.now))) }
     ensures known { SentOrKnown result (K.written sink.old) (K.written sink.new) (IsOutcomeByEnd form (Scripted model script.entry.lines script.entry.short (lines_of script.entry.rest.now))) }
     ensures later { K.faults sink.old ≤ K.faults sink.new }
     ensures fault { result ≡ Status.WriteFault → Rose (K.faults sink.old) (K.faults sink.new) }
@@ -117,7 +119,7 @@ fn print_scripted<K: Sink>(
 /// Prints all that the input leads to, for a form of words.
 pub fn print_all<K: Sink>(alloc: Global, sink: &mut K, form: Form, input: &[u8]) -> Status
     requires { IsRoomFor (K.space sink.old) (IsModelOutcome form (lines_of input.now)) }
-    ensures sent { AnswersAs result (K.written sink.old) (K.written sink.new) (IsModelOutcome form (lines_of input.now)) }
+    ensures sent { PrintsAs result (K.written sink.old) (K.written sink.new) (IsModelOutcome form (lines_of input.now)) }
     ensures known { SentOrKnown result (K.written sink.old) (K.written sink.new) (IsModelOutcome form (lines_of input.now)) }
     ensures later { K.faults sink.old ≤ K.faults sink.new }
     ensures fault { result ≡ Status.WriteFault → Rose (K.faults sink.old) (K.faults sink.new) }

@@ -1,15 +1,17 @@
+//! What a line of a script says.
+
 ghost use Rattle.std.specs.Prelude.{◌≡◌, map, IfOk, IfSome, All, None};
 ghost use Rattle.std.specs.Option.{option_map};
 ghost use Rattle.cca_base.specs.Model.{HasMode};
 ghost use Rattle.titan_top.specs.Items.{shown_item, shown_pair};
 ghost use Rattle.titan_top.specs.EventLines.{pair_of, pairs_of, is_named_again, no_component_twice, goal_from, event_item, event_line};
 ghost use Rattle.titan_top.specs.LineForms.{by_line};
-ghost use Rattle.titan_top.specs.Stops.{AnswersAs};
+ghost use Rattle.titan_top.specs.Results.{AnswersAs};
 
 use crate::item::{Item, NamedPair, item_of};
 use crate::line::{MAX_LINE, line_tokens};
 use crate::names::{component_number, mode_number};
-use crate::stops::{MALFORMED, NAME_UNKNOWN, UNSUPPORTED, refused};
+use cca_base::codes::{MALFORMED, NAME_UNKNOWN, UNSUPPORTED};
 use cca_base::{Event, List, Model, Pair, Stop};
 use std::alloc::{AllocError, Global};
 
@@ -65,10 +67,10 @@ fn goal_item(alloc: Global, model: &Model, named: &[NamedPair]) -> Result<Option
     ensures { AnswersAs (λ event. event) result (goal_from (pairs_of model.now (map shown_pair named.now))) }
 {
     let Some(pairs) = pairs_of(alloc, model, named)? else {
-        return Err(refused(NAME_UNKNOWN));
+        return Err(Stop::refused(NAME_UNKNOWN));
     };
     if !no_component_twice(pairs.as_slice()) {
-        return Err(refused(UNSUPPORTED));
+        return Err(Stop::refused(UNSUPPORTED));
     }
     Ok(Some(Event::Goal(pairs)))
 }
@@ -80,7 +82,7 @@ fn event_item(alloc: Global, model: &Model, item: &Item) -> Result<Option<Event>
     match item {
         Item::Goal(pairs) => goal_item(alloc, model, pairs),
         Item::Tick => Ok(Some(Event::Tick)),
-        Item::Unbuilt { .. } => Err(refused(UNSUPPORTED)),
+        Item::Unbuilt { .. } => Err(Stop::refused(UNSUPPORTED)),
     }
 }
 
@@ -94,7 +96,7 @@ fn taken_line(alloc: Global, model: &Model, line: &[u8]) -> Result<Option<Event>
     }
     match item_of(alloc, &tokens)? {
         Some(item) => event_item(alloc, model, &item),
-        None => Err(refused(MALFORMED)),
+        None => Err(Stop::refused(MALFORMED)),
     }
 }
 
@@ -105,7 +107,7 @@ pub fn read_event(alloc: Global, model: &Model, line: &[u8]) -> Result<Option<Ev
 {
     let event = taken_line(alloc, model, line)?;
     if line.len() > MAX_LINE {
-        return Err(refused(UNSUPPORTED));
+        return Err(Stop::refused(UNSUPPORTED));
     }
     Ok(event)
 }

@@ -1,3 +1,5 @@
+//! The executive of models without variables.
+
 ghost use Rattle.std.specs.Prelude.{◌≡◌, ◌==◌, ◌+◌, ◌<◌, ◌≤◌, ◌^◌, find, IfOk, OnOk, option_to_list};
 ghost use Rattle.cca_base.specs.Model.{HasMode};
 ghost use Rattle.plain_laws.specs.Executive.{begin, in_order, reply_at, tick_report, after_event, reports_at};
@@ -35,10 +37,10 @@ pub fn begin(alloc: Global, model: &Model) -> Result<Executive, AllocError>
 }
 
 /// The pair of the component.
-fn pair_for(c: usize, pairs: &[Pair]) -> Option<Pair>
-    ensures { result ≡ find (λ p. p.item == c) pairs.now }
+fn pair_for(component: usize, pairs: &[Pair]) -> Option<Pair>
+    ensures { result ≡ find (λ p. p.item == component) pairs.now }
 {
-    pairs.iter().copied().find(|p| p.item as usize == c)
+    pairs.iter().copied().find(|p| p.item as usize == component)
 }
 
 /// The pairs of the first components, in the order of components.

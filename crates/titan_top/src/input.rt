@@ -1,3 +1,5 @@
+//! The whole input, read before it is looked at.
+
 ghost use Rattle.std.specs.Prelude.{◌≡◌, ◌≤◌, length, IfOk, IsErrOf};
 ghost use Rattle.std.specs.Io.KnownBytes.{prepend_known, IsAtEnd};
 ghost use Rattle.titan_wire.specs.Wire.{Rose};

@@ -1,3 +1,5 @@
+//! Forms of lines of a script.
+
 ghost use Rattle.std.specs.Prelude.{◌≡◌, ◌∷◌, List, Some, None, codes, map, IfOk};
 ghost use Rattle.std.specs.Option.{option_map};
 ghost use Rattle.text_base.specs.Lexemes.{lexeme_of};

@@ -1,7 +1,9 @@
+//! An input has one outcome, and what is shown is read as that model.
+
 ghost use Rattle.titan_top.specs.Laws.{OutcomesAreOne, PrintedTextsReadBack};
 
 /// For words and an input there is one outcome at most: one text, and one status without faults.
-#[tactic(auto, using(crate::proofs::TopLemmas::outcomes_are_one))]
+#[tactic(auto, using(crate::proofs::StatusLaws::outcomes_are_one))]
 pub fn outcomes_are_one()
     ensures { OutcomesAreOne }
 {}

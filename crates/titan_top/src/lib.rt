@@ -17,7 +17,6 @@ mod plain;
 mod planner;
 mod script;
 mod status;
-mod stops;
 mod top;
 mod words;
 

@@ -1,12 +1,14 @@
+//! The lines of a model read, up to its script.
+
 ghost use Rattle.std.specs.Prelude.{◌≡◌, ◌≤◌, ◌+◌, length, IfOk, IfErr};
-ghost use Rattle.titan_top.specs.Halts.{HaltsAs, TakesLine, halted_at};
+ghost use Rattle.titan_top.specs.ModelRefusals.{HaltsAs, TakesLine, halted_at};
 ghost use Rattle.titan_top.specs.Lines.{lines_of};
-ghost use Rattle.titan_top.specs.Reading.{ReadsModel, Scripted};
+ghost use Rattle.titan_top.specs.Document.{ReadsModel, Scripted};
 
 use crate::line::MAX_LINE;
 use crate::lines::split_line;
-use crate::stops::{ENDS_EARLY, UNSUPPORTED, refused};
 use cca_base::Stop;
+use cca_base::codes::{ENDS_EARLY, UNSUPPORTED};
 use model_syntax::{LineEnd, ModelReader};
 
 /// Why a model was not read.
@@ -47,7 +49,7 @@ fn read_line(reader: &mut ModelReader, line: &[u8]) -> Result<LineEnd, Stop>
 {
     match reader.line(line)? {
         LineEnd::Script => Ok(LineEnd::Script),
-        LineEnd::Going if line.len() > MAX_LINE => Err(refused(UNSUPPORTED)),
+        LineEnd::Going if line.len() > MAX_LINE => Err(Stop::refused(UNSUPPORTED)),
         LineEnd::Going => Ok(LineEnd::Going),
     }
 }

@@ -1,6 +1,8 @@
+//! Names in lines of a script.
+
 ghost use Rattle.std.specs.Prelude.{◌≡◌, ◌<◌, ◌≤◌, length, IfSome};
 ghost use Rattle.cca_base.specs.Model.{HasMode};
-ghost use Rattle.model_syntax.specs.Lookups.{place_of};
+ghost use Rattle.formula_syntax.specs.Lookups.{place_of};
 ghost use Rattle.titan_top.specs.Lookup.{component_number, mode_number};
 
 use cca_base::{MAX_COMPONENTS, Model, Name};
@@ -33,13 +35,13 @@ pub fn component_number(model: &Model, name: &[u8]) -> Option<u16>
 }
 
 /// The number of the mode of this name.
-#[tactic(auto, using(crate::proofs::NameLemmas::mode_found, crate::proofs::NameLemmas::mode_small))]
-pub fn mode_number(model: &Model, c: u16, text: &[u8]) -> Option<u8>
-    requires { c < length model.now.components }
-    ensures number { result ≡ mode_number model.now c text.now }
-    ensures mode { IfSome result (HasMode model.now c) }
+#[tactic(auto, using(crate::proofs::FoundNames::mode_found, crate::proofs::FoundNames::mode_small))]
+pub fn mode_number(model: &Model, number: u16, text: &[u8]) -> Option<u8>
+    requires { number < length model.now.components }
+    ensures number { result ≡ mode_number model.now number text.now }
+    ensures mode { IfSome result (HasMode model.now number) }
 {
-    let component = model.components().get(c as usize);
+    let component = model.components().get(number as usize);
     let mode = place_of(component.modes.as_slice(), text)?;
     Some(mode as u8)
 }

@@ -1,12 +1,13 @@
+//! What is printed, piece by piece.
+
 ghost use Rattle.std.specs.Prelude.{◌≡◌, ◌≢◌, ◌⊎◌, ◌≤◌, length};
 ghost use Rattle.titan_wire.specs.Wire.{Rose, HasRoom};
-ghost use Rattle.titan_top.specs.Verdicts.{bare};
-ghost use Rattle.titan_top.specs.Text.{refusal as refusal_outcome, IsCut};
-ghost use Rattle.titan_top.specs.Wire.{Answers};
+ghost use Rattle.cca_base.specs.Refusals.{bare};
+ghost use Rattle.titan_top.specs.Output.{refusal as refusal_outcome, IsCut};
+ghost use Rattle.titan_top.specs.Wire.{Prints};
 
 use crate::lines::split_whole_line;
 use crate::status::Status;
-use crate::stops::bare;
 use cca_base::{Model, Refusal};
 use std::alloc::Global;
 use titan_wire::{PutEnd, Sink, put_all};
@@ -16,7 +17,7 @@ use trace_text::refusal_line;
 pub fn send<K: Sink>(sink: &mut K, text: &[u8], status: Status) -> Status
     requires room { HasRoom (K.space sink.old) (length text.now) }
     requires whole { IsCut status → ⊥ }
-    ensures sent { Answers result (K.written sink.old) (K.written sink.new) (record { text = text.now; status = status }) }
+    ensures sent { Prints result (K.written sink.old) (K.written sink.new) (record { text = text.now; status = status }) }
     ensures later { K.faults sink.old ≤ K.faults sink.new }
     ensures fault { result ≡ Status.WriteFault → Rose (K.faults sink.old) (K.faults sink.new) }
     ensures only { (result ≡ status) ⊎ (result ≡ Status.WriteFault) }
@@ -31,7 +32,7 @@ pub fn send<K: Sink>(sink: &mut K, text: &[u8], status: Status) -> Status
 pub fn send_lines<K: Sink>(sink: &mut K, text: &[u8], status: Status) -> Status
     requires room { HasRoom (K.space sink.old) (length text.now) }
     requires whole { IsCut status → ⊥ }
-    ensures sent { Answers result (K.written sink.old) (K.written sink.new) (record { text = text.now; status = status }) }
+    ensures sent { Prints result (K.written sink.old) (K.written sink.new) (record { text = text.now; status = status }) }
     ensures later { K.faults sink.old ≤ K.faults sink.new }
     ensures fault { result ≡ Status.WriteFault → Rose (K.faults sink.old) (K.faults sink.new) }
     ensures only { (result ≡ status) ⊎ (result ≡ Status.WriteFault) }
@@ -56,7 +57,7 @@ pub fn refuse<K: Sink>(
     refusal: &Refusal,
 ) -> Status
     requires { HasRoom (K.space sink.old) (length (refusal_outcome model.now line refusal.now).text) }
-    ensures sent { Answers result (K.written sink.old) (K.written sink.new) (refusal_outcome model.now line refusal.now) }
+    ensures sent { Prints result (K.written sink.old) (K.written sink.new) (refusal_outcome model.now line refusal.now) }
     ensures later { K.faults sink.old ≤ K.faults sink.new }
     ensures fault { result ≡ Status.WriteFault → Rose (K.faults sink.old) (K.faults sink.new) }
     ensures not_read { result ≢ Status.ReadFault }
@@ -79,7 +80,7 @@ pub fn refuse_code<K: Sink>(
     code: u8,
 ) -> Status
     requires { HasRoom (K.space sink.old) (length (refusal_outcome model.now line (bare code)).text) }
-    ensures sent { Answers result (K.written sink.old) (K.written sink.new) (refusal_outcome model.now line (bare code)) }
+    ensures sent { Prints result (K.written sink.old) (K.written sink.new) (refusal_outcome model.now line (bare code)) }
     ensures later { K.faults sink.old ≤ K.faults sink.new }
     ensures fault { result ≡ Status.WriteFault → Rose (K.faults sink.old) (K.faults sink.new) }
     ensures not_read { result ≢ Status.ReadFault }
@@ -87,5 +88,5 @@ pub fn refuse_code<K: Sink>(
     ensures not_rejected { result ≢ Status.Rejected }
     ensures not_ended { result ≢ Status.Ended }
 {
-    refuse(alloc, sink, model, line, &bare(code))
+    refuse(alloc, sink, model, line, &Refusal::bare(code))
 }

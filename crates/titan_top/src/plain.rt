@@ -1,3 +1,5 @@
+//! Models without variables, repairs and failures.
+
 ghost use Rattle.std.specs.Prelude.{◌≡◌, ◌≢◌, MatchBool};
 ghost use Rattle.cca_base.specs.declared.formula.Formula.TheVariants.{True};
 ghost use Rattle.plain_laws.specs.Plain.{IsPlain};

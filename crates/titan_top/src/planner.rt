@@ -1,3 +1,5 @@
+//! The planner of models without variables: breadth-first search over one component's moves.
+
 ghost use Rattle.std.specs.Prelude.{◌≡◌, ◌<◌, ◌||◌, ◌&&◌, ℕ, not, length, slice_index, find, All, Option};
 ghost use Rattle.std.specs.Option.{option_copied, option_map};
 ghost use Rattle.std.specs.List.{list_any};
@@ -10,13 +12,13 @@ ghost use Rattle.plain_laws.specs.Planner.{leaves, leads_within, nearer_move, mo
 use cca_base::{Goal, MAX_CHOICES, Model, Move, Pair, Reply, State, ValueSet};
 
 /// The modes from which the component is in the set, or a move leads into it.
-fn wider(moves: &[Move], c: u16, near: ValueSet) -> ValueSet
+fn wider(moves: &[Move], component: u16, near: ValueSet) -> ValueSet
     requires { All (λ x. x.source < MAX_CHOICES) moves.now }
-    ensures { (a : ℕ) → has result a ≡ (has near a || list_any (λ x. leaves c a x && has near x.target) moves.now) }
+    ensures { (a : ℕ) → has result a ≡ (has near a || list_any (λ x. leaves component a x && has near x.target) moves.now) }
 {
     let mut wide = near;
     for x in moves {
-        if x.component == c && near.has(x.target) {
+        if x.component == component && near.has(x.target) {
             wide = wide.with(x.source);
         }
     }
@@ -24,51 +26,51 @@ fn wider(moves: &[Move], c: u16, near: ValueSet) -> ValueSet
 }
 
 /// The command of the first move from the mode into the set.
-fn command_into(moves: &[Move], c: u16, from: u8, near: ValueSet) -> Option<u16>
-    ensures { result ≡ option_map (λ x. x.command) (find (λ x. leaves c from x && has near x.target) moves.now) }
+fn command_into(moves: &[Move], component: u16, from: u8, near: ValueSet) -> Option<u16>
+    ensures { result ≡ option_map (λ x. x.command) (find (λ x. leaves component from x && has near x.target) moves.now) }
 {
     moves
         .iter()
-        .find(|x| x.component == c && x.source == from && near.has(x.target))
+        .find(|x| x.component == component && x.source == from && near.has(x.target))
         .map(|x| x.command)
 }
 
 /// The command that brings the component nearer to the mode.
-#[tactic(auto, using(crate::proofs::PlannerLemmas::mode_is_small, crate::proofs::PlannerLemmas::sources_are_small))]
-fn command_toward(model: &Model, c: u16, from: u8, to: u8) -> Option<u16>
-    requires { HasMode model.now c to }
-    ensures { result ≡ option_map (λ x. x.command) (move_toward model.now.moves c from to) }
+#[tactic(auto, using(cca_base::proofs::StateLaws::mode_is_small, cca_base::proofs::StateLaws::sources_are_small))]
+fn command_toward(model: &Model, component: u16, from: u8, to: u8) -> Option<u16>
+    requires { HasMode model.now component to }
+    ensures { result ≡ option_map (λ x. x.command) (move_toward model.now.moves component from to) }
 {
     let moves = model.moves().as_slice();
     let mut near = ValueSet::empty().with(to);
     for _ in 0..MAX_CHOICES {
-        let command = command_into(moves, c, from, near);
+        let command = command_into(moves, component, from, near);
         if command.is_some() {
             return command;
         }
-        near = wider(moves, c, near);
+        near = wider(moves, component, near);
     }
     None
 }
 
 /// Whether some moves lead from the one mode to the other.
-fn leads(model: &Model, c: u16, from: u8, to: u8) -> bool
-    requires { HasMode model.now c to }
-    ensures { result ≡ leads model.now.moves c from to }
+fn leads(model: &Model, component: u16, from: u8, to: u8) -> bool
+    requires { HasMode model.now component to }
+    ensures { result ≡ leads model.now.moves component from to }
 {
-    from == to || command_toward(model, c, from, to).is_some()
+    from == to || command_toward(model, component, from, to).is_some()
 }
 
 /// The mode in which the component stands.
-fn mode_of(state: &State, c: u16) -> u8
-    requires { c < length state.now.modes }
-    ensures { result ≡ slice_index state.now.modes c }
+fn mode_of(state: &State, component: u16) -> u8
+    requires { component < length state.now.modes }
+    ensures { result ≡ slice_index state.now.modes component }
 {
-    *state.modes.get(c as usize)
+    *state.modes.get(component as usize)
 }
 
 /// Whether the pair can be reached from the state so that there is a way back.
-#[tactic(auto, using(crate::proofs::PlannerLemmas::mode_in_state))]
+#[tactic(auto, using(cca_base::proofs::StateLaws::mode_in_state))]
 fn is_reached(model: &Model, state: &State, pair: &Pair) -> bool
     requires state { IsState model.now state.now.modes }
     requires pair { HasMode model.now pair.now.item pair.now.value }
@@ -112,7 +114,7 @@ fn first_missing(state: &State, goal: &Goal) -> Option<Pair>
 }
 
 /// The reply to a goal, whose pairs come in the order of components.
-#[tactic(auto, using(crate::proofs::PlannerLemmas::pairs_in_state))]
+#[tactic(auto, using(crate::proofs::PlainPlanner::pairs_in_state))]
 pub fn reply_to(model: &Model, state: &State, goal: &Goal) -> Reply
     requires state { IsState model.now state.now.modes }
     requires goal { All (λ p. HasMode model.now p.item p.value) goal.now.pairs }
@@ -140,7 +142,7 @@ fn sent_move<'a>(moves: &'a [Move], state: &State, command: u16) -> Option<&'a M
 }
 
 /// Moves the component of the reply's command to the target of its move.
-#[tactic(auto, using(crate::proofs::PlannerLemmas::movers_in_state))]
+#[tactic(auto, using(crate::proofs::PlainPlanner::movers_in_state))]
 pub fn obey(model: &Model, state: &mut State, reply: Reply)
     requires { IsState model.now state.old.modes }
     ensures next { state.new.modes ≡ after_reply model.now.moves state.old.modes reply }

@@ -1,20 +1,21 @@
+//! A script run line by line.
+
 ghost use Rattle.std.specs.Prelude.{◌≡◌, ◌≢◌, ◌≤◌, ◌+◌, ◌<◌, ◌^◌, length, OnOk};
 ghost use Rattle.titan_wire.specs.Wire.{Rose, HasRoom};
 ghost use Rattle.plain_laws.specs.Executive.{begin};
 ghost use Rattle.plain_laws.specs.Plain.{IsPlain};
 ghost use Rattle.titan_top.specs.Lines.{lines_of};
-ghost use Rattle.titan_top.specs.Reading.{script_lines};
+ghost use Rattle.titan_top.specs.Document.{script_lines};
 ghost use Rattle.titan_top.specs.Standing.{standing, IsStanding, line_acted};
-ghost use Rattle.titan_top.specs.Stops.{AnswersAs};
-ghost use Rattle.titan_top.specs.Text.{printed_from};
-ghost use Rattle.titan_top.specs.Wire.{Answers};
+ghost use Rattle.titan_top.specs.Results.{AnswersAs};
+ghost use Rattle.titan_top.specs.Output.{printed_from};
+ghost use Rattle.titan_top.specs.Wire.{Prints};
 
 use crate::events::read_event;
 use crate::executive::{Executive, begin, event};
 use crate::lines::split_line;
 use crate::output::refuse_code;
 use crate::status::Status;
-use crate::stops::stop_code;
 use cca_base::{List, Model, Stop};
 use std::alloc::Global;
 use titan_wire::{PutEnd, Sink, put_all};
@@ -57,7 +58,7 @@ pub fn run_script<K: Sink>(
     requires plain { IsPlain model.now }
     requires few { before + length script.now < 2 ^ 64 }
     requires room { HasRoom (K.space sink.old) (length (printed_from model.now (begin model.now) (script_lines model.now before (lines_of script.now))).text) }
-    ensures sent { Answers result (K.written sink.old) (K.written sink.new) (printed_from model.now (begin model.now) (script_lines model.now before (lines_of script.now))) }
+    ensures sent { Prints result (K.written sink.old) (K.written sink.new) (printed_from model.now (begin model.now) (script_lines model.now before (lines_of script.now))) }
     ensures later { K.faults sink.old ≤ K.faults sink.new }
     ensures fault { result ≡ Status.WriteFault → Rose (K.faults sink.old) (K.faults sink.new) }
     ensures not_read { result ≢ Status.ReadFault }
@@ -77,7 +78,7 @@ pub fn run_script<K: Sink>(
         let text = match act(alloc, model, &mut executive, line) {
             Ok(text) => text,
             Err(stop) => {
-                let Some(code) = stop_code(&stop) else {
+                let Some(code) = stop.code() else {
                     return Status::Memory;
                 };
                 return refuse_code(alloc, sink, model, lines, code);

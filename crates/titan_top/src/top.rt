@@ -1,28 +1,30 @@
+//! The one call that the program makes.
+
 ghost use Rattle.std.specs.Prelude.{◌≡◌, ◌≢◌, ◌⊎◌, ◌≤◌, ℕ, IfSome, Some, List, length};
 ghost use Rattle.cca_base.specs.Model.{empty_model};
-ghost use Rattle.titan_top.specs.declared.stops.TheConstants.{UNSUPPORTED};
+ghost use Rattle.cca_base.specs.declared.codes.TheConstants.{UNSUPPORTED};
 ghost use Rattle.std.specs.Io.KnownBytes.{IsAtEnd};
 ghost use Rattle.titan_wire.specs.Wire.{Rose, HasRoom};
-ghost use Rattle.titan_top.specs.Answered.{IsTraceOf};
-ghost use Rattle.titan_top.specs.Verdicts.{bare};
-ghost use Rattle.titan_top.specs.Text.{Outcome, refusal, IsOutcomeFor, IsOutcome, NothingRefused, SomeRefused, usage, AreNoForm};
-ghost use Rattle.titan_top.specs.Wire.{HasRoomFor, Answers, AnswersAs, SentOrKnown};
+ghost use Rattle.titan_top.specs.Headline.{IsTraceOf};
+ghost use Rattle.cca_base.specs.Refusals.{bare};
+ghost use Rattle.titan_top.specs.Output.{Outcome, refusal, IsOutcomeFor, IsOutcome, NothingRefused, SomeRefused, usage, AreNoForm};
+ghost use Rattle.titan_top.specs.Wire.{HasRoomFor, Prints, PrintsAs, SentOrKnown};
 ghost use Rattle.titan_top.specs.Words.{form_of, texts};
 
 use crate::document::print_all;
 use crate::input::{MAX_INPUT, ReadStop, read_whole};
 use crate::output::{refuse_code, send};
 use crate::status::Status;
-use crate::stops::UNSUPPORTED;
 use crate::words::{Form, form_of};
 use cca_base::Model;
+use cca_base::codes::UNSUPPORTED;
 use std::alloc::Global;
 use titan_wire::{Sink, Source};
 
 /// Ends the program with the refusal of an input that is too long.
 fn refuse_long<K: Sink>(alloc: Global, sink: &mut K) -> Status
     requires { HasRoom (K.space sink.old) (length (refusal empty_model 0 (bare UNSUPPORTED)).text) }
-    ensures sent { Answers result (K.written sink.old) (K.written sink.new) (refusal empty_model 0 (bare UNSUPPORTED)) }
+    ensures sent { Prints result (K.written sink.old) (K.written sink.new) (refusal empty_model 0 (bare UNSUPPORTED)) }
     ensures later { K.faults sink.old ≤ K.faults sink.new }
     ensures fault { result ≡ Status.WriteFault → Rose (K.faults sink.old) (K.faults sink.new) }
     ensures not_read { result ≢ Status.ReadFault }
@@ -37,11 +39,11 @@ fn refuse_long<K: Sink>(alloc: Global, sink: &mut K) -> Status
 /// Reads an input, and prints all that it leads to for a form of words.
 fn document<S: Source, K: Sink>(alloc: Global, form: Form, source: &mut S, sink: &mut K) -> Status
     requires { HasRoomFor (K.space sink.old) (S.left source.old) (IsOutcomeFor form) }
-    ensures text { IfSome (S.left source.old) (λ input. AnswersAs result (K.written sink.old) (K.written sink.new) (IsOutcomeFor form input)) }
+    ensures text { IfSome (S.left source.old) (λ input. PrintsAs result (K.written sink.old) (K.written sink.new) (IsOutcomeFor form input)) }
     ensures known { IfSome (S.left source.old) (λ input. SentOrKnown result (K.written sink.old) (K.written sink.new) (IsOutcomeFor form input)) }
     ensures read { result ≡ Status.ReadFault → Rose (S.faults source.old) (S.faults source.new) }
     ensures write { result ≡ Status.WriteFault → Rose (K.faults sink.old) (K.faults sink.new) }
-    ensures some_input { (input : List ℕ) × (o : Outcome) × IsOutcomeFor form input o × Answers result (K.written sink.old) (K.written sink.new) o }
+    ensures some_input { (input : List ℕ) × (o : Outcome) × IsOutcomeFor form input o × Prints result (K.written sink.old) (K.written sink.new) o }
     ensures usage { result ≢ Status.Usage }
     ensures not_rejected { result ≢ Status.Rejected }
     ensures whole { result ≡ Status.Ended → IsAtEnd (S.left source.new) }
@@ -70,7 +72,7 @@ pub fn titan<S: Source, K: Sink>(
 
     // What was written, and what the status says, where the bytes are told.
     ensures text { IfSome (S.left source.old) (λ input.
-        AnswersAs result (K.written sink.old) (K.written sink.new) (IsOutcome words.now.items input)) }
+        PrintsAs result (K.written sink.old) (K.written sink.new) (IsOutcome words.now.items input)) }
 
     // There is such a text, unless a fault or want of memory came before anything was written.
     ensures known { IfSome (S.left source.old) (λ input.
@@ -78,7 +80,7 @@ pub fn titan<S: Source, K: Sink>(
 
     // Also over a source that tells no bytes, these are the text and the status of some input.
     ensures some_input { (input : List ℕ) × (o : Outcome) × IsOutcome words.now.items input o
-        × Answers result (K.written sink.old) (K.written sink.new) o }
+        × Prints result (K.written sink.old) (K.written sink.new) o }
 
     // What is printed of a run: the reports are the trace of what was read, each reply is good, and then comes the ending; or
     // the model is refused.
@@ -95,7 +97,7 @@ pub fn titan<S: Source, K: Sink>(
 
     // Words of no form, whether or not the source tells its bytes.
     ensures usage { result ≡ Status.Usage → AreNoForm words.now.items }
-    ensures no_form { AreNoForm words.now.items → Answers result (K.written sink.old) (K.written sink.new) usage }
+    ensures no_form { AreNoForm words.now.items → Prints result (K.written sink.old) (K.written sink.new) usage }
     ensures only_usage { AreNoForm words.now.items → (result ≡ Status.Usage) ⊎ (result ≡ Status.WriteFault) }
     ensures not_asked { AreNoForm words.now.items → source.new ≡ source.old }
 

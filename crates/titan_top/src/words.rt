@@ -1,3 +1,5 @@
+//! Forms of the program's words.
+
 ghost use Rattle.std.specs.Prelude.{◌≡◌};
 ghost use Rattle.titan_top.specs.Words.{form_of, texts};
 

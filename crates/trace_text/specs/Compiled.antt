@@ -4,8 +4,8 @@ use Rattle.std.specs.Fmt.{decimal}
 use Rattle.cca_base.specs.declared.cube.Pair.{Pair}
 use Rattle.cca_base.specs.declared.model.Component.{Component}
 use Rattle.cca_base.specs.declared.model.Move.{Move}
-use Rattle.cca_base.specs.Accepted.{CompiledParts}
-use Rattle.cca_base.specs.Automata.{Automata}
+use Rattle.cca_base.specs.Accepted.{CompiledModel}
+use Rattle.cca_base.specs.PlantModel.{PlantModel}
 use Rattle.model_syntax.specs.Printing.{printed_model}
 use Rattle.trace_text.specs.Names.{pairs_text, components_text, move_text}
 
@@ -28,19 +28,19 @@ abbrev pub cube_line : List Component → List Pair → List ℕ
 cube_line components cube = codes "cube" ++ pairs_text components cube ++ 10 ∷ []
 
 -- a move, the number of its prime implicants, and then each of them
-unfoldable pub move_lines : Automata → Move → List (List Pair) → List ℕ
+unfoldable pub move_lines : PlantModel → Move → List (List Pair) → List ℕ
 move_lines m move cubes = codes "ways " ++ move_text m move ++ 32 ∷ decimal (length cubes) ++ 10 ∷ flat_map (cube_line m.components) cubes
 
 -- each move with its prime implicants
-abbrev pub ways_lines : Automata → List Move → List (List (List Pair)) → List ℕ
+abbrev pub ways_lines : PlantModel → List Move → List (List (List Pair)) → List ℕ
 ways_lines m [] ways = []
 ways_lines m (x ∷ xs) [] = []
 ways_lines m (x ∷ xs) (w ∷ ws) = move_lines m x w ++ ways_lines m xs ws
 
 -- the order, the bounds and the prime implicants
-abbrev pub compiled_lines : CompiledParts → List ℕ
+abbrev pub compiled_lines : CompiledModel → List ℕ
 compiled_lines b = order_line b.model.components b.order ++ bound_lines b.model.components b.bounds ++ ways_lines b.model b.model.moves b.ways
 
 -- what is shown of a compiled model: its text, and what was computed from it
-abbrev pub show_text : CompiledParts → List ℕ
+abbrev pub show_text : CompiledModel → List ℕ
 show_text b = printed_model b.model ++ compiled_lines b

@@ -4,7 +4,7 @@ use Rattle.std.specs.Option.{option_map_or}
 use Rattle.cca_base.specs.declared.cube.Pair.{Pair}
 use Rattle.cca_base.specs.declared.model.Component.{Component}
 use Rattle.cca_base.specs.declared.model.Move.{Move}
-use Rattle.cca_base.specs.Automata.{Automata}
+use Rattle.cca_base.specs.PlantModel.{PlantModel}
 pub use Rattle.model_syntax.specs.Printing.{name_at}
 
 -- NAME=MODE
@@ -36,9 +36,9 @@ abbrev pub source_text_at : List Component → ℕ → ℕ → List ℕ
 source_text_at components c mode = option_map_or (λ x. source_text x mode) (slice_get components c) []
 
 -- COMPONENT SOURCE COMMAND
-abbrev pub move_text : Automata → Move → List ℕ
+abbrev pub move_text : PlantModel → Move → List ℕ
 move_text m move = source_text_at m.components move.component move.source ++ 32 ∷ name_at m.commands move.command
 
 -- the move at a place of a list, behind a space
-abbrev pub move_text_at : Automata → List Move → ℕ → List ℕ
+abbrev pub move_text_at : PlantModel → List Move → ℕ → List ℕ
 move_text_at m moves k = option_map_or (λ move. 32 ∷ move_text m move) (slice_get moves k) []

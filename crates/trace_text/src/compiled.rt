@@ -1,3 +1,5 @@
+//! What is shown of a compiled model.
+
 ghost use Rattle.std.specs.Prelude.{◌≡◌, ◌++◌, ◌∷◌, [], IfOk, OnOk};
 ghost use Rattle.trace_text.specs.Compiled.{order_line, bound_line, bound_lines, cube_line, move_lines, ways_lines, compiled_lines, show_text};
 

@@ -1,3 +1,5 @@
+//! Pairs, components and moves by their names.
+
 ghost use Rattle.std.specs.Prelude.{◌≡◌, ◌++◌, ◌∷◌, OnOk};
 ghost use Rattle.std.specs.Fmt.{decimal};
 ghost use Rattle.trace_text.specs.Names.{name_at, pair_text, pair_text_at, pairs_text, component_name, components_text, source_text, source_text_at, move_text, move_text_at};
@@ -33,12 +35,12 @@ pub fn push_pair(out: &mut Vec<u8>, component: &Component, mode: u8) -> Result<(
 pub fn push_pair_at(
     out: &mut Vec<u8>,
     components: &[Component],
-    c: usize,
+    number: usize,
     mode: u8,
 ) -> Result<(), AllocError>
-    ensures { OnOk result (out.new.items ≡ out.old.items ++ pair_text_at components.now c mode) }
+    ensures { OnOk result (out.new.items ≡ out.old.items ++ pair_text_at components.now number mode) }
 {
-    if let Some(component) = components.get(c) {
+    if let Some(component) = components.get(number) {
         push_pair(out, component, mode)?;
     }
     Ok(())
@@ -59,10 +61,14 @@ pub fn push_pairs(
     Ok(())
 }
 
-fn push_component(out: &mut Vec<u8>, components: &[Component], c: usize) -> Result<(), AllocError>
-    ensures { OnOk result (out.new.items ≡ out.old.items ++ component_name components.now c) }
+fn push_component(
+    out: &mut Vec<u8>,
+    components: &[Component],
+    number: usize,
+) -> Result<(), AllocError>
+    ensures { OnOk result (out.new.items ≡ out.old.items ++ component_name components.now number) }
 {
-    if let Some(component) = components.get(c) {
+    if let Some(component) = components.get(number) {
         out.extend_from_slice(component.name.bytes())?;
     }
     Ok(())
@@ -94,12 +100,12 @@ fn push_source(out: &mut Vec<u8>, component: &Component, mode: u8) -> Result<(),
 fn push_source_at(
     out: &mut Vec<u8>,
     components: &[Component],
-    c: usize,
+    number: usize,
     mode: u8,
 ) -> Result<(), AllocError>
-    ensures { OnOk result (out.new.items ≡ out.old.items ++ source_text_at components.now c mode) }
+    ensures { OnOk result (out.new.items ≡ out.old.items ++ source_text_at components.now number mode) }
 {
-    if let Some(component) = components.get(c) {
+    if let Some(component) = components.get(number) {
         push_source(out, component, mode)?;
     }
     Ok(())
@@ -120,11 +126,11 @@ pub fn push_move_at(
     out: &mut Vec<u8>,
     model: &Model,
     moves: &[Move],
-    k: usize,
+    move_number: usize,
 ) -> Result<(), AllocError>
-    ensures { OnOk result (out.new.items ≡ out.old.items ++ move_text_at model.now moves.now k) }
+    ensures { OnOk result (out.new.items ≡ out.old.items ++ move_text_at model.now moves.now move_number) }
 {
-    if let Some(x) = moves.get(k) {
+    if let Some(x) = moves.get(move_number) {
         out.push(b' ')?;
         push_move(out, model, x)?;
     }

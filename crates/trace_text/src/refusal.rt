@@ -1,9 +1,11 @@
+//! The line of a refusal.
+
 ghost use Rattle.std.specs.Prelude.{◌≡◌, ◌++◌, ◌∷◌, [], codes, IfOk, OnOk};
 ghost use Rattle.std.specs.Fmt.{decimal};
 ghost use Rattle.trace_text.specs.Refusals.{code_name, detail_text, refusal_line};
 
 use crate::names::{push_components, push_move_at, push_number, push_pairs};
-use cca_base::{Detail, List, Model, Refusal};
+use cca_base::{Detail, List, Model, Refusal, codes};
 use std::alloc::{AllocError, Global};
 
 /// The name of a code.
@@ -11,29 +13,29 @@ fn code_name(code: u8) -> &'static [u8]
     ensures { result.now ≡ code_name code }
 {
     match code {
-        1 => b"malformed",
-        2 => b"name_unknown",
-        3 => b"name_repeated",
-        4 => b"limit",
-        5 => b"ambiguous",
-        6 => b"into_broken",
-        7 => b"unmarked_exit",
-        8 => b"two_mends",
-        9 => b"clash",
-        10 => b"ways",
-        11 => b"cycle",
-        12 => b"deep",
-        13 => b"not_sensed",
-        14 => b"broken_goal",
-        15 => b"repeated_pair",
-        16 => b"mirrored",
-        17 => b"ends_early",
-        18 => b"long_line",
-        19 => b"too_many_lines",
-        20 => b"unsupported",
-        21 => b"repair_cycle",
-        22 => b"many",
-        23 => b"unmatched",
+        codes::MALFORMED => b"malformed",
+        codes::NAME_UNKNOWN => b"name_unknown",
+        codes::NAME_REPEATED => b"name_repeated",
+        codes::LIMIT => b"limit",
+        codes::AMBIGUOUS => b"ambiguous",
+        codes::INTO_BROKEN => b"into_broken",
+        codes::UNMARKED_EXIT => b"unmarked_exit",
+        codes::TWO_MENDS => b"two_mends",
+        codes::CLASH => b"clash",
+        codes::WAYS => b"ways",
+        codes::CYCLE => b"cycle",
+        codes::DEEP => b"deep",
+        codes::NOT_SENSED => b"not_sensed",
+        codes::BROKEN_GOAL => b"broken_goal",
+        codes::REPEATED_PAIR => b"repeated_pair",
+        codes::MIRRORED => b"mirrored",
+        codes::ENDS_EARLY => b"ends_early",
+        codes::LONG_LINE => b"long_line",
+        codes::TOO_MANY_LINES => b"too_many_lines",
+        codes::UNSUPPORTED => b"unsupported",
+        codes::REPAIR_CYCLE => b"repair_cycle",
+        codes::MANY => b"many",
+        codes::UNMATCHED => b"unmatched",
         _ => b"",
     }
 }

@@ -1,3 +1,5 @@
+//! The line of a tick.
+
 ghost use Rattle.std.specs.Prelude.{◌≡◌, ◌++◌, ◌∷◌, [], codes, IfOk, OnOk};
 ghost use Rattle.std.specs.Fmt.{decimal};
 ghost use Rattle.trace_text.specs.Reports.{modes_text, reply_text, shown_text, report_line};

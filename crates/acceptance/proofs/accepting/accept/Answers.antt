@@ -1,4 +1,4 @@
-use Rattle.acceptance.proofs.RefusalLemmas.{not_refused}
+use Rattle.acceptance.proofs.RefusalSteps.{not_refused}
 use Rattle.acceptance.proofs.accepting.accept.Goals as goal
 
 -- what is refused is not accepted

@@ -1,8 +1,8 @@
 use Rattle.std.proofs.lemmas.Result.{err_from_is_err_and}
 use Rattle.cca_base.specs.Shown.{IsShownCycle}
-use Rattle.causal_graph.proofs.ModelLemmas.{models_have_rows, orders_are_of_models, cycles_are_of_models}
+use Rattle.causal_graph.proofs.ModelNeeds.{models_have_rows, orders_are_of_models, cycles_are_of_models}
 use Rattle.cca_base.specs.State.{HasWorlds}
-use Rattle.acceptance.proofs.RefusalLemmas.{stop_of_ways, cycle_refused, deep_refused, compiled}
+use Rattle.acceptance.proofs.RefusalSteps.{stop_of_ways, cycle_refused, deep_refused, compiled}
 use Rattle.acceptance.proofs.accepting.parts_by.Goals as goal
 
 pub returns-in_err-ways-clause-refused : goal.returns-in_err-ways-clause-refused

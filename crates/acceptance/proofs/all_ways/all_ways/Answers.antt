@@ -1,6 +1,6 @@
 use Rattle.std.proofs.Common.{◌<◌, length, ap, arith}
 use Rattle.std.proofs.lemmas.Result.{err_from_is_err_and}
-use Rattle.acceptance.proofs.WaysLemmas.{ways_none, ways_more, ways_all, ways_stop}
+use Rattle.acceptance.proofs.AllWaysFound.{ways_none, ways_more, ways_all, ways_stop}
 use Rattle.acceptance.proofs.all_ways.all_ways.Goals as goal
 
 pub loop-i-init : goal.loop-i-init

@@ -1,4 +1,4 @@
-use Rattle.acceptance.proofs.WaysLemmas.{AreWaysTo}
+use Rattle.acceptance.proofs.AllWaysFound.{AreWaysTo}
 use Rattle.acceptance.proofs.all_ways.all_ways.Given as goal
 
 abbrev pub invariant-loop-i : goal.invariant-loop-i

@@ -2,7 +2,7 @@ use Rattle.std.proofs.Common.{◌≡◌, ◌<◌, ◌≤◌, ◌+◌, ◌-◌, [
 use Rattle.std.proofs.lemmas.Option.{get_or_from_slice_get}
 use Rattle.cca_base.specs.declared.limits.TheConstants.{MAX_BOUND}
 use Rattle.cca_base.specs.Model.{mode_counts}
-use Rattle.acceptance.proofs.DepthLemmas.{AreAdded, bound_at, added_none, added_more, added_all, too_deep, row_below, row_short, modes_fit, count_at, bound_is, entry_within}
+use Rattle.acceptance.proofs.BoundsCausesFirst.{AreAdded, bound_at, added_none, added_more, added_all, too_deep, row_below, row_short, modes_fit, count_at, bound_is, entry_within}
 use Rattle.acceptance.proofs.bounds.bounds_of.Goals as goal
 
 pub loop-i-init : goal.loop-i-init

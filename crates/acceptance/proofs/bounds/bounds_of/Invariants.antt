@@ -1,4 +1,4 @@
-use Rattle.acceptance.proofs.DepthLemmas.{AreAdded}
+use Rattle.acceptance.proofs.BoundsCausesFirst.{AreAdded}
 use Rattle.acceptance.proofs.bounds.bounds_of.Given as goal
 
 abbrev pub invariant-loop-i : goal.invariant-loop-i

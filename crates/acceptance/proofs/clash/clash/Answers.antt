@@ -1,4 +1,4 @@
-use Rattle.acceptance.proofs.RefusalLemmas.{clash_of}
+use Rattle.acceptance.proofs.RefusalSteps.{clash_of}
 use Rattle.acceptance.proofs.clash.clash.Goals as goal
 
 pub returns : goal.returns

@@ -1,4 +1,4 @@
-use Rattle.acceptance.proofs.FalsifiedLemmas.{next_clause}
+use Rattle.acceptance.proofs.FirstFalsified.{next_clause}
 use Rattle.acceptance.proofs.falsified.first_false.Goals as goal
 
 pub loop-clause-preserved : goal.loop-clause-preserved

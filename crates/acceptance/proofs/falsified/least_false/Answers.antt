@@ -1,5 +1,5 @@
 use Rattle.std.proofs.Common.{◌≡◌, length, subst, arith}
-use Rattle.acceptance.proofs.FalsifiedLemmas.{IsLeastTo, all_subjects, always_met}
+use Rattle.acceptance.proofs.FirstFalsified.{IsLeastTo, all_subjects, always_met}
 use Rattle.acceptance.proofs.falsified.least_false.Goals as goal
 
 pub returns-in-None : goal.returns-in-None

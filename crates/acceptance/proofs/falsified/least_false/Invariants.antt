@@ -1,4 +1,4 @@
-use Rattle.acceptance.proofs.FalsifiedLemmas.{IsLeastTo}
+use Rattle.acceptance.proofs.FirstFalsified.{IsLeastTo}
 use Rattle.acceptance.proofs.falsified.least_false.Given as goal
 
 abbrev pub invariant-loop-subject : goal.invariant-loop-subject

@@ -1,6 +1,6 @@
 use Rattle.std.proofs.Common.{arith}
-use Rattle.causal_graph.proofs.ReachLemmas.{listed_none, listed_yes, listed_no}
-use Rattle.acceptance.proofs.MarkLemmas.{listed_whole}
+use Rattle.causal_graph.proofs.ReachedRows.{listed_none, listed_yes, listed_no}
+use Rattle.acceptance.proofs.NeededMarks.{listed_whole}
 use Rattle.acceptance.proofs.needs.listed.Goals.{then-marked+in_ok-push, else-marked}
 use Rattle.acceptance.proofs.needs.listed.Goals as goal
 

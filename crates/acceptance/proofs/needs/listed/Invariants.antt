@@ -1,4 +1,4 @@
-use Rattle.causal_graph.proofs.ReachLemmas.{AreListed}
+use Rattle.causal_graph.proofs.ReachedRows.{AreListed}
 use Rattle.acceptance.proofs.needs.listed.Given as goal
 
 abbrev pub invariant-loop-u : goal.invariant-loop-u

@@ -1,8 +1,8 @@
 use Rattle.std.proofs.Common.{◌<◌, length, get_or, arith}
 use Rattle.std.proofs.lemmas.List.{get_or_default}
 use Rattle.cca_base.specs.declared.cube.Pair.{Pair}
-use Rattle.causal_graph.proofs.FlagLemmas.{marks_none}
-use Rattle.acceptance.proofs.MarkLemmas.{pair_more}
+use Rattle.causal_graph.proofs.FlagLaws.{marks_none}
+use Rattle.acceptance.proofs.NeededMarks.{pair_more}
 use Rattle.acceptance.proofs.needs.mark_cube.Goals as goal
 
 pub loop-pair-init : goal.loop-pair-init

@@ -1,7 +1,7 @@
 use Rattle.std.proofs.Common.{subst}
 use Rattle.causal_graph.specs.Search.{Marks}
 use Rattle.acceptance.specs.Marks.{components_of}
-use Rattle.acceptance.proofs.MarkLemmas.{cube_none, cube_more}
+use Rattle.acceptance.proofs.NeededMarks.{cube_none, cube_more}
 use Rattle.acceptance.proofs.needs.mark_cubes.Goals as goal
 
 pub loop-cube-init : goal.loop-cube-init

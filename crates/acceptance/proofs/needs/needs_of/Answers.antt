@@ -1,7 +1,7 @@
 use Rattle.std.proofs.Common.{length, ap, subst, arith}
 use Rattle.cca_base.specs.Relations.{AreExactly}
 use Rattle.cca_base.specs.Flags.{IsSet}
-use Rattle.acceptance.proofs.MarkLemmas.{row_none, row_more, row_all}
+use Rattle.acceptance.proofs.NeededMarks.{row_none, row_more, row_all}
 use Rattle.acceptance.proofs.needs.needs_of.Goals as goal
 
 pub loop-c-init : goal.loop-c-init

@@ -1,4 +1,4 @@
-use Rattle.acceptance.proofs.MarkLemmas.{AreNeedsTo}
+use Rattle.acceptance.proofs.NeededMarks.{AreNeedsTo}
 use Rattle.acceptance.proofs.needs.needs_of.Given as goal
 
 abbrev pub invariant-loop-c : goal.invariant-loop-c

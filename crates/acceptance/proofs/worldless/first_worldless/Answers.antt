@@ -1,4 +1,4 @@
-use Rattle.acceptance.proofs.WorldLemmas.{first_worldless}
+use Rattle.acceptance.proofs.FirstWorldless.{first_worldless}
 use Rattle.acceptance.proofs.worldless.first_worldless.Goals as goal
 
 pub returns : goal.returns

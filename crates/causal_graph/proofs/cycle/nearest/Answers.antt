@@ -1,6 +1,6 @@
 use Rattle.std.proofs.Common.{◌≡◌, ◌+◌, ◌∷◌, ◌++◌, ℕ, [], take, get_or, subst}
 use Rattle.std.proofs.lemmas.List.{take_more}
-use Rattle.causal_graph.proofs.NearestLemmas.{IsNearestOf, nearest_none, other_distance, first_one, lesser_one, greater_one}
+use Rattle.causal_graph.proofs.NearestRow.{IsNearestOf, nearest_none, other_distance, first_one, lesser_one, greater_one}
 use Rattle.causal_graph.proofs.cycle.nearest.Goals.{then-distances-u+in-Some, then-distances-u+in_default-2, then-distances-u+in_default, else-distances-u}
 use Rattle.causal_graph.proofs.cycle.nearest.Goals as goal
 

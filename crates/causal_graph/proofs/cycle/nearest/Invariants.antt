@@ -1,5 +1,5 @@
 use Rattle.std.proofs.Common.{take}
-use Rattle.causal_graph.proofs.NearestLemmas.{IsNearestOf}
+use Rattle.causal_graph.proofs.NearestRow.{IsNearestOf}
 use Rattle.causal_graph.proofs.cycle.nearest.Given as goal
 
 abbrev pub invariant-loop-u : goal.invariant-loop-u

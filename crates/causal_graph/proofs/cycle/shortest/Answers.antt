@@ -1,7 +1,7 @@
 use Rattle.std.proofs.Common.{◌≡◌, ◌-◌, ℕ, List, [], get_or, Contains, sym, subst, ◌∙◌}
 use Rattle.std.proofs.lemmas.Option.{get_or_from_slice_get}
 use Rattle.causal_graph.specs.Search.{IsNearest}
-use Rattle.causal_graph.proofs.CycleLemmas.{next_at, stepping_more, stepping_done}
+use Rattle.causal_graph.proofs.ShownCycle.{next_at, stepping_more, stepping_done}
 use Rattle.causal_graph.proofs.cycle.shortest.Goals as goal
 
 pub unreachable-requires : goal.unreachable-requires
@@ -11,7 +11,7 @@ unreachable-requires c =
     let here = c.steps.at in
     let row : List ℕ = c.as_slice.result.now in
     let is_row : get_or rows here [] ≡ row = get_or_from_slice_get rows here c.get.result.now [] c.get.ensures.value ∙ sym c.as_slice.ensures in
-    let next = next_at rows c.args.t distances c.requires.distances here c.steps.left c.steps.invariant.left_is c.steps-test.true in
+    let next = next_at rows c.args.target distances c.requires.distances here c.steps.left c.steps.invariant.left_is c.steps-test.true in
     c.in_default.ensures next.0 (subst (λ r. Contains r next.0) is_row next.1) next.2
 
 pub steps-preserved : goal.steps-preserved
@@ -24,7 +24,7 @@ steps-preserved c =
     let near : IsNearest (get_or rows here []) distances (c.steps.left - 1) c.in-Some.next =
     subst (λ r. IsNearest r distances (c.steps.left - 1) c.in-Some.next) (sym is_row) c.in-Some.ensures
     in
-    rw c.in_ok-push-2.ensures.ok (stepping_more rows c.args.t distances c.requires.distances c.steps.cycle here c.steps.left c.in-Some.next c.steps.invariant c.steps-test.true near)
+    rw c.in_ok-push-2.ensures.ok (stepping_more rows c.args.target distances c.requires.distances c.steps.cycle here c.steps.left c.in-Some.next c.steps.invariant c.steps-test.true near)
 
 pub returns : goal.returns
-returns c = rw c.in_ok-push-3.ensures.ok (stepping_done c.args.needs.now c.args.t c.args.distances.now c.requires.distances c.steps.cycle c.steps.at c.steps.left c.steps.invariant c.steps-test.false)
+returns c = rw c.in_ok-push-3.ensures.ok (stepping_done c.args.needs.now c.args.target c.args.distances.now c.requires.distances c.steps.cycle c.steps.at c.steps.left c.steps.invariant c.steps-test.false)

@@ -4,7 +4,7 @@ use Rattle.std.proofs.lemmas.Result.{IfOk-weaker}
 use Rattle.cca_base.specs.Relations.{IsShownCycleBy}
 use Rattle.causal_graph.specs.Needs.{RowNeeds}
 use Rattle.causal_graph.specs.Search.{IsFirstCycle}
-use Rattle.causal_graph.proofs.CycleLemmas.{searched_more, is_shown, not_stuck}
+use Rattle.causal_graph.proofs.ShownCycle.{searched_more, is_shown, not_stuck}
 use Rattle.causal_graph.proofs.cycle.shown_cycle.Goals as goal
 
 pub returns-then-index-gt0 : goal.returns-then-index-gt0

@@ -1,7 +1,7 @@
 use Rattle.std.proofs.Common.{◌≡◌, ◌<◌, ◌+◌, ◌⊎◌, ℕ, [], get_or, slice_index, Contains, inl, inr, refl, sym, subst, ◌∙◌, arith}
 use Rattle.std.proofs.lemmas.Bool.{both_ways}
 use Rattle.std.proofs.lemmas.Option.{get_or_from_slice_get}
-use Rattle.causal_graph.proofs.DistanceLemmas.{farther_none, farther_all, farther_yes, farther_no}
+use Rattle.causal_graph.proofs.DistanceRound.{farther_none, farther_all, farther_yes, farther_no}
 use Rattle.causal_graph.proofs.distance.farther.Goals.{then-distances-v-eq0+then-leads_to, else-distances-v-eq0, else-distances-v-eq0-via-then-distances-v-eq0+else-leads_to, else-distances-v-eq0-via-else-distances-v-eq0}
 use Rattle.causal_graph.proofs.distance.farther.Goals as goal
 

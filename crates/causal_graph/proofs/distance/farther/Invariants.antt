@@ -1,4 +1,4 @@
-use Rattle.causal_graph.proofs.DistanceLemmas.{IsFartherTo}
+use Rattle.causal_graph.proofs.DistanceRound.{IsFartherTo}
 use Rattle.causal_graph.proofs.distance.farther.Given as goal
 
 abbrev pub invariant-loop-v : goal.invariant-loop-v

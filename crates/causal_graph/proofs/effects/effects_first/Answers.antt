@@ -3,7 +3,7 @@ use Rattle.std.proofs.lemmas.Bool.{eqb-true, eqb-false}
 use Rattle.cca_base.specs.Relations.{numbers_below}
 use Rattle.causal_graph.specs.Search.{AreNeeded, IsFirstUnset}
 use Rattle.cca_base.specs.Flags.{IsSet}
-use Rattle.causal_graph.proofs.EffectsLemmas.{taking_none, taking_all, taking_more, taking_stuck}
+use Rattle.causal_graph.proofs.EffectsFirst.{taking_none, taking_all, taking_more, taking_stuck}
 use Rattle.causal_graph.proofs.effects.effects_first.Goals as goal
 
 pub taking-init : goal.taking-init

@@ -1,5 +1,5 @@
 use Rattle.std.proofs.Common.{length}
-use Rattle.causal_graph.proofs.EffectsLemmas.{IsTaking}
+use Rattle.causal_graph.proofs.EffectsFirst.{IsTaking}
 use Rattle.causal_graph.proofs.effects.effects_first.Given as goal
 
 abbrev pub invariant-taking : goal.invariant-taking

@@ -2,8 +2,8 @@ use Rattle.std.proofs.Common.{◌≡◌, ◌+◌, ◌++◌, ◌∷◌, [], List,
 use Rattle.std.proofs.lemmas.List.{take_more}
 use Rattle.std.proofs.lemmas.Option.{get_or_from_slice_get}
 use Rattle.causal_graph.specs.Search.{Marks, AreNeeded}
-use Rattle.causal_graph.proofs.NeededLemmas.{needed_none, needed_more}
-use Rattle.causal_graph.proofs.Written.{written_back}
+use Rattle.causal_graph.proofs.RemainingNeeds.{needed_none, needed_more}
+use Rattle.list_laws.proofs.Elements.{written_back}
 use Rattle.causal_graph.proofs.effects.needed.Goals as goal
 
 pub loop-c-init : goal.loop-c-init

@@ -1,8 +1,9 @@
 use Rattle.std.proofs.Common.{◌<◌, All, subst, arith}
 use Rattle.std.proofs.lemmas.List.{take_all}
 use Rattle.std.proofs.lemmas.List.Elements.{All-from_get_or}
+use Rattle.cca_base.specs.declared.limits.TheConstants.{MAX_ROWS}
 use Rattle.causal_graph.specs.Search.{Marks}
-use Rattle.causal_graph.proofs.FlagLemmas.{marked_none, marked_new, marked_old, marks_narrow}
+use Rattle.causal_graph.proofs.FlagLaws.{marked_none, marked_new, marked_old, marks_narrow}
 use Rattle.causal_graph.proofs.flags.mark.Goals.{then-not-flags-at, else-not-flags-at}
 use Rattle.causal_graph.proofs.flags.mark.Goals as goal
 
@@ -32,5 +33,5 @@ returns-clause-fresh c = c.loop-u.invariant.fresh_is
 
 pub returns-clause-narrow : goal.returns-clause-narrow
 returns-clause-narrow c =
-    let small : All (λ u. u < 65536) c.args.row.now = All-from_get_or (λ u. u < 65536) c.args.row.now 0 (λ i within. omega (arith, c.type_inv.row i)) in
+    let small : All (λ u. u < MAX_ROWS) c.args.row.now = All-from_get_or (λ u. u < MAX_ROWS) c.args.row.now 0 (λ i within. omega (arith, c.type_inv.row i)) in
     marks_narrow c.args.row.now c.args.flags.now c.loop-u.flags small (marks c)

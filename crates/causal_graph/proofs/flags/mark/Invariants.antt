@@ -1,4 +1,4 @@
-use Rattle.causal_graph.proofs.FlagLemmas.{IsMarkedTo}
+use Rattle.causal_graph.proofs.FlagLaws.{IsMarkedTo}
 use Rattle.causal_graph.proofs.flags.mark.Given as goal
 
 abbrev pub invariant-loop-u : goal.invariant-loop-u

@@ -1,4 +1,4 @@
-use Rattle.causal_graph.proofs.ModelLemmas.{models_have_rows, orders_are_of_models, cycles_are_of_models, ancestors_are_of_models}
+use Rattle.causal_graph.proofs.ModelNeeds.{models_have_rows, orders_are_of_models, cycles_are_of_models, ancestors_are_of_models}
 use Rattle.causal_graph.proofs.laws.answers_are_of_models.Goals as goal
 
 pub returns-clause-rows : goal.returns-clause-rows

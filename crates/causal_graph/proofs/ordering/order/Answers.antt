@@ -3,7 +3,7 @@ use Rattle.std.proofs.lemmas.Option.{MatchOption-at_some}
 use Rattle.cca_base.specs.Relations.{IsEffectsFirstBy}
 use Rattle.causal_graph.specs.Needs.{RowNeeds}
 use Rattle.causal_graph.specs.Search.{HasStuck}
-use Rattle.causal_graph.proofs.EffectsLemmas.{effects_acyclic}
+use Rattle.causal_graph.proofs.EffectsFirst.{effects_acyclic}
 use Rattle.causal_graph.proofs.ordering.order.Goals as goal
 
 in_order : (rows : List (List ℕ)) (list : List ℕ) (o : Option (List ℕ)) → o ≡ Some list → MatchOption o (HasStuck rows) (IsEffectsFirstBy (RowNeeds rows) (length rows))

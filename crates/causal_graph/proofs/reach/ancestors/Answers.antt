@@ -1,6 +1,6 @@
 use Rattle.std.proofs.Common.{◌≡◌, false, get_or, ◌∙◌, sym, arith}
 use Rattle.std.proofs.lemmas.List.{get_or_read}
-use Rattle.causal_graph.proofs.ReachLemmas.{listed_none, listed_yes, listed_no, listed_all}
+use Rattle.causal_graph.proofs.ReachedRows.{listed_none, listed_yes, listed_no, listed_all}
 use Rattle.causal_graph.proofs.reach.ancestors.Goals.{then-index+in_ok-push, else-index}
 use Rattle.causal_graph.proofs.reach.ancestors.Goals as goal
 

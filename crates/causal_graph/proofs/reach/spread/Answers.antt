@@ -1,6 +1,6 @@
 use Rattle.std.proofs.Common.{◌≡◌, [], get_or, sym, ◌∙◌, arith}
 use Rattle.std.proofs.lemmas.Option.{get_or_from_slice_get}
-use Rattle.causal_graph.proofs.ReachLemmas.{spread_none, spread_all, spread_no, spread_new, spread_same}
+use Rattle.causal_graph.proofs.ReachedRows.{spread_none, spread_all, spread_no, spread_new, spread_same}
 use Rattle.causal_graph.proofs.reach.spread.Goals.{then-flags-c+then-mark, else-flags-c, else-flags-c-via-then-flags-c+else-mark, else-flags-c-via-else-flags-c}
 use Rattle.causal_graph.proofs.reach.spread.Goals as goal
 

@@ -1,4 +1,4 @@
-use Rattle.causal_graph.proofs.ReachLemmas.{IsSpreadTo}
+use Rattle.causal_graph.proofs.ReachedRows.{IsSpreadTo}
 use Rattle.causal_graph.proofs.reach.spread.Given as goal
 
 abbrev pub invariant-loop-c : goal.invariant-loop-c

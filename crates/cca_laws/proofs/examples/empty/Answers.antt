@@ -1,4 +1,4 @@
-use Rattle.cca_laws.proofs.EmptyLemmas.{empty_compiled, empty_trace}
+use Rattle.cca_laws.proofs.EmptyModelTicks.{empty_compiled, empty_trace}
 use Rattle.cca_laws.proofs.examples.empty.Goals as goal
 
 pub returns : goal.returns

@@ -1,4 +1,4 @@
-use Rattle.cca_laws.proofs.LampLemmas.{lamp_is_lit}
+use Rattle.cca_laws.proofs.LampIsLit.{lamp_is_lit}
 use Rattle.cca_laws.proofs.examples.lamp.Goals as goal
 
 pub returns : goal.returns

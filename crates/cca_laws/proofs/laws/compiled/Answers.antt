@@ -1,4 +1,4 @@
-use Rattle.cca_laws.proofs.CompiledLemmas.{one_compiled}
+use Rattle.cca_laws.proofs.OneCompiled.{one_compiled}
 use Rattle.cca_laws.proofs.laws.compiled.Goals as goal
 
 pub returns-clause-one : goal.returns-clause-one

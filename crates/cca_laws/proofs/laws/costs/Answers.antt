@@ -1,5 +1,6 @@
-use Rattle.cca_laws.proofs.CostsLemmas.{free_is_nominal, nominal_is_free, one_cost}
+use Rattle.cca_laws.proofs.CostLaws.{free_is_nominal, one_cost}
 use Rattle.cca_laws.proofs.laws.costs.Goals as goal
+use Rattle.cca_base.proofs.NominalLaws.{nominal_is_free}
 
 pub returns-clause-free : goal.returns-clause-free
 returns-clause-free c = free_is_nominal

@@ -1,4 +1,4 @@
-use Rattle.cca_laws.proofs.EstimatesLemmas.{one_estimate, never_both, first_is_right}
+use Rattle.cca_laws.proofs.EstimateLaws.{one_estimate, never_both, first_is_right}
 use Rattle.cca_laws.proofs.laws.estimates.Goals as goal
 
 pub returns-clause-one : goal.returns-clause-one

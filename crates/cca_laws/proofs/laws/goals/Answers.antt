@@ -1,4 +1,4 @@
-use Rattle.cca_laws.proofs.GoalsLemmas.{one_first_missing, none_under_no_order, sends_serve, standing_is_reached, standing_gives_no_commands}
+use Rattle.cca_laws.proofs.GoalLaws.{one_first_missing, none_under_no_order, sends_serve, standing_is_reached, standing_gives_no_commands}
 use Rattle.cca_laws.proofs.laws.goals.Goals as goal
 
 pub returns-clause-one : goal.returns-clause-one

@@ -1,4 +1,4 @@
-use Rattle.cca_laws.proofs.OrderLemmas.{pairwise, in_order_from, compiled_none_twice}
+use Rattle.cca_laws.proofs.OneOrder.{pairwise, in_order_from, compiled_none_twice}
 use Rattle.cca_laws.proofs.laws.orders.Goals as goal
 
 pub returns-clause-pairwise : goal.returns-clause-pairwise

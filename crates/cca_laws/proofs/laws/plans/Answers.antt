@@ -1,4 +1,4 @@
-use Rattle.cca_laws.proofs.PlansLemmas.{runs_join, allowed_run, mends_itself, repair_allowed, implicant_gives_step}
+use Rattle.cca_laws.proofs.PlanLaws.{runs_join, allowed_run, mends_itself, repair_allowed, implicant_gives_step}
 use Rattle.cca_base.proofs.NextModes.{next_of_mended, mended_of_next}
 use Rattle.cca_laws.proofs.laws.plans.Goals as goal
 

@@ -1,4 +1,4 @@
-use Rattle.cca_laws.proofs.TraceLemmas.{one_seen, one_fixed_trace, as_many_as_ticks}
+use Rattle.cca_laws.proofs.OneTrace.{one_seen, one_fixed_trace, as_many_as_ticks}
 use Rattle.cca_laws.proofs.laws.traces.Goals as goal
 
 pub returns-clause-observed : goal.returns-clause-observed

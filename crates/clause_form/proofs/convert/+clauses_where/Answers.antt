@@ -1,10 +1,11 @@
 use Rattle.std.proofs.Common.{subst, sym, ap, ◌∙◌, ◌≡◌, List, Bool, not, true, false}
+use Rattle.std.proofs.lemmas.Result.{IfOk-weaker}
 use Rattle.cca_base.specs.declared.formula.Formula.{Formula}
 use Rattle.cca_base.specs.declared.formula.Formula.TheVariants.{Implies, Iff}
 use Rattle.clause_form.specs.declared.clause.Clause.{Clause}
 use Rattle.clause_form.specs.Clauses.{all_met}
 use Rattle.clause_form.specs.Formulas.{Means, combine}
-use Rattle.clause_form.proofs.Subjects.{weaker, Says, means_implies, means_iff, truth_implies, truth_iff}
+use Rattle.clause_form.proofs.Subjects.{Says, means_implies, means_iff, truth_implies, truth_iff}
 use Rattle.clause_form.proofs.convert.+clauses_where.Goals as goal
 
 subst2 : (P : Formula → Bool → List Clause → Type 0) (wanted : Bool) {f g : Formula} {a b : List Clause} → f ≡ g → a ≡ b → P f wanted a → P g wanted b
@@ -17,7 +18,7 @@ returns-in_ok-second-in-Implies-clause-means t c =
     let f = c.args.formula.now in
     let a = c.get-in-Implies.result.now in
     let b = c.get-in-Implies-2.result.now in
-    weaker c.join-in-Implies.result _ _
+    IfOk-weaker c.join-in-Implies.result _ _
     (λ r says. means_implies n sizes f a b c.args.wanted c.deref-in-Implies.result.now c.deref-in-Implies-2.result.now r.items
     (λ modes values. truth_implies modes values f a b (c.in-Implies.is ∙ (ap (λ x. Implies x c.in-Implies.b) (sym c.get-in-Implies.ensures) ∙ ap (λ y. Implies a y) (sym c.get-in-Implies-2.ensures))))
     (subst (Means n sizes a (not c.args.wanted)) (sym c.deref-in-Implies.ensures.value) c.in_ok-first-in-Implies.ensures.means)
@@ -31,7 +32,7 @@ returns-in_ok-two-in-Iff-clause-means t c =
     let f = c.args.formula.now in
     let a = c.get-in-Iff.result.now in
     let b = c.get-in-Iff-2.result.now in
-    weaker c.join-in-Iff-3.result _ _
+    IfOk-weaker c.join-in-Iff-3.result _ _
     (λ r says. means_iff n sizes f a b c.args.wanted
     c.deref-in-Iff.result.now c.deref-in-Iff-2.result.now c.deref-in-Iff-5.result.now c.deref-in-Iff-3.result.now c.deref-in-Iff-4.result.now c.deref-in-Iff-6.result.now r.items
     (λ modes values. truth_iff modes values f a b (c.in-Iff.is ∙ (ap (λ x. Iff x c.in-Iff.b) (sym c.get-in-Iff.ensures) ∙ ap (λ y. Iff a y) (sym c.get-in-Iff-2.ensures))))

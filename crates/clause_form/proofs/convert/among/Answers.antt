@@ -1,7 +1,8 @@
 use Rattle.std.proofs.Common.{◌≡◌, ℕ, ◌<◌, ◌++◌, ◌-◌, length, ap, ◌∙◌, slice_index}
+use Rattle.std.proofs.lemmas.Result.{IfOk-weaker}
 use Rattle.cca_base.specs.Sets.{has}
 use Rattle.clause_form.specs.Formulas.{agrees}
-use Rattle.clause_form.proofs.Subjects.{at_subject, used_true, used_false, weaker}
+use Rattle.clause_form.proofs.Subjects.{at_subject, used_true, used_false}
 use Rattle.clause_form.proofs.convert.among.Goals as goal
 use Rattle.clause_form.proofs.convert.among.Goals.{then-wanted, else-wanted}
 
@@ -14,7 +15,7 @@ returns-clause-means c =
       | then-wanted w ↦ used_true c.args.wanted c.args.set c.if-wanted.values _ _ (slice_index sizes subject) m w.if-wanted.true w.values-is (w.common-values.ensures.members m) (w.full.ensures.members m) n
       | else-wanted w ↦ used_false c.args.wanted c.args.set c.if-wanted.values _ m w.if-wanted.false w.values-is (w.complement-values.ensures m n)
     ] in
-    weaker c.single.result _ _
+    IfOk-weaker c.single.result _ _
     (λ r h modes values e within.
     let place = ap (slice_index (modes ++ values)) c.number-subject.ensures.value ∙ at_subject c.args.components (length sizes - c.args.components) c.args.subject modes values c.requires.within e in
     h (modes ++ values) within ∙ (used _ (within.values subject c.number-subject.ensures.inside) ∙ ap (λ (v : ℕ). agrees c.args.wanted (has c.args.set v)) place))

@@ -1,7 +1,7 @@
 use Rattle.std.proofs.Common.{◌≡◌, List, true, subst}
 use Rattle.clause_form.specs.declared.clause.Literal.{Literal}
 use Rattle.clause_form.specs.Clauses.{is_met, meets, AreBelow}
-use Rattle.clause_form.proofs.ClauseLemmas.{kept_push, fewer_push, kept_skip, fewer_skip, All-before, below_push}
+use Rattle.clause_form.proofs.ClauseLaws.{kept_push, fewer_push, kept_skip, fewer_skip, All-before, below_push}
 use Rattle.clause_form.proofs.join.without_absorbed.Goals as goal
 
 pub loop-clause-preserved-in-Continue-1 : goal.loop-clause-preserved-in-Continue-1
@@ -13,7 +13,7 @@ loop-clause-preserved-in-Continue-1 c = record {
 
 pub loop-clause-preserved : goal.loop-clause-preserved
 loop-clause-preserved c = record {
-  met = λ xs h. kept_skip (meets xs) c.loop-clause.kept.items c.loop-clause.yielded c.in-Some.clause (subst (λ (ls : List Literal). is_met xs ls ≡ true) c.as_slice.ensures (c.absorbs.ensures c.if-not-absorbs.false xs h)) (c.loop-clause.invariant.met xs h);
+  met = λ xs h. kept_skip (meets xs) c.loop-clause.kept.items c.loop-clause.yielded c.in-Some.clause (subst (λ (ls : List Literal). is_met xs ls ≡ true) c.as_slice.ensures (c.subsumes.ensures c.if-not-subsumes.false xs h)) (c.loop-clause.invariant.met xs h);
   fewer = λ xs h. fewer_skip (meets xs) c.loop-clause.kept.items c.loop-clause.yielded c.in-Some.clause (c.loop-clause.invariant.fewer xs) h;
   below = λ n h. c.loop-clause.invariant.below n (All-before (λ clause. AreBelow n clause.literals) c.loop-clause.yielded c.in-Some.clause h);
 }

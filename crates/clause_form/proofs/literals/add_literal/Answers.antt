@@ -1,7 +1,7 @@
 use Rattle.std.proofs.Common.{◌≡◌, List, ◌<◌, ◌||◌, refl, sym, subst, ◌∙◌, ap, arith, length}
 use Rattle.clause_form.specs.declared.clause.Literal.{Literal}
 use Rattle.clause_form.specs.Clauses.{is_true, is_met}
-use Rattle.clause_form.proofs.ClauseLemmas.{met_both}
+use Rattle.clause_form.proofs.ClauseLaws.{met_both}
 use Rattle.clause_form.proofs.literals.add_literal.Goals as goal
 
 pub returns-then-other-literal-clause-met : goal.returns-then-other-literal-clause-met

@@ -1,6 +1,6 @@
 use Rattle.std.proofs.Common.{◌≤◌, All, subst, sym, ◌∙◌}
 use Rattle.cca_base.specs.declared.limits.TheConstants.{MAX_CHOICES}
-use Rattle.clause_form.proofs.ModelLemmas.{counts_few, counts_are}
+use Rattle.clause_form.proofs.ModelSizes.{counts_few, counts_are}
 use Rattle.clause_form.proofs.sizes.sizes_of.Goals as goal
 
 pub returns-clause-few : goal.returns-clause-few

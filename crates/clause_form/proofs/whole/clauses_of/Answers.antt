@@ -1,7 +1,8 @@
 use Rattle.std.proofs.Common.{◌≡◌, ℕ, ◌<◌, ◌++◌, List, length, subst, sym, ap, ◌∙◌}
 use Rattle.cca_base.specs.Model.{mode_counts, value_counts}
-use Rattle.clause_form.proofs.ModelLemmas.{within_counts, all_within_counts, mode_small, asked}
+use Rattle.clause_form.proofs.ModelSizes.{within_counts, all_within_counts, asked}
 use Rattle.cca_base.proofs.Within.{mode_within}
+use Rattle.cca_base.proofs.StateLaws.{mode_is_small}
 use Rattle.clause_form.specs.Clauses.{AllBelow}
 use Rattle.clause_form.proofs.whole.clauses_of.Goals as goal
 
@@ -18,7 +19,7 @@ add_fixed-requires-clause-fixed c p is =
     let m = c.args.model.now in
     let mode = c.requires.fixed p is in
     let n : c.len-components.result ≡ length m.components = c.len-components.ensures ∙ ap length c.components.ensures.value in
-    (subst (λ k. p.item < k) (sym n) (mode_within m p.item p.value mode), mode_small m p.item p.value c.components.ensures.well_formed mode)
+    (subst (λ k. p.item < k) (sym n) (mode_within m p.item p.value mode), mode_is_small m p.item p.value c.components.ensures.well_formed mode)
 
 pub add_denied-requires-clause-within : goal.add_denied-requires-clause-within
 add_denied-requires-clause-within c f is =

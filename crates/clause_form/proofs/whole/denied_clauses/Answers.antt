@@ -1,6 +1,6 @@
 use Rattle.std.proofs.Common.{◌≡◌, ◌++◌, List, length, subst, ap, ◌∙◌, ℕ}
 use Rattle.cca_base.specs.Model.{mode_counts, value_counts}
-use Rattle.clause_form.proofs.ModelLemmas.{within_counts, denying}
+use Rattle.clause_form.proofs.ModelSizes.{within_counts, denying}
 use Rattle.clause_form.specs.Clauses.{AllBelow}
 use Rattle.clause_form.proofs.whole.denied_clauses.Goals as goal
 

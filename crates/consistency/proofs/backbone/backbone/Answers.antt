@@ -1,6 +1,6 @@
 use Rattle.std.proofs.Common.{◌+◌, slice_index, sym, ◌∙◌, arith}
 use Rattle.std.proofs.lemmas.Bool.{true≢false}
-use Rattle.consistency.proofs.BackboneLemmas.{none_yet, passed, noted, all_noted}
+use Rattle.consistency.proofs.BackboneLaws.{none_yet, passed, noted, all_noted}
 use Rattle.consistency.proofs.backbone.backbone.Goals as goal
 use Rattle.consistency.proofs.backbone.backbone.Goals.{then-has+in_ok-is_forced+then-branch+in_ok-push, then-has+in_ok-is_forced+else-branch, else-has}
 

@@ -1,4 +1,4 @@
-use Rattle.consistency.proofs.BackboneLemmas.{IsBackboneTo}
+use Rattle.consistency.proofs.BackboneLaws.{IsBackboneTo}
 use Rattle.consistency.proofs.backbone.backbone.Given as goal
 
 abbrev pub invariant-loop-item : goal.invariant-loop-item

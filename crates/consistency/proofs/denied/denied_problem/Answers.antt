@@ -1,10 +1,10 @@
 use Rattle.std.proofs.Common.{◌≡◌, ◌++◌, Some, None, List, ap, sym, subst, ◌∙◌}
+use Rattle.std.proofs.lemmas.Result.{IfOk-weaker}
 use Rattle.clause_form.specs.declared.clause.Clauses.{Clauses}
 use Rattle.clause_form.specs.declared.clause.Clause.{Clause}
 use Rattle.clause_form.specs.Formulas.{AreClausesOf}
 use Rattle.consistency.specs.Problem.{clauses_in}
 use Rattle.consistency.proofs.DeniedClauses.{denied_beside_rules}
-use Rattle.consistency.proofs.Weaker.{IfOk-weaker}
 use Rattle.consistency.proofs.denied.denied_problem.Goals as goal
 
 pub returns : goal.returns

@@ -1,4 +1,4 @@
-use Rattle.consistency.proofs.ConflictLemmas.{conflicts_are_minimal, there_is_one_conflict}
+use Rattle.consistency.proofs.MinimalConflict.{conflicts_are_minimal, there_is_one_conflict}
 use Rattle.consistency.proofs.laws.conflicts_are_minimal.Goals as goal
 
 pub returns-clause-minimal : goal.returns-clause-minimal

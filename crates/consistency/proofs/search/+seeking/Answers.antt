@@ -3,60 +3,60 @@ use Rattle.std.proofs.lemmas.List.{get_or_read}
 use Rattle.cca_base.specs.Sets.{has}
 use Rattle.consistency.specs.declared.domain.Domain.{Domain}
 use Rattle.consistency.specs.Subjects.{is_in}
-use Rattle.consistency.specs.Search.{IsSolution, IsOutcome, IsClashOfMore, Knows, nothing}
+use Rattle.consistency.specs.Search.{IsSolution, IsSearchResult, IsClashOfMore, Knows, nothing}
 use Rattle.consistency.proofs.Narrow.{or_l}
-use Rattle.consistency.proofs.Seek.{found, early, whole_clash, tried_absent, tried_clash, knows_longer, length-snoc, written}
+use Rattle.consistency.proofs.SearchFrom.{found, early, whole_clash, tried_absent, tried_clash, knows_longer, length-snoc, written}
 use Rattle.consistency.proofs.search.+seeking.Goals as goal
-use Rattle.consistency.proofs.search.+seeking.Goals.{seek-then-has+in_ok-found+in-Clash+else-not-has_subject, seek-else-has}
+use Rattle.consistency.proofs.search.+seeking.Goals.{search_from-then-has+in_ok-found+in-Clash+else-not-has_subject, search_from-else-has}
 
 read : (domains : List Domain) (p : List ℕ) (s : ℕ) (x : Domain) → length p < length domains → s ≡ length p → x ≡ slice_index_or domains s x → x ≡ slice_index_or domains (length p) nothing
 read domains p s x room at is = let here : s < length domains = omega arith in get_or_read domains s x here is nothing ∙ ap (λ (k : ℕ). slice_index_or domains k nothing) at
 
-pub seek-returns-then-subject-base : goal.seek-returns-then-subject-base
-seek-returns-then-subject-base t c =
+pub search_from-returns-then-subject-base : goal.search_from-returns-then-subject-base
+search_from-returns-then-subject-base t c =
     let full : length c.args.prefix.now ≡ length c.args.base.now = omega arith in
     whole_clash c.args.problem.now.clauses c.args.base.now c.args.prefix.now _ full c.requires.proper.small c.all_subjects.ensures
     (λ h. c.is_solution.ensures.no c.if-is_solution.false (subst (IsSolution c.args.problem.now.clauses c.args.base.now) (sym c.as_slice.ensures) h))
 
-pub seek-returns-in-Found : goal.seek-returns-in-Found
-seek-returns-in-Found t c =
+pub search_from-returns-in-Found : goal.search_from-returns-in-Found
+search_from-returns-in-Found t c =
     let p = c.args.prefix.now in
     let clauses = c.args.problem.now.clauses in
     let base = c.args.base.now in
     let room : length p < length c.args.domains.now = omega arith in
-    found clauses base c.requires.proper.few p c.args.domains.now c.loop-value.blame c.loop-value.value c.requires.known room c.loop-value.invariant.blamed c.loop-value.invariant.tried _ c.requires.full
-    (subst (IsOutcome clauses base (p ++ c.loop-value.value ∷ [])) c.in-Found.is c.in_ok-found.ensures)
+    found clauses base c.requires.proper.few p c.args.domains.now c.loop-value.conflict_set c.loop-value.value c.requires.known room c.loop-value.invariant.blamed c.loop-value.invariant.tried _ c.requires.full
+    (subst (IsSearchResult clauses base (p ++ c.loop-value.value ∷ [])) c.in-Found.is c.in_ok-found.ensures)
 
-pub seek-returns-then-not-has_subject : goal.seek-returns-then-not-has_subject
-seek-returns-then-not-has_subject t c =
+pub search_from-returns-then-not-has_subject : goal.search_from-returns-then-not-has_subject
+search_from-returns-then-not-has_subject t c =
     let p = c.args.prefix.now in
     let clauses = c.args.problem.now.clauses in
     let base = c.args.base.now in
     early clauses base p c.loop-value.value _ (subst (λ (n : ℕ). is_in c.in-Clash.subjects n ≡ false) c.len-subject.ensures (sym c.has_subject.ensures ∙ c.if-not-has_subject.true))
-    (subst (IsOutcome clauses base (p ++ c.loop-value.value ∷ [])) c.in-Clash.is c.in_ok-found.ensures)
+    (subst (IsSearchResult clauses base (p ++ c.loop-value.value ∷ [])) c.in-Clash.is c.in_ok-found.ensures)
 
-pub seek-loop-value-preserved : goal.seek-loop-value-preserved
-seek-loop-value-preserved t c =
+pub search_from-loop-value-preserved : goal.search_from-loop-value-preserved
+search_from-loop-value-preserved t c =
     let p = c.args.prefix.now in
     let clauses = c.args.problem.now.clauses in
     let base = c.args.base.now in
     let room : length p < length c.args.domains.now = omega arith in
     elim c.if-has.branch [
-      | seek-then-has+in_ok-found+in-Clash+else-not-has_subject w ↦ record {
-        blamed = λ d m. rw w.blame-is (or_l _ _ _ (w.union-blame.ensures d) (c.loop-value.invariant.blamed d m));
-        tried = rw w.blame-is (tried_clash clauses base c.requires.proper.few p c.args.domains.now c.loop-value.blame c.loop-value.value c.requires.known room c.loop-value.invariant.blamed c.loop-value.invariant.tried
-            w.in-Clash.subjects _ w.union-blame.ensures
-            (subst (IsOutcome clauses base (p ++ c.loop-value.value ∷ [])) w.in-Clash.is w.in_ok-found.ensures));
+      | search_from-then-has+in_ok-found+in-Clash+else-not-has_subject w ↦ record {
+        blamed = λ d m. rw w.conflict_set-is (or_l _ _ _ (w.union-conflict_set.ensures d) (c.loop-value.invariant.blamed d m));
+        tried = rw w.conflict_set-is (tried_clash clauses base c.requires.proper.few p c.args.domains.now c.loop-value.conflict_set c.loop-value.value c.requires.known room c.loop-value.invariant.blamed c.loop-value.invariant.tried
+            w.in-Clash.subjects _ w.union-conflict_set.ensures
+            (subst (IsSearchResult clauses base (p ++ c.loop-value.value ∷ [])) w.in-Clash.is w.in_ok-found.ensures));
       }
-      | seek-else-has w ↦ record {
-        blamed = rw w.blame-is c.loop-value.invariant.blamed;
-        tried = rw w.blame-is (tried_absent clauses base c.requires.proper.few p c.args.domains.now c.loop-value.blame c.loop-value.value c.requires.known room c.loop-value.invariant.blamed c.loop-value.invariant.tried
+      | search_from-else-has w ↦ record {
+        blamed = rw w.conflict_set-is c.loop-value.invariant.blamed;
+        tried = rw w.conflict_set-is (tried_absent clauses base c.requires.proper.few p c.args.domains.now c.loop-value.conflict_set c.loop-value.value c.requires.known room c.loop-value.invariant.blamed c.loop-value.invariant.tried
             (subst (λ (x : Domain). has x.values c.loop-value.value ≡ false) (read c.args.domains.now p _ c.index-domains-subject.result room c.len-subject.ensures c.index-domains-subject.is) (ap (λ (x : Domain). has x.values c.loop-value.value) c.index-domains-subject.is ∙ (sym c.has.ensures ∙ w.if-has.false))));
       }
     ]
 
-pub attempt-seek-requires : goal.attempt-seek-requires
-attempt-seek-requires t c =
+pub attempt-search_from-requires : goal.attempt-search_from-requires
+attempt-search_from-requires t c =
     let p = c.args.prefix.now in
     let longer : c.push.new.self ≡ p ++ c.args.value ∷ [] = cc (c.in_ok-push.ensures.ok, c.in_ok-longer.ensures) in
     let more : length c.push.new.self ≡ length p + 1 = rw longer (length-snoc p c.args.value) in (
@@ -79,8 +79,8 @@ attempt-returns-in-Some t c xs h agrees =
     let clash = subst (IsClashOfMore c.args.problem.now.clauses c.deref_mut.result.now c.len-subject.result c.args.value) c.in-Some.is c.in_ok-because.ensures.clash in
     clash (record { base = c.args.base.now; chosen = c.args.prefix.now }) xs (sym c.len-subject.ensures) h.met (subst (λ (ds : List Domain). Knows (record { base = c.args.base.now; chosen = c.args.prefix.now }) ds xs) (sym same) (c.requires.known xs h)) agrees
 
-pub attempt-seek-requires-in-None : goal.attempt-seek-requires-in-None
-attempt-seek-requires-in-None t c =
+pub attempt-search_from-requires-in-None : goal.attempt-search_from-requires-in-None
+attempt-search_from-requires-in-None t c =
     let p = c.args.prefix.now in
     let same : c.deref_mut.result.now ≡ c.args.domains.now = cc (c.in_ok-narrower.ensures.items) in
     let longer : c.push.new.self ≡ p ++ c.args.value ∷ [] = cc (c.in_ok-push.ensures.ok, c.in_ok-longer.ensures) in

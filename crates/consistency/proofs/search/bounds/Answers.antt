@@ -1,7 +1,7 @@
 use Rattle.std.proofs.Common.{◌≡◌, ◌∙◌, List, [], length, drop, arith, ap, subst, sym, refl}
 use Rattle.consistency.specs.declared.domain.Domain.{Domain}
 use Rattle.consistency.specs.Search.{AreBounds}
-use Rattle.consistency.proofs.Seek.{start, written, solution_met, solution_agrees}
+use Rattle.consistency.proofs.SearchFrom.{start, written, solution_met, solution_agrees}
 use Rattle.consistency.proofs.search.bounds.Goals as goal
 
 pub returns : goal.returns

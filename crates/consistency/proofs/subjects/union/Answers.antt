@@ -1,5 +1,6 @@
 use Rattle.std.proofs.Common.{◌≡◌, ◌/◌, ◌%◌, ◌<◌, ◌∙◌, length, length-set, arith}
-use Rattle.consistency.proofs.SubjectLemmas.{joined_more, kept_more, joined_in}
+use Rattle.consistency.specs.declared.subjects.TheConstants.{WORDS, WORD_BITS}
+use Rattle.consistency.proofs.SubjectSetLaws.{joined_more, kept_more, joined_in}
 use Rattle.consistency.proofs.subjects.union.Goals as goal
 
 pub loop-i-preserved : goal.loop-i-preserved
@@ -14,6 +15,6 @@ loop-i-preserved c =
 
 pub returns : goal.returns
 returns c n =
-    let one : length c.args.one.now.words ≡ 4 = omega arith in
-    let other : length c.args.other.now.words ≡ 4 = omega arith in
-    joined_in c.loop-i.words c.args.one.now.words c.args.other.now.words c.loop-i.i c.loop-i.invariant.full one other (omega arith) c.loop-i.invariant.joined (n / 64) (n % 64)
+    let one : length c.args.one.now.words ≡ WORDS = omega arith in
+    let other : length c.args.other.now.words ≡ WORDS = omega arith in
+    joined_in WORDS c.loop-i.words c.args.one.now.words c.args.other.now.words c.loop-i.i c.loop-i.invariant.full one other (omega arith) c.loop-i.invariant.joined (n / WORD_BITS) (n % WORD_BITS)

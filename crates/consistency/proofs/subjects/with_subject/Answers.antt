@@ -1,5 +1,5 @@
 use Rattle.std.proofs.Common.{arith}
-use Rattle.consistency.proofs.SubjectLemmas.{with_in}
+use Rattle.consistency.proofs.SubjectSetLaws.{with_in}
 use Rattle.consistency.proofs.subjects.with_subject.Goals as goal
 
 pub returns : goal.returns

@@ -4,7 +4,7 @@ use Rattle.std.proofs.lemmas.List.{take_all}
 use Rattle.std.proofs.lemmas.List.Elements.{All-more, All-map, All-contains, Contains-get_or}
 use Rattle.std.proofs.lemmas.Option.{slice_get_within}
 use Rattle.cca_base.proofs.Members.{all_from}
-use Rattle.cca_base.proofs.RelationLemmas.{below_contains, numbers_are_below}
+use Rattle.cca_base.proofs.PathLaws.{below_contains, numbers_are_below}
 use Rattle.cca_base.specs.declared.cube.Pair.{Pair}
 use Rattle.cca_base.specs.Relations.{numbers_below}
 use Rattle.cca_base.specs.State.{Extends}

@@ -1,5 +1,6 @@
 use Rattle.std.proofs.Common.{◌≡◌, ◌<◌, ◌≤◌, ◌+◌, List, [], ◌∷◌, ◌++◌, length, take, sym, ap, subst, ◌∙◌, refl, arith}
 use Rattle.std.proofs.lemmas.List.{take_more, get_or_default}
+use Rattle.cca_base.specs.declared.limits.TheConstants.{MAX_COST}
 use Rattle.cca_base.specs.declared.choice.Choice.{Choice}
 use Rattle.cost_search.specs.declared.part.Span.{Span}
 use Rattle.cca_base.specs.Choices.{IsRow}
@@ -19,7 +20,7 @@ overflow_add-cost c =
     let row = c.row-item.result in
     let own : IsRow row = subst IsRow (sym c.row-item.is) (c.requires.each c.loop-row.row-index row c.loop-row-test.true) in
     let some : 0 < length row = omega (arith, c.if-to-eq0.false, c.count_of-to.ensures, ap length c.as_slice.ensures) in
-    let cheap : c.get-first.result.now.cost ≤ 1000000 = subst (λ (z : Choice). z.cost ≤ 1000000) (sym c.get-first.ensures.item) (own.cheap 0 c.get-first.result.now some) in
+    let cheap : c.get-first.result.now.cost ≤ MAX_COST = subst (λ (z : Choice). z.cost ≤ MAX_COST) (sym c.get-first.ensures.item) (own.cheap 0 c.get-first.result.now some) in
     omega (arith, c.loop-row.invariant.small, c.loop-row-test.true, c.requires.few)
 
 pub loop-row-preserved : goal.loop-row-preserved
@@ -30,7 +31,7 @@ loop-row-preserved c =
     let own : IsRow row = subst IsRow (sym c.row-item.is) (c.requires.each i row c.loop-row-test.true) in
     let to = c.count_of-to.ensures ∙ ap length c.as_slice.ensures in
     let some : 0 < length row = omega (arith, c.if-to-eq0.false, to) in
-    let cheap : c.get-first.result.now.cost ≤ 1000000 = subst (λ (z : Choice). z.cost ≤ 1000000) (sym c.get-first.ensures.item) (own.cheap 0 c.get-first.result.now some) in
+    let cheap : c.get-first.result.now.cost ≤ MAX_COST = subst (λ (z : Choice). z.cost ≤ MAX_COST) (sym c.get-first.ensures.item) (own.cheap 0 c.get-first.result.now some) in
     let small = c.loop-row.invariant.small in
     let next : Span = record { from = 0; to = c.count_of-to.result } in
     let more = whole_more (take i rows) c.loop-row.cost c.loop-row.modes c.loop-row.spans row c.get-first.result.now next c.loop-row.invariant.whole some c.get-first.ensures.item refl to in

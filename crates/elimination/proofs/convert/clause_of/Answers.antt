@@ -3,14 +3,14 @@ use Rattle.std.proofs.lemmas.List.{get_or_read}
 use Rattle.cca_base.specs.Sets.{has}
 use Rattle.clause_form.specs.Clauses.{is_met}
 use Rattle.elimination.specs.Partial.{given}
-use Rattle.elimination.specs.Rows.{row_open}
-use Rattle.elimination.proofs.ValueLemmas.{row_open-take_more, row_open-none}
+use Rattle.elimination.specs.DenseClauses.{row_unfalsified}
+use Rattle.elimination.proofs.PartialValueLaws.{row_unfalsified-take_more, row_unfalsified-none}
 use Rattle.elimination.proofs.convert.clause_of.Goals as goal
 
 pub loop-subject-init : goal.loop-subject-init
 loop-subject-init c = record {
   subjects = search rules;
-  met = λ xs e. ap (is_met xs) c.new-literals.ensures ∙ row_open-none xs;
+  met = λ xs e. ap (is_met xs) c.new-literals.ensures ∙ row_unfalsified-none xs;
 }
 
 pub loop-subject-preserved : goal.loop-subject-preserved
@@ -23,5 +23,5 @@ loop-subject-preserved c = record {
       let valued : i < length xs = omega arith in
       let read = get_or_read row i c.get.result.now inside c.get.ensures.item 0 in
       c.in_ok-push_literal.ensures.met xs ∙ ap (λ b. b || has c.get.result.now (get_or xs i 0)) (c.loop-subject.invariant.met xs e)
-      ∙ ap (λ s. row_open (given xs) (take i row) || has s (get_or xs i 0)) read ∙ sym (row_open-take_more xs row i valued inside);
+      ∙ ap (λ s. row_unfalsified (given xs) (take i row) || has s (get_or xs i 0)) read ∙ sym (row_unfalsified-take_more xs row i valued inside);
 }

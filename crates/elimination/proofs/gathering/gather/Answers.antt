@@ -1,7 +1,7 @@
 use Rattle.std.proofs.Common.{rules, length, ◌≡◌, ◌∙◌, ◌&&◌, ◌||◌, ap, sym, set, Some, ℕ, Bool, true, replicate, ◌∷◌, []}
 use Rattle.std.specs.List.{list_all}
-use Rattle.elimination.specs.Rows.{is_wide, all_open, any_below, is_zero}
-use Rattle.elimination.proofs.RowLemmas.{wide-all, rows_in, rows_sized, wide-fixed, length-within, row_open-never, wide-never, any_below-step, zero-never, zero-all}
+use Rattle.elimination.specs.DenseClauses.{is_wide, all_unfalsified, any_below, is_zero}
+use Rattle.elimination.proofs.DenseClauseLaws.{wide-all, rows_in, rows_sized, wide-fixed, length-within, row_unfalsified-never, wide-never, any_below-step, zero-never, zero-all}
 use Rattle.elimination.proofs.gathering.gather.Goals as goal
 
 pub loop-v-init : goal.loop-v-init
@@ -11,11 +11,11 @@ loop-v-init c =
     record {
       wide = ap (list_all (is_wide n)) start ∙ ap (λ b. b && true) (wide-never n);
       zero = λ y h. ap (list_all (is_zero y)) start ∙ ap (λ b. b && true) (zero-never y n);
-      open_at = λ q w. ap (all_open q) start ∙ ap (λ b. b && true) (row_open-never q n);
+      unfalsified_at = λ q w. ap (all_unfalsified q) start ∙ ap (λ b. b && true) (row_unfalsified-never q n);
     }
 
-pub fix-requires : goal.fix-requires
-fix-requires c = rows_in (length c.args.sizes.now) c.args.x c.args.rows.now c.requires.subject c.requires.wide
+pub condition-requires : goal.condition-requires
+condition-requires c = rows_in (length c.args.sizes.now) c.args.x c.args.rows.now c.requires.subject c.requires.wide
 
 pub loop-v-preserved : goal.loop-v-preserved
 loop-v-preserved c =
@@ -28,9 +28,9 @@ loop-v-preserved c =
       zero = λ y h. c.in_ok-out.ensures.same (is_zero y)
           (rw (c.as_slice.ensures.value, c.as_slice-in-loop-v.ensures.value)
           (zero-all y n c.loop-v.out.items fixed c.loop-v.invariant.wide wide_fixed (c.loop-v.invariant.zero y h) (c.in_ok-fixed.ensures.same (is_zero y) h)));
-      open_at = λ q w.
-          let test : ℕ → Bool = λ v. all_open (set q c.args.x (Some v)) c.args.rows.now in
-          let here : all_open q fixed ≡ test c.loop-v.v = c.in_ok-fixed.ensures.«open» q (rows_sized n q c.args.rows.now (length-within c.args.sizes.now q w) c.requires.wide) in
-          let both : all_open q c.in_ok-out.out.items ≡ (all_open q c.loop-v.out.items || all_open q fixed) = rw (c.as_slice.ensures.value, c.as_slice-in-loop-v.ensures.value) at (c.in_ok-out.ensures.«open» q w) in
-          both ∙ ap (λ b. b || all_open q fixed) (c.loop-v.invariant.open_at q w) ∙ ap (λ b. any_below c.loop-v.v test || b) here ∙ sym (any_below-step c.loop-v.v test);
+      unfalsified_at = λ q w.
+          let test : ℕ → Bool = λ v. all_unfalsified (set q c.args.x (Some v)) c.args.rows.now in
+          let here : all_unfalsified q fixed ≡ test c.loop-v.v = c.in_ok-fixed.ensures.unfalsified q (rows_sized n q c.args.rows.now (length-within c.args.sizes.now q w) c.requires.wide) in
+          let both : all_unfalsified q c.in_ok-out.out.items ≡ (all_unfalsified q c.loop-v.out.items || all_unfalsified q fixed) = rw (c.as_slice.ensures.value, c.as_slice-in-loop-v.ensures.value) at (c.in_ok-out.ensures.unfalsified q w) in
+          both ∙ ap (λ b. b || all_unfalsified q fixed) (c.loop-v.invariant.unfalsified_at q w) ∙ ap (λ b. any_below c.loop-v.v test || b) here ∙ sym (any_below-step c.loop-v.v test);
     }

@@ -1,7 +1,7 @@
 use Rattle.std.proofs.Common.{◌≡◌, ℕ, true, length, Some, slice_set}
 use Rattle.std.specs.List.{list_all}
 use Rattle.elimination.specs.Partial.{IsWithin, Partial}
-use Rattle.elimination.specs.Rows.{all_open, is_wide, any_below, is_zero, fix_row}
+use Rattle.elimination.specs.DenseClauses.{all_unfalsified, is_wide, any_below, is_zero, fix_row}
 use Rattle.elimination.proofs.gathering.gather.Given as goal
 
 abbrev pub invariant-loop-v : goal.invariant-loop-v
@@ -9,5 +9,5 @@ invariant-loop-v l =
     record {
       wide : list_all (is_wide (length l.sizes)) l.out.items ≡ true;
       zero : (y : ℕ) → list_all (λ row. is_zero y (fix_row l.x row)) l.rows ≡ true → list_all (is_zero y) l.out.items ≡ true;
-      open_at : (q : Partial) → IsWithin l.sizes q → all_open q l.out.items ≡ any_below l.v (λ v. all_open (slice_set q l.x (Some v)) l.rows);
+      unfalsified_at : (q : Partial) → IsWithin l.sizes q → all_unfalsified q l.out.items ≡ any_below l.v (λ v. all_unfalsified (slice_set q l.x (Some v)) l.rows);
     }

@@ -1,6 +1,6 @@
 use Rattle.std.proofs.Common.{length}
-use Rattle.elimination.specs.Rows.{is_wide}
-use Rattle.elimination.proofs.RowLemmas.{wide-unions}
+use Rattle.elimination.specs.DenseClauses.{is_wide}
+use Rattle.elimination.proofs.DenseClauseLaws.{wide-unions}
 use Rattle.elimination.proofs.gathering.join_row.Goals as goal
 
 pub join_one-requires-clause-out : goal.join_one-requires-clause-out

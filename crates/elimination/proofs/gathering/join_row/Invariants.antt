@@ -1,12 +1,12 @@
 use Rattle.std.proofs.Common.{◌≡◌, true, Bool, ◌&&◌, ◌||◌, take}
 use Rattle.std.specs.List.{list_all}
 use Rattle.elimination.specs.Partial.{IsWithin, Partial}
-use Rattle.elimination.specs.Rows.{all_open, row_open, union_rows, Sets}
+use Rattle.elimination.specs.DenseClauses.{all_unfalsified, row_unfalsified, union_rows, Sets}
 use Rattle.elimination.proofs.gathering.join_row.Given as goal
 
 abbrev pub invariant-loop-other : goal.invariant-loop-other
 invariant-loop-other l =
     record {
-      open_at : (q : Partial) → IsWithin l.sizes q → all_open q l.out.items ≡ (all_open q l.initial.out.items && (row_open q l.row || all_open q (take l.other-index l.others)));
+      unfalsified_at : (q : Partial) → IsWithin l.sizes q → all_unfalsified q l.out.items ≡ (all_unfalsified q l.initial.out.items && (row_unfalsified q l.row || all_unfalsified q (take l.other-index l.others)));
       same : (p : Sets → Bool) → list_all p l.initial.out.items ≡ true → list_all (λ other. p (union_rows l.row other)) l.others ≡ true → list_all p l.out.items ≡ true;
     }

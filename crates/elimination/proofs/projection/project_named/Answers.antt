@@ -1,8 +1,8 @@
 use Rattle.std.proofs.Common.{rules, length, ◌≡◌, ◌∙◌, ◌&&◌, ap, sym, set, get_or, Some, true}
 use Rattle.std.specs.List.{list_all, filter}
-use Rattle.elimination.specs.Rows.{is_wide, all_open, any_below, is_zero, fix_row, mentions}
-use Rattle.elimination.proofs.RowLemmas.{rows_in, list_all-filter}
-use Rattle.elimination.proofs.ProjectLemmas.{split, row_open-unnamed, any_same, any_and, zero_unfixed, filter_gives, not_not}
+use Rattle.elimination.specs.DenseClauses.{is_wide, all_unfalsified, any_below, is_zero, fix_row, mentions}
+use Rattle.elimination.proofs.DenseClauseLaws.{rows_in, list_all-filter}
+use Rattle.elimination.proofs.ProjectionExact.{split, row_unfalsified-unnamed, any_same, any_and, zero_unfixed, filter_gives, not_not}
 use Rattle.elimination.proofs.projection.project_named.Goals as goal
 
 pub naming-requires : goal.naming-requires
@@ -33,14 +33,14 @@ returns c = record {
       let new : list_all (is_zero y) c.in_ok-more.more.items ≡ true =
       c.in_ok-more.ensures.zero y (rw with (list_all-filter (λ row. is_zero y (fix_row x row)) (mentions x) rows h)) in
       c.in_ok-add_all.ensures.same (is_zero y) old (rw c.as_slice-3.ensures.value new);
-  «open» = λ q w.
+  unfalsified = λ q w.
       let x = c.args.x in
       let rows = c.args.rows.now.items in
       let n = get_or c.args.sizes.now x 0 in
       let with : c.as_slice-2.result.now ≡ filter (mentions x) rows = search rules in
-      let new : all_open q c.in_ok-more.more.items ≡ any_below n (λ v. all_open (set q x (Some v)) (filter (mentions x) rows)) = rw with at (c.in_ok-more.ensures.«open» q w) in
-      let all : all_open q c.add_all.new.rows.items ≡ (all_open q c.keep_others.new.rows.items && all_open q c.in_ok-more.more.items) = rw c.as_slice-3.ensures.value at (c.in_ok-add_all.ensures.«open» q) in
-      all ∙ ap (λ r. all_open q r && all_open q c.in_ok-more.more.items) c.keep_others.ensures ∙ ap (λ b. all_open q (filter (is_zero x) rows) && b) new
-      ∙ sym (any_and n (all_open q (filter (is_zero x) rows)) (λ v. all_open (set q x (Some v)) (filter (mentions x) rows)))
-      ∙ any_same n _ _ (λ v. sym (split q (set q x (Some v)) (mentions x) (is_zero x) (λ r. not_not (is_zero x r)) (λ r e. row_open-unnamed q r x v e) rows));
+      let new : all_unfalsified q c.in_ok-more.more.items ≡ any_below n (λ v. all_unfalsified (set q x (Some v)) (filter (mentions x) rows)) = rw with at (c.in_ok-more.ensures.unfalsified q w) in
+      let all : all_unfalsified q c.add_all.new.rows.items ≡ (all_unfalsified q c.keep_others.new.rows.items && all_unfalsified q c.in_ok-more.more.items) = rw c.as_slice-3.ensures.value at (c.in_ok-add_all.ensures.unfalsified q) in
+      all ∙ ap (λ r. all_unfalsified q r && all_unfalsified q c.in_ok-more.more.items) c.keep_others.ensures ∙ ap (λ b. all_unfalsified q (filter (is_zero x) rows) && b) new
+      ∙ sym (any_and n (all_unfalsified q (filter (is_zero x) rows)) (λ v. all_unfalsified (set q x (Some v)) (filter (mentions x) rows)))
+      ∙ any_same n _ _ (λ v. sym (split q (set q x (Some v)) (mentions x) (is_zero x) (λ r. not_not (is_zero x r)) (λ r e. row_unfalsified-unnamed q r x v e) rows));
 }

@@ -1,7 +1,7 @@
 use Rattle.std.proofs.Common.{get_or, sym, subst, ◌≡◌, ◌∙◌, true}
 use Rattle.std.specs.List.{list_all}
-use Rattle.elimination.specs.Rows.{is_zero}
-use Rattle.elimination.proofs.ProjectLemmas.{unnamed_open, unnamed_zero}
+use Rattle.elimination.specs.DenseClauses.{is_zero}
+use Rattle.elimination.proofs.ProjectionExact.{unnamed_unfalsified, unnamed_zero}
 use Rattle.elimination.proofs.projection.project_one.Goals as goal
 
 pub returns-then-are_unnamed : goal.returns-then-are_unnamed
@@ -12,5 +12,5 @@ returns-then-are_unnamed c =
     record {
       wide = c.requires.wide;
       zero = λ y h. unnamed_zero x y rows unnamed h;
-      «open» = λ q w. unnamed_open (get_or c.args.sizes.now x 0) x q rows c.if-sizes-x-gt0.true unnamed;
+      unfalsified = λ q w. unnamed_unfalsified (get_or c.args.sizes.now x 0) x q rows c.if-sizes-x-gt0.true unnamed;
     }

@@ -1,8 +1,8 @@
 use Rattle.std.proofs.Common.{arith, length, ◌≡◌, ◌<◌, ◌≤◌, ◌+◌, ◌-◌, ◌⊎◌, inl, inr, refl, sym, subst, ℕ, true}
 use Rattle.std.specs.List.{list_all}
 use Rattle.elimination.specs.Partial.{Partial, IsWithin, HasOutside}
-use Rattle.elimination.specs.Rows.{all_open, is_zero, CanMeet}
-use Rattle.elimination.proofs.ProjectLemmas.{IsProjected, sound_step, complete_step, start_sound, start_complete, zeros_past_end, all_stay, all_come}
+use Rattle.elimination.specs.DenseClauses.{all_unfalsified, is_zero, CanMeet}
+use Rattle.elimination.proofs.ProjectionExact.{IsProjected, sound_step, complete_step, start_sound, start_complete, zeros_past_end, all_stay, all_come}
 use Rattle.elimination.proofs.projection.project_rows.Goals as goal
 
 pub loop-x-init : goal.loop-x-init
@@ -26,9 +26,9 @@ loop-x-preserved c =
     let before = c.loop-x.rows.items in
     let more = c.project_one.new.rows.items in
     let inside : x < n = omega (arith, next, c.loop-x.auto.x) in
-    let projected : IsProjected sizes x before more = λ q w. c.in_ok-project_one.ensures.«open» q w in
-    let sound = subst (λ t. (a : Partial) → IsWithin sizes a → HasOutside t n a → all_open a before ≡ true → CanMeet sizes rows t n a) next c.loop-x.invariant.sound in
-    let complete = subst (λ t. (a : Partial) → IsWithin sizes a → CanMeet sizes rows t n a → all_open a before ≡ true) next c.loop-x.invariant.complete in
+    let projected : IsProjected sizes x before more = λ q w. c.in_ok-project_one.ensures.unfalsified q w in
+    let sound = subst (λ t. (a : Partial) → IsWithin sizes a → HasOutside t n a → all_unfalsified a before ≡ true → CanMeet sizes rows t n a) next c.loop-x.invariant.sound in
+    let complete = subst (λ t. (a : Partial) → IsWithin sizes a → CanMeet sizes rows t n a → all_unfalsified a before ≡ true) next c.loop-x.invariant.complete in
     record {
       above = omega (arith, c.loop-x-test.true);
       wide = c.in_ok-project_one.ensures.wide;

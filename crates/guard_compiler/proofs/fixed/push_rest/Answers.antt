@@ -6,8 +6,8 @@ use mathlib.Core.Bool.{and-true}
 use Rattle.clause_form.specs.declared.clause.Clause.{Clause}
 use Rattle.clause_form.specs.declared.clause.Literal.{Literal}
 use Rattle.clause_form.specs.Clauses.{all_met, is_met, meets}
-use Rattle.elimination.proofs.RowLemmas.{unless_always}
-use Rattle.guard_compiler.proofs.FixedLemmas.{met_with, is_made_true, is_other}
+use Rattle.elimination.proofs.DenseClauseLaws.{unless_always}
+use Rattle.guard_compiler.proofs.ConditionedClauses.{met_with, is_made_true, is_other}
 use Rattle.guard_compiler.proofs.fixed.push_rest.Goals as goal
 
 pub returns-then-is_made_true-clause-met : goal.returns-then-is_made_true-clause-met

@@ -1,9 +1,9 @@
 use Rattle.std.proofs.Common.{arith, ◌∙◌, ◌<◌, ◌&&◌, length, ap, sym, set, subst, take}
 use Rattle.std.specs.Prelude.{All}
+use Rattle.std.proofs.lemmas.List.Folds.{list_all_more}
 use Rattle.clause_form.specs.declared.clause.Clause.{Clause}
 use Rattle.clause_form.specs.declared.clause.Literal.{Literal}
 use Rattle.clause_form.specs.Clauses.{all_met, meets}
-use Rattle.elimination.proofs.RowLemmas.{list_all_step}
 use Rattle.guard_compiler.proofs.fixed.with_value.Goals as goal
 
 pub loop-clause-preserved : goal.loop-clause-preserved
@@ -19,5 +19,5 @@ loop-clause-preserved c =
       met = λ xs h.
           let there = set xs c.args.subject c.args.value in
           c.in_ok-push_rest.ensures.met xs (omega (arith, c.requires.subject, h)) ∙ ap (λ b. b && meets there clause) (c.loop-clause.invariant.met xs h)
-          ∙ ap (λ z. all_met there (take i items) && meets there z) c.clause-item.is ∙ sym (list_all_step (meets there) items i clause inside);
+          ∙ ap (λ z. all_met there (take i items) && meets there z) c.clause-item.is ∙ sym (list_all_more (meets there) items i clause inside);
     }

@@ -1,6 +1,6 @@
 use Rattle.std.proofs.Common.{◌≡◌, take}
 use Rattle.std.specs.List.{filter}
-use Rattle.guard_compiler.proofs.FixedLemmas.{is_other}
+use Rattle.guard_compiler.proofs.ConditionedClauses.{is_other}
 use Rattle.guard_compiler.proofs.fixed.without.Given as goal
 
 abbrev pub invariant-loop-literal : goal.invariant-loop-literal

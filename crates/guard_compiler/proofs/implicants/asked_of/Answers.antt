@@ -2,7 +2,7 @@ use Rattle.std.proofs.Common.{List, length, ap, subst, sym, ◌∙◌}
 use Rattle.guard_compiler.specs.Relevant.{IsWithRelevant}
 use Rattle.guard_compiler.specs.Rules.{AreRulesBelow}
 use Rattle.guard_compiler.specs.declared.rules.RuleClause.{RuleClause}
-use Rattle.guard_compiler.proofs.AskedLemmas.{asked, same_subjects}
+use Rattle.guard_compiler.proofs.AskedOfState.{asked, same_subjects}
 use Rattle.guard_compiler.proofs.implicants.asked_of.Goals as goal
 
 pub with_relevant-requires-clause-rules : goal.with_relevant-requires-clause-rules

@@ -3,7 +3,7 @@ use Rattle.cca_base.specs.Accepted.{AreWays}
 use Rattle.cca_base.specs.declared.limits.TheConstants.{MAX_WAYS}
 use Rattle.guard_compiler.specs.Ways.{HasManyWays}
 use Rattle.cca_base.proofs.Members.{some_inj}
-use Rattle.guard_compiler.proofs.MeaningLemmas.{AreSteps, move_of, guard_within, component_inside, states_of, all_ways, many_ways, not_many}
+use Rattle.guard_compiler.proofs.WaysMeaning.{AreSteps, move_of, guard_within, component_inside, states_of, all_ways, many_ways, not_many}
 use Rattle.guard_compiler.proofs.implicants.ways_of.Goals as goal
 
 pub asked_of-requires-clause-guard : goal.asked_of-requires-clause-guard

@@ -2,7 +2,7 @@ use Rattle.std.proofs.Common.{◌≡◌, ◌<◌, ◌≤◌, ◌∙◌, true, Al
 use Rattle.std.proofs.lemmas.List.{take_all}
 use Rattle.clause_form.specs.declared.clause.Literal.{Literal}
 use Rattle.cca_base.specs.Flags.{is_set}
-use Rattle.guard_compiler.proofs.MarkLemmas.{marked_new, marked_old}
+use Rattle.guard_compiler.proofs.MarkLaws.{marked_new, marked_old}
 use Rattle.guard_compiler.proofs.marks.mark.Goals.{then-literal-components+then-not-marks-at, else-literal-components, else-literal-components-via-then-literal-components+else-not-marks-at, else-literal-components-via-else-literal-components}
 use Rattle.guard_compiler.proofs.marks.mark.Goals as goal
 

@@ -1,4 +1,4 @@
-use Rattle.guard_compiler.proofs.MarkLemmas.{IsMarkedTo}
+use Rattle.guard_compiler.proofs.MarkLaws.{IsMarkedTo}
 use Rattle.guard_compiler.proofs.marks.mark.Given as goal
 
 abbrev pub invariant-loop-literal : goal.invariant-loop-literal

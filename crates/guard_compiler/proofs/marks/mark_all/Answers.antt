@@ -2,7 +2,7 @@ use Rattle.std.proofs.Common.{All, subst}
 use Rattle.std.proofs.lemmas.List.{take_all}
 use Rattle.cca_base.specs.Flags.{is_set}
 use Rattle.guard_compiler.specs.Naming.{IsOver}
-use Rattle.guard_compiler.proofs.MarkLemmas.{all_marked_more}
+use Rattle.guard_compiler.proofs.MarkLaws.{all_marked_more}
 use Rattle.guard_compiler.proofs.marks.mark_all.Goals as goal
 
 pub loop-clause-preserved : goal.loop-clause-preserved

@@ -1,4 +1,4 @@
-use Rattle.guard_compiler.proofs.MarkLemmas.{AreMarkedTo}
+use Rattle.guard_compiler.proofs.MarkLaws.{AreMarkedTo}
 use Rattle.guard_compiler.proofs.marks.mark_all.Given as goal
 
 abbrev pub invariant-loop-clause : goal.invariant-loop-clause

@@ -1,5 +1,5 @@
 use Rattle.std.proofs.Common.{◌∙◌, sym}
-use Rattle.guard_compiler.proofs.MarkLemmas.{one_rule_below, spread_no, spread_new, spread_same, spread_all}
+use Rattle.guard_compiler.proofs.MarkLaws.{one_rule_below, spread_no, spread_new, spread_same, spread_all}
 use Rattle.guard_compiler.proofs.marks.spread.Goals.{then-bears+then-mark, else-bears, else-bears-via-then-bears+else-mark, else-bears-via-else-bears}
 use Rattle.guard_compiler.proofs.marks.spread.Goals as goal
 

@@ -1,4 +1,4 @@
-use Rattle.guard_compiler.proofs.MarkLemmas.{IsSpreadTo}
+use Rattle.guard_compiler.proofs.MarkLaws.{IsSpreadTo}
 use Rattle.guard_compiler.proofs.marks.spread.Given as goal
 
 abbrev pub invariant-loop-rule : goal.invariant-loop-rule

@@ -6,7 +6,7 @@ use Rattle.clause_form.specs.declared.clause.Clause.{Clause}
 use Rattle.clause_form.specs.Clauses.{AreValues, AreBelow, AllBelow, all_met}
 use Rattle.guard_compiler.specs.Naming.{names_one}
 use Rattle.guard_compiler.specs.Shared.{AreSharedOut, owned_by}
-use Rattle.guard_compiler.proofs.SharedLemmas.{shared_more, fewer_named, empty}
+use Rattle.guard_compiler.proofs.SharedClauses.{shared_more, fewer_named, empty}
 use Rattle.guard_compiler.proofs.owners.share.Goals as goal
 
 pub project_subject-requires-clause-clauses : goal.project_subject-requires-clause-clauses

@@ -1,6 +1,6 @@
 use Rattle.std.proofs.Common.{◌≡◌, ◌<◌, List, MatchBool, length, subst, sym}
 use Rattle.clause_form.specs.declared.clause.Clause.{Clause}
-use Rattle.guard_compiler.proofs.SharedLemmas.{fewer_still}
+use Rattle.guard_compiler.proofs.SharedClauses.{fewer_still}
 use Rattle.guard_compiler.proofs.owners.share_round.Goals.{then-branch, else-branch}
 use Rattle.guard_compiler.proofs.owners.share_round.Goals as goal
 

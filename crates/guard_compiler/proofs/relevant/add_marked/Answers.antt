@@ -1,4 +1,4 @@
-use Rattle.guard_compiler.proofs.MarkLemmas.{keeps_same, one_rule_below}
+use Rattle.guard_compiler.proofs.MarkLaws.{keeps_same, one_rule_below}
 use Rattle.guard_compiler.proofs.relevant.add_marked.Goals as goal
 
 pub bears-requires-clause-below : goal.bears-requires-clause-below

@@ -1,7 +1,7 @@
 use Rattle.std.proofs.Common.{◌≡◌, ◌++◌, Bool, All, List, length, take, drop, sym, subst}
+use Rattle.list_laws.proofs.Elements.{written_back}
 use Rattle.cca_base.specs.Flags.{is_set}
 use Rattle.guard_compiler.specs.Naming.{IsOver}
-use Rattle.guard_compiler.proofs.MarkLemmas.{written_back}
 use Rattle.guard_compiler.proofs.relevant.guard_marks.Goals as goal
 
 pub returns-clause-over : goal.returns-clause-over

@@ -3,7 +3,7 @@ use Rattle.std.proofs.lemmas.Result.{IfOk-weaker}
 use Rattle.clause_form.specs.declared.clause.Clause.{Clause}
 use Rattle.guard_compiler.specs.Rules.{AreRulesOf}
 use Rattle.guard_compiler.specs.Shared.{AreShared}
-use Rattle.guard_compiler.proofs.SharedLemmas.{are_rules}
+use Rattle.guard_compiler.proofs.SharedClauses.{are_rules}
 use Rattle.guard_compiler.proofs.rules.rules_of.Goals as goal
 
 pub returns : goal.returns

@@ -2,7 +2,7 @@ use Rattle.std.proofs.Common.{◌≡◌, ◌++◌, ◌∙◌, List, arith, lengt
 use Rattle.clause_form.specs.Clauses.{AllBelow}
 use Rattle.clause_form.specs.declared.clause.Clause.{Clause}
 use Rattle.guard_compiler.specs.Shared.{AreShared, AreSharedOut, unowned}
-use Rattle.guard_compiler.proofs.SharedLemmas.{shared_none}
+use Rattle.guard_compiler.proofs.SharedClauses.{shared_none}
 use Rattle.guard_compiler.proofs.rules.shared_out.Goals as goal
 
 pub rounds-init : goal.rounds-init

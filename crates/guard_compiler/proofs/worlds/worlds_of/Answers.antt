@@ -2,8 +2,8 @@ use Rattle.std.proofs.Common.{◌++◌, ◌∙◌, ℕ, List, length, filter, ap
 use Rattle.cca_base.specs.Model.{mode_counts, value_counts}
 use Rattle.clause_form.specs.Clauses.{AllBelow}
 use Rattle.guard_compiler.specs.Rules.{clauses_in, is_unowned}
-use Rattle.guard_compiler.proofs.AskedLemmas.{chosen_below}
-use Rattle.guard_compiler.proofs.WorldLemmas.{worlds_of_rules}
+use Rattle.guard_compiler.proofs.AskedOfState.{chosen_below}
+use Rattle.guard_compiler.proofs.WorldsOfStates.{worlds_of_rules}
 use Rattle.guard_compiler.proofs.worlds.worlds_of.Goals as goal
 
 pub project-requires-clause-clauses : goal.project-requires-clause-clauses

@@ -2,12 +2,12 @@ use Rattle.std.proofs.Common.{◌≡◌, ℕ, List, Some, map, Bor, sym, ap, sub
 use Rattle.std.specs.Prelude.{nat_eq, is_some, unwrap_or}
 use Rattle.std.specs.Cmp.Lexicographic.{pointwise}
 use Rattle.indexmap.specs.IndexMap.{Updates}
-use Rattle.cca_base.specs.declared.formula.Subject.TheVariants.{Component}
-use Rattle.cca_base.specs.declared.model.Component.{Component as Part}
-use Rattle.model_syntax.specs.Lookups.{subject_of}
+use Rattle.cca_base.specs.declared.formula.Subject.TheVariants as subjects
+use Rattle.cca_base.specs.declared.model.Component.{Component}
+use Rattle.formula_syntax.specs.Lookups.{subject_of}
 use Rattle.model_syntax.specs.Codes.{start_mode}
-use Rattle.model_syntax.proofs.NamesLemmas.{unchanged_fits, component_named}
-use Rattle.model_syntax.proofs.AdditionLemmas.{may_be_component, component_is_kept, start_found, short_name, few_choices}
+use Rattle.model_syntax.proofs.NamesInGrowth.{unchanged_fits, component_named}
+use Rattle.model_syntax.proofs.AddedParts.{may_be_component, component_is_kept, start_found, short_name, few_choices}
 use Rattle.model_syntax.proofs.additions.add_component.Goals as goal
 
 abbrev words : List (Bor (List ℕ)) → List (List ℕ)
@@ -41,9 +41,9 @@ add_component-requires c =
 pub returns-clause-fit : goal.returns-clause-fit
 returns-clause-fit c q =
     let m = c.args.model.now in
-    let x : Part = record { name = c.of-name.result; modes = c.in_ok-modes.modes; start = c.unwrap-start.result } in
+    let x : Component = record { name = c.of-name.result; modes = c.in_ok-modes.modes; start = c.unwrap-start.result } in
     let fit = unchanged_fits c.args.names.now c.reserve.new.self m c.reserve.ensures.entries c.requires.fit in
     let free = (may_be_component m c.args.name.now (words c.args.modes.now) c.args.start.now c.requires.code).free in
-    let updates = subst (λ n. Updates (pointwise nat_eq) c.reserve.new.self c.insert_name.new.names c.of-name.result (Some (Component n))) c.component_count-number.ensures.count c.insert_name.ensures in
+    let updates = subst (λ n. Updates (pointwise nat_eq) c.reserve.new.self c.insert_name.new.names c.of-name.result (Some (subjects.Component n))) c.component_count-number.ensures.count c.insert_name.ensures in
     component_named c.reserve.new.self c.insert_name.new.names m x fit (ap (subject_of m) c.of-name.ensures ∙ free) updates q
     ∙ ap (λ n. subject_of n q) (sym c.in_ok-add_component.ensures.ok)

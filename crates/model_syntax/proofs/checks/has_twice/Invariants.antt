@@ -1,5 +1,5 @@
 use Rattle.std.proofs.Common.{◌≡◌, drop, map}
-use Rattle.model_syntax.specs.Meanings.{has_twice}
+use Rattle.formula_syntax.specs.Meanings.{has_twice}
 use Rattle.model_syntax.proofs.checks.has_twice.Given as goal
 
 -- no word so far stands twice

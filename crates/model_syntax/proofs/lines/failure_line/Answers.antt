@@ -1,7 +1,7 @@
 use Rattle.std.proofs.Common.{◌<◌, ◌^◌, sym, subst, refl, arith}
 use Rattle.model_syntax.specs.Items.{shown_ends}
 use Rattle.model_syntax.specs.Lines.{Goes, IsNextOfNumber, failure_next}
-use Rattle.model_syntax.proofs.FailureLemmas.{failure_unknown, failure_limit, failure_added, failure_well_formed}
+use Rattle.model_syntax.proofs.FailureLines.{failure_unknown, failure_limit, failure_added, failure_well_formed}
 use Rattle.model_syntax.proofs.lines.failure_line.Goals as goal
 
 pub returns-in_default-ends_of-clause-next : goal.returns-in_default-ends_of-clause-next

@@ -1,5 +1,5 @@
 use Rattle.std.proofs.Common.{sym}
-use Rattle.model_syntax.proofs.MoveLemmas.{may_move, old_move_kept}
+use Rattle.model_syntax.proofs.GrowthByMove.{may_move, old_move_kept}
 use Rattle.model_syntax.proofs.moves.add_declared.Goals as goal
 
 pub add_move-requires : goal.add_move-requires

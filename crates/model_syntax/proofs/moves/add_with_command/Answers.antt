@@ -4,9 +4,9 @@ use Rattle.std.specs.Cmp.Lexicographic.{pointwise}
 use Rattle.std.proofs.lemmas.List.{length_push}
 use Rattle.indexmap.specs.IndexMap.{Updates}
 use Rattle.cca_base.specs.Model.{is_used, with_command, without_last_command, with_move}
-use Rattle.model_syntax.specs.Lookups.{place_of}
-use Rattle.model_syntax.proofs.AdditionLemmas.{short_name}
-use Rattle.model_syntax.proofs.MoveLemmas.{may_move, new_command_kept, new_move_kept, number_new, unused_last, command_taken_back, command_numbered, unchanged_numbers}
+use Rattle.formula_syntax.specs.Lookups.{place_of}
+use Rattle.model_syntax.proofs.AddedParts.{short_name}
+use Rattle.model_syntax.proofs.GrowthByMove.{may_move, new_command_kept, new_move_kept, number_new, unused_last, command_taken_back, command_numbered, unchanged_numbers}
 use Rattle.model_syntax.proofs.moves.add_with_command.Goals as goal
 
 pub of-name-requires : goal.of-name-requires

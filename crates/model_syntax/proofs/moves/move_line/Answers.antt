@@ -1,10 +1,10 @@
-use Rattle.std.proofs.Common.{map, ◌∙◌, refl}
+use Rattle.std.proofs.Common.{true, map, ◌∙◌, refl}
 use Rattle.text_base.specs.Lexemes.{lexeme_of}
 use Rattle.model_syntax.specs.Items.{shown_ends}
 use Rattle.model_syntax.specs.Lines.{IsNextOfText, move_next}
-use Rattle.model_syntax.proofs.NamesLemmas.{same_names}
-use Rattle.model_syntax.proofs.ReadLemmas.{sound_is_formula}
-use Rattle.model_syntax.proofs.MoveReadLemmas.{answers_weaker, ends_unknown, guard_faulty, guard_sound}
+use Rattle.model_syntax.proofs.NamesInGrowth.{same_names}
+use Rattle.formula_syntax.proofs.SoundReadings.{sound_is_formula}
+use Rattle.model_syntax.proofs.MoveLines.{answers_weaker, ends_unknown, guard_faulty, guard_sound}
 use Rattle.model_syntax.proofs.moves.move_line.Goals as goal
 
 pub returns-in_default-ends_of-clause-next : goal.returns-in_default-ends_of-clause-next
@@ -18,7 +18,7 @@ returns-in_default-ends_of-clause-next c =
 pub take_move-requires-clause-guard : goal.take_move-requires-clause-guard
 take_move-requires-clause-guard c =
     let h = rw (c.in-Some.is, c.in-Sound.is) at c.in_ok-reading.ensures in
-    sound_is_formula c.args.model.now (map lexeme_of c.args.guard.now) c.in-Sound.formula _ h
+    sound_is_formula true c.args.model.now (map lexeme_of c.args.guard.now) c.in-Sound.formula _ h
 
 pub returns-in-Faulty-clause-next : goal.returns-in-Faulty-clause-next
 returns-in-Faulty-clause-next c =

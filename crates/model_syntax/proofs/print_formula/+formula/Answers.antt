@@ -2,17 +2,17 @@ use Rattle.model_syntax.specs.Printing.{said, part_said, formula_said}
 use Rattle.std.proofs.Common.{codes, ap, sym, ◌∙◌}
 use Rattle.cca_base.specs.declared.formula.Formula.TheVariants.{Implies, Iff}
 use Rattle.text_base.specs.Lexemes.{word}
-use Rattle.model_syntax.proofs.PrintLemmas.{bare_done, enclosed_done, formulas_go_on, linked_done, implies_said, iff_said}
+use Rattle.model_syntax.proofs.PrintedTokens.{bare_done, enclosed_done, formulas_go_on, linked_done, implies_said, iff_said}
 use Rattle.model_syntax.proofs.print_formula.+formula.Goals as goal
 
-pub part-returns-then-loose-allowed : goal.part-returns-then-loose-allowed
-part-returns-then-loose-allowed t c =
-    bare_done c.args.out.now c.formula.new.out c.args.allowed c.loose.result (said c.args.model.now c.args.part.now) (c.loose.ensures c.args.model.now) c.if-loose-allowed.true c.in_ok-formula.ensures
+pub part-returns-then-precedence-allowed : goal.part-returns-then-precedence-allowed
+part-returns-then-precedence-allowed t c =
+    bare_done c.args.out.now c.formula.new.out c.args.allowed c.precedence.result (said c.args.model.now c.args.part.now) (c.precedence.ensures c.args.model.now) c.if-precedence-allowed.true c.in_ok-formula.ensures
 
 pub part-returns : goal.part-returns
 part-returns t c =
-    enclosed_done c.args.out.now c.symbol.new.self c.formula-2.new.out c.symbol-2.new.self c.args.allowed c.loose.result (said c.args.model.now c.args.part.now) (c.loose.ensures c.args.model.now)
-    c.if-loose-allowed.false c.in_ok-symbol.ensures c.in_ok-formula-2.ensures c.in_ok-symbol-2.ensures
+    enclosed_done c.args.out.now c.symbol.new.self c.formula-2.new.out c.symbol-2.new.self c.args.allowed c.precedence.result (said c.args.model.now c.args.part.now) (c.precedence.ensures c.args.model.now)
+    c.if-precedence-allowed.false c.in_ok-symbol.ensures c.in_ok-formula-2.ensures c.in_ok-symbol-2.ensures
 
 pub formula-loop-k-preserved : goal.formula-loop-k-preserved
 formula-loop-k-preserved t c =

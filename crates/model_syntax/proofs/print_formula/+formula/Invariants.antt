@@ -1,7 +1,7 @@
 use Rattle.std.proofs.Common.{◌≡◌, codes, drop, map}
 use Rattle.model_syntax.specs.Printing.{said, formula_said}
 use Rattle.model_syntax.specs.Drafts.{with_tokens}
-use Rattle.model_syntax.proofs.PrintLemmas.{parts_from}
+use Rattle.model_syntax.proofs.PrintedTokens.{parts_from}
 use Rattle.model_syntax.proofs.print_formula.+formula.Given as goal
 
 -- with what is left, the formula is whole

@@ -1,4 +1,4 @@
-use Rattle.model_syntax.proofs.PrintLemmas.{list_begun}
+use Rattle.model_syntax.proofs.PrintedTokens.{list_begun}
 use Rattle.model_syntax.proofs.print_names.list.Goals as goal
 
 pub loop-name-init : goal.loop-name-init

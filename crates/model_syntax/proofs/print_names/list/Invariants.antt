@@ -1,7 +1,7 @@
 use Rattle.std.proofs.Common.{◌≡◌, drop}
 use Rattle.model_syntax.specs.Items.{list_spelled}
 use Rattle.model_syntax.specs.Drafts.{with_tokens}
-use Rattle.model_syntax.proofs.PrintLemmas.{commas}
+use Rattle.model_syntax.proofs.PrintedTokens.{commas}
 use Rattle.model_syntax.proofs.print_names.list.Given as goal
 
 -- with what is left, the list is whole

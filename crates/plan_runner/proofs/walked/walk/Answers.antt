@@ -1,7 +1,7 @@
 use Rattle.std.proofs.Common.{◌≡◌, ◌++◌, ◌∷◌, [], ◌∙◌, ℕ, List, length, refl, sym, ap, subst, arith, length-append}
 use Rattle.cca_base.specs.declared.limits.TheConstants.{MAX_PLAN}
 use Rattle.cca_base.specs.declared.cube.Pair.{Pair}
-use Rattle.cca_base.specs.Accepted.{CompiledParts}
+use Rattle.cca_base.specs.Accepted.{CompiledModel}
 use Rattle.cca_base.specs.Steps.{Step}
 use Rattle.cca_base.specs.Choice.{PicksForGoal}
 use Rattle.policy_tables.specs.Tables.{TableParts}
@@ -29,7 +29,7 @@ returns-then-len-eq-MAX_PLAN g c =
 pub walking-preserved : goal.walking-preserved
 walking-preserved g c =
     let t : TableParts = c.args.tables.now in
-    let b : CompiledParts = t.classes.compiled in
+    let b : CompiledModel = t.classes.compiled in
     let goal_pairs : List Pair = c.args.goal.now.pairs in
     let at : List ℕ = c.walking.at.modes in
     let next : List ℕ = c.send.new.state.modes in

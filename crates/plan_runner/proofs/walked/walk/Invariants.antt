@@ -1,6 +1,6 @@
 use Rattle.std.proofs.Common.{◌≤◌, ◌-◌, length}
 use Rattle.cca_base.specs.declared.limits.TheConstants.{MAX_PLAN}
-use Rattle.reversibility.specs.Parts.{CoversState}
+use Rattle.reversibility.specs.ClassParts.{CoversState}
 use Rattle.plan_runner.specs.Walked.{WholeTo}
 use Rattle.plan_runner.proofs.walked.walk.Given as goal
 

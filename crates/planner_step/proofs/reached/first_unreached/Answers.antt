@@ -26,7 +26,7 @@ loop-i-preserved g c = (
   All-more (λ p. Reach c.args.tables.now.classes.compiled.model c.args.state.now.modes p.item p.value) c.args.pairs.now c.loop-i.i none c.loop-i-test.true c.loop-i.invariant.0
       (reach_from c.args.tables.now c.classes-classes.ensures.tables c.args.state.now.modes c.requires.covers (get_or c.args.pairs.now c.loop-i.i none)
       (c.reaches.ensures.value.0 c.if-not-reaches.false)),
-  omega (arith, c.loop-i.invariant.1, c.reaches.ensures.steps),
+  (omega (arith, c.loop-i.invariant.1.0, c.reaches.ensures.steps), omega (arith, c.loop-i.invariant.1.1, c.reaches.ensures.steps)),
 )
 
 pub returns-clause-value : goal.returns-clause-value

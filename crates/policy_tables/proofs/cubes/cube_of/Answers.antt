@@ -3,11 +3,11 @@ use Rattle.std.proofs.lemmas.List.Elements.{All-contains}
 use Rattle.std.proofs.lemmas.Option.{slice_get_within, get_or_from_slice_get}
 use Rattle.std.proofs.lemmas.Result.{IfOk-weaker}
 use Rattle.cca_base.specs.declared.cube.Pair.{Pair}
-use Rattle.cca_base.specs.Accepted.{CompiledParts, IsCompiled, AreWays}
+use Rattle.cca_base.specs.Accepted.{CompiledModel, IsCompiled, AreWays}
 use Rattle.cca_base.specs.Orders.{IsSorted}
 use Rattle.cca_base.proofs.Members.{some_inj}
 use Rattle.reach_laws.specs.Classes.{Test, AreInside}
-use Rattle.reversibility.specs.Parts.{in_row}
+use Rattle.reversibility.specs.ClassParts.{in_row}
 use Rattle.reversibility.specs.Levels.{SomeInside}
 use Rattle.reversibility.proofs.OpenMoves.{open_to, cubes_within}
 use Rattle.policy_tables.specs.Leaving.{IsFirstInside, IsCubeOf}
@@ -16,7 +16,7 @@ use Rattle.policy_tables.proofs.cubes.cube_of.Goals as goal
 
 pub first_cube-requires : goal.first_cube-requires
 first_cube-requires c =
-    let b : CompiledParts = c.args.compiled.now in
+    let b : CompiledModel = c.args.compiled.now in
     let cubes : List (List Pair) = c.get-ways.result.now in
     let ways_at : slice_get b.ways c.args.number ≡ Some cubes = subst (λ l. slice_get l c.args.number ≡ Some cubes) c.ways.ensures.value c.get-ways.ensures.value in
     subst (All (λ cube. All (λ p. p.item < length c.args.rows.now) cube)) (sym c.as_slice.ensures)
@@ -24,7 +24,7 @@ first_cube-requires c =
 
 pub unreachable-requires : goal.unreachable-requires
 unreachable-requires c =
-    let b : CompiledParts = c.args.compiled.now in
+    let b : CompiledModel = c.args.compiled.now in
     let member : Test = in_row c.args.rows.now in
     let cubes : List (List Pair) = c.get-ways.result.now in
     let ways_at : slice_get b.ways c.args.number ≡ Some cubes = subst (λ l. slice_get l c.args.number ≡ Some cubes) c.ways.ensures.value c.get-ways.ensures.value in
@@ -39,7 +39,7 @@ get-requires c =
 
 pub effects_first-requires : goal.effects_first-requires
 effects_first-requires c =
-    let b : CompiledParts = c.args.compiled.now in
+    let b : CompiledModel = c.args.compiled.now in
     let cubes : List (List Pair) = c.get-ways.result.now in
     let way = c.in-Some.way in
     let cube : List Pair = c.get.result.now in
@@ -50,7 +50,7 @@ effects_first-requires c =
 
 pub returns : goal.returns
 returns c =
-    let b : CompiledParts = c.args.compiled.now in
+    let b : CompiledModel = c.args.compiled.now in
     let is : IsCompiled b = c.ways.ensures.compiled in
     let member : Test = in_row c.args.rows.now in
     let cubes : List (List Pair) = c.get-ways.result.now in

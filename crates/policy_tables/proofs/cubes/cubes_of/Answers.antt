@@ -1,5 +1,5 @@
 use Rattle.std.proofs.Common.{◌+◌, sym, subst}
-use Rattle.reversibility.specs.Parts.{in_row}
+use Rattle.reversibility.specs.ClassParts.{in_row}
 use Rattle.policy_tables.specs.Leaving.{AreCubesTo}
 use Rattle.policy_tables.proofs.Leavers.{cubes_next}
 use Rattle.policy_tables.proofs.cubes.cubes_of.Goals as goal

@@ -1,5 +1,5 @@
 use Rattle.policy_tables.specs.Leaving.{AreCubesTo}
-use Rattle.reversibility.specs.Parts.{in_row}
+use Rattle.reversibility.specs.ClassParts.{in_row}
 use Rattle.policy_tables.proofs.cubes.cubes_of.Given as goal
 
 abbrev pub invariant-loop-k : goal.invariant-loop-k

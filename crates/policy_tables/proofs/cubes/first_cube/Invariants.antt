@@ -1,6 +1,6 @@
 use Rattle.std.proofs.Common.{take, All}
 use Rattle.reach_laws.specs.Classes.{AreInside}
-use Rattle.reversibility.specs.Parts.{in_row}
+use Rattle.reversibility.specs.ClassParts.{in_row}
 use Rattle.policy_tables.proofs.cubes.first_cube.Given as goal
 
 abbrev pub invariant-loop-i : goal.invariant-loop-i

@@ -2,13 +2,13 @@ use Rattle.std.proofs.Common.{◌≡◌, ◌<◌, ◌≤◌, ◌-◌, ◌∙◌,
 use Rattle.std.proofs.lemmas.Option.{slice_get_within, get_or_from_slice_get}
 use Rattle.cca_base.specs.declared.cube.Pair.{Pair}
 use Rattle.cca_base.specs.declared.limits.TheConstants.{MAX_CHOICES}
-use Rattle.cca_base.specs.Automata.{Automata}
+use Rattle.cca_base.specs.PlantModel.{PlantModel}
 use Rattle.cca_base.specs.Model.{WellFormed, mode_counts}
 use Rattle.cca_base.specs.Sets.{has}
 use Rattle.reach_laws.specs.Cells.{IsShortest, IsStep}
 use Rattle.reach_laws.specs.Classes.{Test, OpenMove}
 use Rattle.reversibility.specs.Levels.{AreMovesWithin, IsLevel, AreLevelsOf}
-use Rattle.reversibility.specs.Parts.{ClassParts, in_row}
+use Rattle.reversibility.specs.ClassParts.{ClassParts, in_row}
 use Rattle.reversibility.proofs.Standing.{modes_few}
 use Rattle.policy_tables.specs.Distances.{NearAt, IsFirstPlace, IsFirstNear}
 use Rattle.policy_tables.specs.Leaving.{IsCubeOf, AreLeaving}
@@ -39,7 +39,7 @@ get-requires c =
     omega (arith, slice_get_within c.args.paths.now.levels c.in-Some.left first.level first.at)
 
 -- the level of one move less, and the moves that leave
-module _ (m : Automata) (w : WellFormed m) (member : Test) (c : ℕ) (model : Automata) (same : model ≡ m) (levels : List (List ℕ)) (of : AreLevelsOf m member c levels) (k : ℕ) (level slice : List ℕ)
+module _ (m : PlantModel) (w : WellFormed m) (member : Test) (c : ℕ) (model : PlantModel) (same : model ≡ m) (levels : List (List ℕ)) (of : AreLevelsOf m member c levels) (k : ℕ) (level slice : List ℕ)
     (at : slice_get levels k ≡ Some level) (slice_is : slice ≡ level) where
   level_is : IsLevel (OpenMove m member c) (slice_index (mode_counts m) c) k slice
   level_is = subst (IsLevel (OpenMove m member c) (slice_index (mode_counts m) c) k) (sym slice_is) (of.each k level at)
@@ -48,7 +48,7 @@ module _ (m : Automata) (w : WellFormed m) (member : Test) (c : ℕ) (model : Au
   moves_within from numbers list are list_is =
       subst (λ n. AreMovesWithin model n list) (sym level_is.full)
       (subst (AreMovesWithin model (slice_index (mode_counts m) c)) (sym list_is)
-      (subst (λ (z : Automata). AreMovesWithin z (slice_index (mode_counts m) c) numbers) (sym same) (leaving_within m w member c from numbers are)))
+      (subst (λ (z : PlantModel). AreMovesWithin z (slice_index (mode_counts m) c) numbers) (sym same) (leaving_within m w member c from numbers are)))
 
 pub first_near-requires : goal.first_near-requires
 first_near-requires c =
@@ -59,13 +59,13 @@ first_near-requires c =
     c.args.leaving.now.mode c.args.leaving.now.numbers c.as_slice.result.now c.requires.leaving.numbers c.as_slice.ensures
 
 -- what is left after the next move
-rest_is : (m : Automata) (member : Test) (c from to left : ℕ) → IsShortest m member c from to left → 0 < left → IsShortest m member c from to (suc (left - 1))
+rest_is : (m : PlantModel) (member : Test) (c from to left : ℕ) → IsShortest m member c from to left → 0 < left → IsShortest m member c from to (suc (left - 1))
 rest_is m member c from to left short some = let e : left ≡ suc (left - 1) = omega (arith, some) in subst (IsShortest m member c from to) e short
 
 pub unreachable-requires-in_default-first_near : goal.unreachable-requires-in_default-first_near
 unreachable-requires-in_default-first_near c =
     let p : ClassParts = c.args.classes.now in
-    let m : Automata = p.compiled.model in
+    let m : PlantModel = p.compiled.model in
     let member : Test = in_row p.rows in
     let d : ℕ = c.args.leaving.now.component in
     let from : ℕ = c.args.leaving.now.mode in
@@ -78,19 +78,19 @@ unreachable-requires-in_default-first_near c =
     let there = near_place m w member d from c.args.leaving.now.numbers c.requires.leaving.numbers level c.args.to leads.0 leads.1 in
     c.in_default-first_near.ensures there.0 (subst (λ l. there.0 < length l) (sym c.as_slice.ensures) there.1)
     (subst (λ l. NearAt c.model-model.result.now l level c.args.to there.0) (sym c.as_slice.ensures)
-    (subst (λ (z : Automata). NearAt z c.args.leaving.now.numbers level c.args.to there.0) (sym (c.model-model.ensures.value ∙ ap (λ z. z.model) c.compiled.ensures.value)) there.2))
+    (subst (λ (z : PlantModel). NearAt z c.args.leaving.now.numbers level c.args.to there.0) (sym (c.model-model.ensures.value ∙ ap (λ z. z.model) c.compiled.ensures.value)) there.2))
 
 pub get-requires-2 : goal.get-requires-2
 get-requires-2 c =
     let p : ClassParts = c.args.classes.now in
-    let m : Automata = p.compiled.model in
+    let m : PlantModel = p.compiled.model in
     let d : ℕ = c.args.leaving.now.component in
     let numbers : List ℕ = c.args.leaving.now.numbers in
     let place : ℕ = c.in-Some-first_near.place in
     let number_is : slice_index numbers place ≡ c.get-number.result.now = get_or_from_slice_get numbers place c.get-number.result.now 0 c.get-number.ensures.value in
     let w : WellFormed m = c.class.ensures.classes.compiled.accepted.well_formed in
     let fits = leaving_within m w (in_row p.rows) d c.args.leaving.now.mode numbers c.requires.leaving.numbers place (slice_get_within numbers place c.get-number.result.now c.get-number.ensures.value) in
-    let moves_are = c.moves.ensures.value ∙ (ap (λ (z : Automata). z.moves) (c.model-model.ensures.value ∙ ap (λ z. z.model) c.compiled.ensures.value)) in
+    let moves_are = c.moves.ensures.value ∙ (ap (λ (z : PlantModel). z.moves) (c.model-model.ensures.value ∙ ap (λ z. z.model) c.compiled.ensures.value)) in
     omega (arith, slice_get_within m.moves (slice_index numbers place) fits.0 fits.1, number_is, ap length moves_are)
 
 pub overflow_cast-result : goal.overflow_cast-result
@@ -103,7 +103,7 @@ overflow_cast-result c =
 pub returns : goal.returns
 returns c =
     let p : ClassParts = c.args.classes.now in
-    let m : Automata = p.compiled.model in
+    let m : PlantModel = p.compiled.model in
     let member : Test = in_row p.rows in
     let d : ℕ = c.args.leaving.now.component in
     let from : ℕ = c.args.leaving.now.mode in
@@ -118,11 +118,11 @@ returns c =
     let level : List ℕ = c.as_slice-level.result.now in
     let is = level_is m w member d m refl c.args.paths.now.levels c.requires.paths.levels (c.in-Some.left - 1) c.get.result.now level c.get.ensures.value c.as_slice-level.ensures in
     let found : IsFirstPlace m numbers level c.args.to place =
-    subst (λ (z : Automata). IsFirstPlace z numbers level c.args.to place) (c.model-model.ensures.value ∙ ap (λ z. z.model) c.compiled.ensures.value)
+    subst (λ (z : PlantModel). IsFirstPlace z numbers level c.args.to place) (c.model-model.ensures.value ∙ ap (λ z. z.model) c.compiled.ensures.value)
     (subst (λ l. IsFirstPlace c.model-model.result.now l level c.args.to place) c.as_slice.ensures c.in-Some-first_near.ensures) in
     let number_is : slice_index numbers place ≡ number = get_or_from_slice_get numbers place number 0 c.get-number.ensures.value in
     let near = first_near m w member d from numbers c.requires.leaving.numbers level c.args.to place found in
-    let moves_are = c.moves.ensures.value ∙ (ap (λ (z : Automata). z.moves) (c.model-model.ensures.value ∙ ap (λ z. z.model) c.compiled.ensures.value)) in
+    let moves_are = c.moves.ensures.value ∙ (ap (λ (z : PlantModel). z.moves) (c.model-model.ensures.value ∙ ap (λ z. z.model) c.compiled.ensures.value)) in
     let move_at : slice_get m.moves number ≡ Some c.get-2.result.now = subst (λ l. slice_get l number ≡ Some c.get-2.result.now) moves_are c.get-2.ensures.value in
     let cube_is : slice_index_or cubes place [] ≡ c.in_ok-copy.field-0 = get_or_from_slice_get cubes place c.get-3.result.now [] c.get-3.ensures.value ∙ sym c.in_ok-copy.ensures in
     let cube : IsCubeOf p.compiled member number c.in_ok-copy.field-0 =

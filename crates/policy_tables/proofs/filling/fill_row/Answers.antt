@@ -1,7 +1,7 @@
 use Rattle.std.proofs.Common.{◌≡◌, ◌+◌, ◌*◌, ◌∙◌, ℕ, slice_get, slice_index, Some, sym, ap, subst, arith}
-use Rattle.cca_base.specs.Automata.{Automata}
+use Rattle.cca_base.specs.PlantModel.{PlantModel}
 use Rattle.cca_base.specs.Model.{mode_counts}
-use Rattle.reversibility.specs.Parts.{ClassParts}
+use Rattle.reversibility.specs.ClassParts.{ClassParts}
 use Rattle.reversibility.proofs.Standing.{mode_count}
 use Rattle.policy_tables.specs.Filling.{AreRightTo}
 use Rattle.policy_tables.proofs.Filled.{right_next, row_end}
@@ -10,7 +10,7 @@ use Rattle.policy_tables.proofs.filling.fill_row.Goals as goal
 pub loop-to-preserved : goal.loop-to-preserved
 loop-to-preserved c =
     let p : ClassParts = c.args.classes.now in
-    let m : Automata = p.compiled.model in
+    let m : PlantModel = p.compiled.model in
     let d : ℕ = c.args.leaving.now.component in
     let from : ℕ = c.args.leaving.now.mode in
     let modes : ℕ = slice_index (mode_counts m) d in
@@ -26,7 +26,7 @@ loop-to-preserved c =
 pub returns : goal.returns
 returns c =
     let p : ClassParts = c.args.classes.now in
-    let m : Automata = p.compiled.model in
+    let m : PlantModel = p.compiled.model in
     let d : ℕ = c.args.leaving.now.component in
     let components_are = c.components-components.ensures.value ∙ ap (λ z. z.components) (c.model.ensures.value ∙ ap (λ z. z.model) c.compiled.ensures.value) in
     let counted : c.len-to-end.result ≡ slice_index (mode_counts m) d = c.len-to-end.ensures

@@ -1,5 +1,5 @@
 use Rattle.std.proofs.Common.{◌≡◌, ◌<◌, ℕ, true, List, slice_get, Some}
-use Rattle.reversibility.specs.Parts.{in_row}
+use Rattle.reversibility.specs.ClassParts.{in_row}
 use Rattle.policy_tables.proofs.near.distance.Given as goal
 
 abbrev pub invariant-loop-left : goal.invariant-loop-left

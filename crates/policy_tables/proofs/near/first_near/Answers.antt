@@ -4,7 +4,7 @@ use Rattle.std.proofs.lemmas.Option.{slice_get_within}
 use Rattle.cca_base.specs.declared.model.Move.{Move}
 use Rattle.cca_base.specs.Sets.{has}
 use Rattle.cca_base.proofs.Members.{some_inj}
-use Rattle.reversibility.specs.Parts.{in_row}
+use Rattle.reversibility.specs.ClassParts.{in_row}
 use Rattle.reversibility.proofs.Near.{move_within}
 use Rattle.reversibility.proofs.OpenMoves.{row_at}
 use Rattle.reversibility.proofs.Standing.{below_next}

@@ -6,14 +6,14 @@ use Rattle.std.specs.BTreeSet.{btree_set_len}
 use Rattle.prime_implicants.proofs.choices.+choose.Given as goal
 
 abbrev pub decreases-choose : goal.decreases-choose
-decreases-choose l = length l.q.now - l.at
+decreases-choose l = length l.partial.now - l.at
 
 abbrev pub invariant-loop-v : goal.invariant-loop-v
 invariant-loop-v l =
     record {
-      same : l.q ≡ l.initial.q;
+      same : l.partial ≡ l.initial.partial;
       sound : (t : Key → Bool) → all_keys t l.initial.found.keys ≡ true → ((p : Partial) → IsFoundable l.sizes l.rows p → t (key_of p) ≡ true) → all_keys t l.found.keys ≡ true;
       grown : (t : Key → Bool) → all_keys t l.found.keys ≡ true → all_keys t l.initial.found.keys ≡ true;
-      so_far : btree_set_len l.found ≤ l.most → (v : ℕ) → v < l.v → has (get_or l.row l.at 0) v ≡ false → (p : Partial) → IsFoundable l.sizes l.rows p → AgreesTo l.at l.initial.q p
+      so_far : btree_set_len l.found ≤ l.most → (v : ℕ) → v < l.v → has (get_or l.row l.at 0) v ≡ false → (p : Partial) → IsFoundable l.sizes l.rows p → AgreesTo l.at l.initial.partial p
           → get_or p l.at None ≡ Some v → IsChoiceFrom (l.at + 1) l.row p → (t : Key → Bool) → all_keys t l.found.keys ≡ true → t (key_of p) ≡ true;
     }

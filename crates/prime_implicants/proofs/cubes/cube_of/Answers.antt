@@ -1,5 +1,5 @@
 use Rattle.std.proofs.Common.{rules}
-use Rattle.prime_implicants.proofs.ListedLemmas.{next_pair}
+use Rattle.prime_implicants.proofs.ListedPairs.{next_pair}
 use Rattle.prime_implicants.proofs.cubes.cube_of.Goals as goal
 
 pub overflow_cast-item : goal.overflow_cast-item

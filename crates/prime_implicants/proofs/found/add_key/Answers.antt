@@ -1,7 +1,7 @@
 use Rattle.std.proofs.Common.{◌∙◌, ap, sym}
 use Rattle.std.proofs.lemmas.Map.Lookups.{exact_bytes}
 use Rattle.std.specs.List.{list_all}
-use Rattle.prime_implicants.proofs.KeyLemmas.{list_all-insert_key}
+use Rattle.prime_implicants.proofs.KeySets.{list_all-insert_key}
 use Rattle.prime_implicants.proofs.found.add_key.Goals as goal
 
 pub returns : goal.returns

@@ -1,7 +1,7 @@
 use Rattle.std.proofs.Common.{◌≤◌, length}
 use Rattle.prime_implicants.specs.Found.{is_proper, AreMany, AreOrdered}
 use Rattle.prime_implicants.specs.Primes.{AreAllPrimes, AreMorePrimes}
-use Rattle.prime_implicants.proofs.AnswerLemmas.{AreFinished, AreSound, HasEvery, all_primes, more_primes, not_more, proper_key}
+use Rattle.prime_implicants.proofs.FoundAnswers.{AreFinished, AreSound, HasEvery, all_primes, more_primes, not_more, proper_key}
 use Rattle.prime_implicants.proofs.implicants.primes.Goals.{After-drop-rows-in-Some, After-drop-rows-2}
 use Rattle.prime_implicants.proofs.implicants.primes.Goals as goal
 
@@ -21,7 +21,7 @@ answered c =
     let few : length c.in-Some.found.keys ≤ c.args.most = rw c.in-Some.is at c.in_ok-found.ensures.few in
     let ordered : AreOrdered c.in-Some.found.keys = rw c.in-Some.is at c.in_ok-found.ensures.ordered in
     let finished : AreFinished c.args.clauses.now c.in_ok-rows.rows.items rows = record {
-      of = c.in_ok-rows.ensures.«open»;
+      of = c.in_ok-rows.ensures.unfalsified;
       complete = record {
         same = rw c.as_slice-sizes.ensures at c.in_ok-complete.ensures.same;
         complete = rw c.as_slice-sizes.ensures at c.in_ok-complete.ensures.complete;
@@ -41,7 +41,7 @@ more_of c =
     let rows = c.complete.new.rows.items in
     let many : AreMany sizes rows c.args.most = rw (c.as_slice-sizes.ensures, c.as_slice.ensures.value) at (rw c.in-None.is at c.in_ok-found.ensures.more) in
     let finished : AreFinished c.args.clauses.now c.in_ok-rows.rows.items rows = record {
-      of = c.in_ok-rows.ensures.«open»;
+      of = c.in_ok-rows.ensures.unfalsified;
       complete = record {
         same = rw c.as_slice-sizes.ensures at c.in_ok-complete.ensures.same;
         complete = rw c.as_slice-sizes.ensures at c.in_ok-complete.ensures.complete;

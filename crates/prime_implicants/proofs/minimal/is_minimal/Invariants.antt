@@ -5,6 +5,6 @@ use Rattle.prime_implicants.proofs.minimal.is_minimal.Given as goal
 abbrev pub invariant-loop-i : goal.invariant-loop-i
 invariant-loop-i l =
     record {
-      same : l.q ≡ l.initial.q;
-      so_far : all_below l.i (is_needed l.rows l.initial.q) ≡ true;
+      same : l.partial ≡ l.initial.partial;
+      so_far : all_below l.i (is_needed l.rows l.initial.partial) ≡ true;
     }

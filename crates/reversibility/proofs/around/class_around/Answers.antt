@@ -1,10 +1,10 @@
 use Rattle.std.proofs.Common.{◌≡◌, ◌≤◌, ◌-◌, ◌∙◌, ℕ, List, length, slice_get, slice_index, Some, sym, ap, subst}
 use Rattle.cca_base.specs.declared.limits.TheConstants.{MAX_CHOICES}
-use Rattle.cca_base.specs.Automata.{Automata}
+use Rattle.cca_base.specs.PlantModel.{PlantModel}
 use Rattle.cca_base.specs.Model.{WellFormed, mode_counts}
 use Rattle.reach_laws.specs.Classes.{Test}
-use Rattle.reversibility.specs.Parts.{in_row}
-use Rattle.reversibility.specs.Levels.{AreMovesWithin, Leads, AreLevelsOf}
+use Rattle.reversibility.specs.ClassParts.{in_row}
+use Rattle.reversibility.specs.Levels.{AreMovesWithin, MoveLeads, AreLevelsOf}
 use Rattle.reversibility.specs.Homes.{IsAround, IsHomeBy}
 use Rattle.reversibility.proofs.OpenMoves.{within_modes}
 use Rattle.reversibility.proofs.Standing.{modes_few}
@@ -13,23 +13,23 @@ use Rattle.reversibility.proofs.around.class_around.Goals as goal
 
 pub home_of-requires : goal.home_of-requires
 home_of-requires c =
-    let m : Automata = c.args.compiled.now.model in
-    let n : ℕ = slice_index (mode_counts m) c.args.c in (
+    let m : PlantModel = c.args.compiled.now.model in
+    let n : ℕ = slice_index (mode_counts m) c.args.component in (
       n,
       subst (λ l. AreMovesWithin c.model.result.now n l) (sym c.as_slice.ensures)
-          (subst (λ (z : Automata). AreMovesWithin z n c.in_ok-paths.paths.numbers) (sym c.model.ensures.value)
-          (within_modes m c.model.ensures.compiled.accepted.well_formed (in_row c.args.rows.now) c.args.c c.in_ok-paths.paths.numbers c.in_ok-paths.ensures.open_moves)),
+          (subst (λ (z : PlantModel). AreMovesWithin z n c.in_ok-paths.paths.numbers) (sym c.model.ensures.value)
+          (within_modes m c.model.ensures.compiled.accepted.well_formed (in_row c.args.rows.now) c.args.component c.in_ok-paths.paths.numbers c.in_ok-paths.ensures.open_moves)),
     )
 
 pub returns-in_default : goal.returns-in_default
 returns-in_default c a h =
-    let m : Automata = c.args.compiled.now.model in
-    let by = home_by m c.model.ensures.compiled.accepted.well_formed (in_row c.args.rows.now) c.args.c c.in_ok-paths.paths.numbers c.in_ok-paths.ensures.open_moves c.args.mode a h in
-    c.in_default.ensures a (subst (λ (x : Automata). IsHomeBy x.moves (Leads x c.as_slice.result.now (length c.as_slice.result.now)) c.args.c c.args.mode a) (sym c.model.ensures.value)
-    (subst (λ l. IsHomeBy m.moves (Leads m l (length l)) c.args.c c.args.mode a) (sym c.as_slice.ensures) by))
+    let m : PlantModel = c.args.compiled.now.model in
+    let by = home_by m c.model.ensures.compiled.accepted.well_formed (in_row c.args.rows.now) c.args.component c.in_ok-paths.paths.numbers c.in_ok-paths.ensures.open_moves c.args.mode a h in
+    c.in_default.ensures a (subst (λ (x : PlantModel). IsHomeBy x.moves (MoveLeads x c.as_slice.result.now (length c.as_slice.result.now)) c.args.component c.args.mode a) (sym c.model.ensures.value)
+    (subst (λ l. IsHomeBy m.moves (MoveLeads m l (length l)) c.args.component c.args.mode a) (sym c.as_slice.ensures) by))
 
 -- the last level is of the component's modes
-last_level : (m : Automata) (member : Test) (c n : ℕ) (levels : List (List ℕ)) (closed : List ℕ) → AreLevelsOf m member c levels → n ≡ length levels → slice_get levels (n - 1) ≡ Some closed
+last_level : (m : PlantModel) (member : Test) (c n : ℕ) (levels : List (List ℕ)) (closed : List ℕ) → AreLevelsOf m member c levels → n ≡ length levels → slice_get levels (n - 1) ≡ Some closed
     → (slice_get levels (length levels - 1) ≡ Some closed) × (length closed ≡ slice_index (mode_counts m) c)
 last_level m member c n levels closed of counted at =
     let here : slice_get levels (length levels - 1) ≡ Some closed = subst (λ k. slice_get levels (k - 1) ≡ Some closed) counted at in
@@ -37,25 +37,25 @@ last_level m member c n levels closed of counted at =
 
 pub around-requires-clause-few : goal.around-requires-clause-few
 around-requires-clause-few c =
-    let m : Automata = c.args.compiled.now.model in
-    let few = modes_few m c.model.ensures.compiled.accepted.well_formed c.args.c c.requires.within in
-    let last = last_level m (in_row c.args.rows.now) c.args.c c.len.result c.in_ok-paths.paths.levels c.get-closed.result.now c.in_ok-paths.ensures.levels c.len.ensures c.get-closed.ensures.value in
+    let m : PlantModel = c.args.compiled.now.model in
+    let few = modes_few m c.model.ensures.compiled.accepted.well_formed c.args.component c.requires.within in
+    let last = last_level m (in_row c.args.rows.now) c.args.component c.len.result c.in_ok-paths.paths.levels c.get-closed.result.now c.in_ok-paths.ensures.levels c.len.ensures c.get-closed.ensures.value in
     subst (λ n. n ≤ MAX_CHOICES) (sym (ap length c.as_slice-2.ensures ∙ last.1)) few
 
 pub returns : goal.returns
 returns c =
-    let m : Automata = c.args.compiled.now.model in
+    let m : PlantModel = c.args.compiled.now.model in
     let well : WellFormed m = c.model.ensures.compiled.accepted.well_formed in
     let member : Test = in_row c.args.rows.now in
     let numbers : List ℕ = c.in_ok-paths.paths.numbers in
     let are = c.in_ok-paths.ensures.open_moves in
     let closed : List ℕ = c.get-closed.result.now in
     let home : ℕ = c.in-Some.home in
-    let last = last_level m member c.args.c c.len.result c.in_ok-paths.paths.levels closed c.in_ok-paths.ensures.levels c.len.ensures c.get-closed.ensures.value in
-    let by : IsHomeBy m.moves (Leads m numbers (length numbers)) c.args.c c.args.mode home =
-    subst (λ (x : Automata). IsHomeBy x.moves (Leads x numbers (length numbers)) c.args.c c.args.mode home) c.model.ensures.value
-    (subst (λ l. IsHomeBy c.model.result.now.moves (Leads c.model.result.now l (length l)) c.args.c c.args.mode home) c.as_slice.ensures c.in-Some.ensures) in
+    let last = last_level m member c.args.component c.len.result c.in_ok-paths.paths.levels closed c.in_ok-paths.ensures.levels c.len.ensures c.get-closed.ensures.value in
+    let by : IsHomeBy m.moves (MoveLeads m numbers (length numbers)) c.args.component c.args.mode home =
+    subst (λ (x : PlantModel). IsHomeBy x.moves (MoveLeads x numbers (length numbers)) c.args.component c.args.mode home) c.model.ensures.value
+    (subst (λ l. IsHomeBy c.model.result.now.moves (MoveLeads c.model.result.now l (length l)) c.args.component c.args.mode home) c.as_slice.ensures c.in-Some.ensures) in
     let round : IsAround closed home (length closed) c.around.result = subst (λ l. IsAround l home (length l) c.around.result) c.as_slice-2.ensures c.around.ensures in
-    class_from m well member c.args.c c.in_ok-paths.paths.levels c.in_ok-paths.ensures.levels closed last.0 c.args.mode home c.around.result
-    (home_mode m well member c.args.c numbers are c.args.mode home c.requires.mode by)
-    (home_from m well member c.args.c numbers are c.args.mode home by) round
+    class_from m well member c.args.component c.in_ok-paths.paths.levels c.in_ok-paths.ensures.levels closed last.0 c.args.mode home c.around.result
+    (home_mode m well member c.args.component numbers are c.args.mode home c.requires.mode by)
+    (home_from m well member c.args.component numbers are c.args.mode home by) round

@@ -1,18 +1,18 @@
 use Rattle.std.proofs.Common.{◌≡◌, ◌<◌, ◌-◌, ◌∙◌, ℕ, List, Some, slice_get, length, sym, ap, subst, arith, length-append, ◌∷◌, [], inr}
 use Rattle.std.specs.Cmp.Lexicographic.{same_text}
 use Rattle.cca_base.proofs.Members.{some_inj}
-use Rattle.reversibility.specs.Levels.{Edges, Leads, AreLevels, IsLevel, IsExpanded, AreMovesWithin}
+use Rattle.reversibility.specs.Levels.{Edges, MoveLeads, AreLevels, IsLevel, IsExpanded, AreMovesWithin}
 use Rattle.reversibility.proofs.Near.{levels_more, move_within}
 use Rattle.reversibility.proofs.level.levels.Goals as goal
 
 pub expand-requires : goal.expand-requires
 expand-requires c =
-    let level : IsLevel (Leads c.args.model.now c.args.numbers.now (length c.args.numbers.now)) c.args.modes c.loop-k.k c.get.result.now = c.loop-k.invariant.0 c.loop-k.k c.get.result.now c.get.ensures.value in
+    let level : IsLevel (MoveLeads c.args.model.now c.args.numbers.now (length c.args.numbers.now)) c.args.modes c.loop-k.k c.get.result.now = c.loop-k.invariant.0 c.loop-k.k c.get.result.now c.get.ensures.value in
     subst (λ n. AreMovesWithin c.args.model.now n c.args.numbers.now) (sym (ap length c.as_slice.ensures ∙ level.full)) c.requires.within
 
 pub returns-then-eq-clause-enough : goal.returns-then-eq-clause-enough
 returns-then-eq-clause-enough c =
-    let edge : Edges = Leads c.args.model.now c.args.numbers.now (length c.args.numbers.now) in
+    let edge : Edges = MoveLeads c.args.model.now c.args.numbers.now (length c.args.numbers.now) in
     let level : List ℕ = c.get.result.now in
     let grown : IsExpanded edge level c.in_ok-next.next = subst (λ l. IsExpanded edge l c.in_ok-next.next) c.as_slice.ensures c.in_ok-next.ensures in
     let equal : c.as_slice-in-loop-k.result.now ≡ c.as_slice-in-loop-k-2.result.now = same_text c.as_slice-in-loop-k.result.now c.as_slice-in-loop-k-2.result.now (sym c.if-eq.true ∙ c.eq.ensures) in
@@ -24,7 +24,7 @@ returns-then-eq-clause-enough c =
 
 pub loop-k-preserved : goal.loop-k-preserved
 loop-k-preserved c =
-    let edge : Edges = Leads c.args.model.now c.args.numbers.now (length c.args.numbers.now) in
+    let edge : Edges = MoveLeads c.args.model.now c.args.numbers.now (length c.args.numbers.now) in
     let pushed = c.in_ok-push-2.ensures.ok in
     let stay : (a x : ℕ) → edge a x → x < c.args.modes =
     λ a x h. (let moved : (h.move.source < c.args.modes) × (h.move.target < c.args.modes) = move_within c.args.model.now c.args.modes c.args.numbers.now c.requires.within h.place h.below h.move h.move_at in

@@ -1,6 +1,6 @@
 use Rattle.std.proofs.Common.{take}
 use Rattle.reach_laws.specs.Classes.{AreInside}
-use Rattle.reversibility.specs.Parts.{in_row}
+use Rattle.reversibility.specs.ClassParts.{in_row}
 use Rattle.reversibility.proofs.open.is_inside.Given as goal
 
 abbrev pub invariant-loop-pair : goal.invariant-loop-pair

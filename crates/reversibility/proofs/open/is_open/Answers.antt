@@ -3,7 +3,7 @@ use Rattle.std.proofs.lemmas.Bool.{false≢true, both_ways}
 use Rattle.std.proofs.lemmas.List.Elements.{All-more, All-contains}
 use Rattle.cca_base.specs.declared.cube.Pair.{Pair}
 use Rattle.reach_laws.specs.Classes.{AreInside}
-use Rattle.reversibility.specs.Parts.{in_row}
+use Rattle.reversibility.specs.ClassParts.{in_row}
 use Rattle.reversibility.proofs.Lists.{all_gone}
 use Rattle.reversibility.proofs.open.is_open.Goals as goal
 

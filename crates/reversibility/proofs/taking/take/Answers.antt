@@ -1,9 +1,9 @@
 use Rattle.std.proofs.Common.{◌≡◌, ◌<◌, ◌-◌, ◌+◌, ◌∙◌, ℕ, List, Some, MatchOption, slice_get, slice_set, slice_index, drop, length, sym, ap, subst, arith}
-use Rattle.cca_base.specs.Accepted.{CompiledParts}
-use Rattle.cca_base.specs.Automata.{Automata}
+use Rattle.list_laws.proofs.Places.{value_at}
+use Rattle.cca_base.specs.Accepted.{CompiledModel}
+use Rattle.cca_base.specs.PlantModel.{PlantModel}
 use Rattle.cca_base.specs.Model.{HasMode, is_broken}
-use Rattle.reach_laws.proofs.Facts.{at_get}
-use Rattle.reversibility.specs.Parts.{in_row}
+use Rattle.reversibility.specs.ClassParts.{in_row}
 use Rattle.reversibility.specs.Homes.{AreDone, IsHomeFrom, IsClassFrom}
 use Rattle.reversibility.proofs.Taken.{order_at, take_none, take_some}
 use Rattle.reversibility.proofs.taking.take.Goals as goal
@@ -27,7 +27,7 @@ get-mode-requires c =
 
 pub class_around-requires-clause-mode : goal.class_around-requires-clause-mode
 class_around-requires-clause-mode c =
-    subst (HasMode c.args.compiled.now.model c.get-c.result.now) (at_get c.args.base.now.modes c.get-c.result.now c.get-mode.result.now c.get-mode.ensures.value)
+    subst (HasMode c.args.compiled.now.model c.get-c.result.now) (value_at c.args.base.now.modes c.get-c.result.now c.get-mode.result.now c.get-mode.ensures.value)
     (c.requires.state.modes c.get-c.result.now (class_around-requires-clause-within c))
 
 pub set-requires : goal.set-requires
@@ -46,29 +46,29 @@ set-requires-in-Some c =
 
 pub returns-in-Some : goal.returns-in-Some
 returns-in-Some c =
-    let b : CompiledParts = c.args.compiled.now in
+    let b : CompiledModel = c.args.compiled.now in
     let base : List ℕ = c.args.base.now.modes in
     let d : ℕ = c.get-c.result.now in
     let at = place c.order-order.result.now b.order c.len.result c.args.i d c.len.ensures c.order-order.ensures.value c.get-c.ensures.value in
-    let mode_is : slice_index base d ≡ c.get-mode.result.now = at_get base d c.get-mode.result.now c.get-mode.ensures.value in
+    let mode_is : slice_index base d ≡ c.get-mode.result.now = value_at base d c.get-mode.result.now c.get-mode.ensures.value in
     let found = subst (λ o. MatchOption o ((a : ℕ) → IsHomeFrom b.model (in_row c.as_slice.result.now) d c.get-mode.result.now a → ⊥) (IsClassFrom b.model (in_row c.as_slice.result.now) d c.get-mode.result.now))
     c.in-Some.is c.in_ok-class.ensures in
     let class : IsClassFrom b.model (in_row c.args.taken.now.rows) d (slice_index base d) c.in-Some.class =
     subst (λ y. IsClassFrom b.model (in_row c.args.taken.now.rows) d y c.in-Some.class) (sym mode_is)
     (subst (λ l. IsClassFrom b.model (in_row l) d c.get-mode.result.now c.in-Some.class) c.as_slice.ensures found) in
     let flag_is : c.broken-broken.result ≡ is_broken b.model.moves d (slice_index base d) =
-    c.broken-broken.ensures ∙ ap (λ (m : Automata). is_broken m.moves d c.get-mode.result.now) c.model.ensures.value ∙ ap (λ y. is_broken b.model.moves d y) (sym mode_is) in
+    c.broken-broken.ensures ∙ ap (λ (m : PlantModel). is_broken m.moves d c.get-mode.result.now) c.model.ensures.value ∙ ap (λ y. is_broken b.model.moves d y) (sym mode_is) in
     let made = take_some b c.order-order.ensures.compiled base c.args.i d c.requires.within at c.args.taken.now.rows c.args.taken.now.mendable c.requires.done c.in-Some.class c.broken-broken.result flag_is class in
     subst (λ rows. AreDone b.model base rows c.set-in-Some.new.self (drop (length b.order - (c.args.i + 1)) b.order)) (sym c.set.ensures)
     (subst (λ flags. AreDone b.model base (slice_set c.args.taken.now.rows d c.in-Some.class) flags (drop (length b.order - (c.args.i + 1)) b.order)) (sym c.set-in-Some.ensures) made)
 
 pub returns-in_default : goal.returns-in_default
 returns-in_default c =
-    let b : CompiledParts = c.args.compiled.now in
+    let b : CompiledModel = c.args.compiled.now in
     let base : List ℕ = c.args.base.now.modes in
     let d : ℕ = c.get-c.result.now in
     let at = place c.order-order.result.now b.order c.len.result c.args.i d c.len.ensures c.order-order.ensures.value c.get-c.ensures.value in
-    let mode_is : slice_index base d ≡ c.get-mode.result.now = at_get base d c.get-mode.result.now c.get-mode.ensures.value in
+    let mode_is : slice_index base d ≡ c.get-mode.result.now = value_at base d c.get-mode.result.now c.get-mode.ensures.value in
     let found = subst (λ o. MatchOption o ((a : ℕ) → IsHomeFrom b.model (in_row c.as_slice.result.now) d c.get-mode.result.now a → ⊥) (IsClassFrom b.model (in_row c.as_slice.result.now) d c.get-mode.result.now))
     c.in_default.is c.in_ok-class.ensures in
     take_none b c.order-order.ensures.compiled base c.args.i d c.requires.within at c.args.taken.now.rows c.args.taken.now.mendable c.requires.done

@@ -1,5 +1,5 @@
 use Rattle.std.proofs.lemmas.List.{map_push}
-use Rattle.text_base.proofs.NamesLemmas.{ends_names, more_names, no_names}
+use Rattle.text_base.proofs.NamesRead.{ends_names, more_names, no_names}
 use Rattle.text_base.proofs.cursor.names_at.Goals as goal
 
 pub names-preserved : goal.names-preserved

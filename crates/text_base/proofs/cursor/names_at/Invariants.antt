@@ -1,5 +1,5 @@
 use Rattle.std.proofs.Common.{◌-◌, length, map}
-use Rattle.text_base.proofs.NamesLemmas.{IsReadingNames}
+use Rattle.text_base.proofs.NamesRead.{IsReadingNames}
 use Rattle.text_base.proofs.cursor.names_at.Given as goal
 
 abbrev pub invariant-names : goal.invariant-names

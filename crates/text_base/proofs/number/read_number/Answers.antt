@@ -1,5 +1,5 @@
 use Rattle.std.proofs.Common.{sym, ◌∙◌}
-use Rattle.text_base.proofs.NumberLemmas.{no_numeral, utf8_numeral, read_some, read_none}
+use Rattle.text_base.proofs.NumberTexts.{no_numeral, utf8_numeral, read_some, read_none}
 use Rattle.text_base.proofs.number.read_number.Goals as goal
 
 pub returns-then-not-is_numeral-clause-none : goal.returns-then-not-is_numeral-clause-none

@@ -1,7 +1,7 @@
 use Rattle.std.proofs.Common.{subst}
-use Rattle.titan_top.specs.Halts.{HaltsAs}
+use Rattle.titan_top.specs.ModelRefusals.{HaltsAs}
 use Rattle.titan_top.specs.Lines.{lines_of}
-use Rattle.titan_top.specs.Reading.{nothing_read}
+use Rattle.titan_top.specs.Document.{nothing_read}
 use Rattle.titan_top.specs.declared.status.Status.TheVariants.{Memory}
 use Rattle.titan_top.proofs.Ends.{nothing_answers, handed_out, end_room, end_answers, end_known, halt_room, halt_answers, halt_known}
 use Rattle.titan_top.proofs.document.print_all.Goals as goal

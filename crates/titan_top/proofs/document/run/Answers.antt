@@ -1,5 +1,5 @@
 use Rattle.titan_top.specs.Lines.{lines_of}
-use Rattle.titan_top.specs.Reading.{Scripted}
+use Rattle.titan_top.specs.Document.{Scripted}
 use Rattle.titan_top.specs.declared.words.Form.TheVariants.{Run}
 use Rattle.titan_top.proofs.Ends.{script_is, unsupported_is, one_room, one_end, one_known}
 use Rattle.titan_top.proofs.document.run.Goals as goal

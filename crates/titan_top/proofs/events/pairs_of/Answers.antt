@@ -2,7 +2,7 @@ use Rattle.std.proofs.Common.{sym, ◌∙◌}
 use Rattle.std.proofs.lemmas.List.Elements.{All-push}
 use Rattle.cca_base.specs.Model.{HasMode}
 use Rattle.cca_base.specs.declared.cube.Pair.{Pair}
-use Rattle.titan_top.proofs.ScriptLemmas.{pair_read, pair_missing}
+use Rattle.titan_top.proofs.ScriptPairs.{pair_read, pair_missing}
 use Rattle.titan_top.proofs.events.pairs_of.Goals as goal
 
 pub returns-in-None-clause-pairs : goal.returns-in-None-clause-pairs

@@ -2,7 +2,7 @@ use Rattle.std.proofs.Common.{◌≡◌, drop, map, All}
 use Rattle.cca_base.specs.Model.{HasMode}
 use Rattle.titan_top.specs.Items.{shown_pair}
 use Rattle.titan_top.specs.EventLines.{pairs_of}
-use Rattle.titan_top.proofs.ScriptLemmas.{with_front}
+use Rattle.titan_top.proofs.ScriptPairs.{with_front}
 use Rattle.titan_top.proofs.events.pairs_of.Given as goal
 
 -- the pairs so far stand before those of what is left

@@ -1,5 +1,5 @@
 use Rattle.std.proofs.Common.{◌∙◌}
-use Rattle.titan_top.proofs.StandingLemmas.{started}
+use Rattle.titan_top.proofs.StandingLaws.{started}
 use Rattle.titan_top.proofs.executive.begin.Goals as goal
 
 pub returns-clause-stands : goal.returns-clause-stands

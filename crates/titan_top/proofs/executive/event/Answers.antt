@@ -1,6 +1,6 @@
 use Rattle.std.proofs.Common.{length, ap, ◌∙◌}
 use Rattle.plain_laws.specs.Executive.{in_order}
-use Rattle.titan_top.proofs.StandingLemmas.{keeps}
+use Rattle.titan_top.proofs.StandingLaws.{keeps}
 use Rattle.titan_top.proofs.executive.event.Goals as goal
 
 pub returns-in_ok-pairs-in-Goal-clause-stands : goal.returns-in_ok-pairs-in-Goal-clause-stands

@@ -1,7 +1,7 @@
 use Rattle.std.proofs.Common.{arith}
 use Rattle.std.proofs.lemmas.List.{map_push}
 use Rattle.titan_top.specs.Items.{shown_pair}
-use Rattle.titan_top.proofs.PairLemmas.{ends_pairs, more_pairs, no_pairs}
+use Rattle.titan_top.proofs.PairsRead.{ends_pairs, more_pairs, no_pairs}
 use Rattle.titan_top.proofs.item.pairs_at.Goals as goal
 
 pub pairs-preserved : goal.pairs-preserved

@@ -1,6 +1,6 @@
 use Rattle.std.proofs.Common.{◌-◌, length, map}
 use Rattle.titan_top.specs.Items.{shown_pair}
-use Rattle.titan_top.proofs.PairLemmas.{IsReadingPairs}
+use Rattle.titan_top.proofs.PairsRead.{IsReadingPairs}
 use Rattle.titan_top.proofs.item.pairs_at.Given as goal
 
 abbrev pub invariant-pairs : goal.invariant-pairs

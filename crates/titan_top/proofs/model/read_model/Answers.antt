@@ -1,9 +1,9 @@
 use Rattle.std.proofs.Common.{◌≡◌, ◌+◌, length, sym, subst, arith, eqb-true}
-use Rattle.model_syntax.specs.Lines.{Reading as ModelRead}
+use Rattle.model_syntax.specs.Lines.{ModelSoFar}
 use Rattle.titan_top.specs.Lines.{lines_of}
-use Rattle.titan_top.specs.Reading.{ReadsModel, Scripted, is_short}
+use Rattle.titan_top.specs.Document.{ReadsModel, Scripted, is_short}
 use Rattle.titan_top.specs.declared.model.Halt.TheVariants as halts
-use Rattle.titan_top.specs.declared.stops.TheConstants.{ENDS_EARLY}
+use Rattle.cca_base.specs.declared.codes.TheConstants.{ENDS_EARLY}
 use Rattle.titan_top.proofs.ModelWalk.{line_goes_on, line_is_script, line_halts, halts_whole, ends_early}
 use Rattle.titan_top.proofs.model.read_model.Goals as goal
 
@@ -19,7 +19,7 @@ each_line-preserved c =
 pub returns-in-Ok-Script-clause-script : goal.returns-in-Ok-Script-clause-script
 returns-in-Ok-Script-clause-script c =
     let said = rw c.in-Ok-Script.field-0-is at c.in-Ok-Script.ensures in
-    subst (λ (s : ModelRead). ReadsModel c.args.reader.now 0 (lines_of c.args.input.now) (Scripted s.model (c.each_line.lines + 1) (is_short c.split_line.result.0.now) (lines_of c.split_line.result.1.now))) (sym said.1)
+    subst (λ (s : ModelSoFar). ReadsModel c.args.reader.now 0 (lines_of c.args.input.now) (Scripted s.model (c.each_line.lines + 1) (is_short c.split_line.result.0.now) (lines_of c.split_line.result.1.now))) (sym said.1)
     (c.each_line.invariant.same _ (line_is_script _ _ c.each_line.rest.now c.split_line.result.0.now c.split_line.result.1.now c.split_line.ensures.lines said.0))
 
 pub returns-in-Err-clause-halt : goal.returns-in-Err-clause-halt

@@ -1,6 +1,6 @@
 use Rattle.std.proofs.Common.{refl, sym, ◌∙◌}
 use Rattle.plain_laws.specs.Planner.{nearer_move}
-use Rattle.titan_top.proofs.PlannerLemmas.{first_set, set_grows, still_none, found_now}
+use Rattle.titan_top.proofs.PlainPlanner.{first_set, set_grows, still_none, found_now}
 use Rattle.titan_top.proofs.planner.command_toward.Goals as goal
 
 pub loop-init : goal.loop-init

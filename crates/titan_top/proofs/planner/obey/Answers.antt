@@ -1,6 +1,8 @@
 use Rattle.std.proofs.Common.{sym, subst, ◌∙◌}
 use Rattle.cca_base.specs.State.{IsState}
-use Rattle.titan_top.proofs.PlannerLemmas.{found_move, mode_in_state, state_after}
+use Rattle.cca_base.proofs.NominalLaws.{moved}
+use Rattle.cca_base.proofs.StateLaws.{mode_in_state}
+use Rattle.titan_top.proofs.PlainPlanner.{found_move}
 use Rattle.titan_top.proofs.planner.obey.Goals as goal
 
 pub set-requires : goal.set-requires
@@ -11,4 +13,4 @@ set-requires c =
 pub returns-in-Some-clause-state : goal.returns-in-Some-clause-state
 returns-in-Some-clause-state c =
     let move = found_move c.args.model.now _ _ _ c.moves.ensures.well_formed (c.as_slice.ensures ∙ c.moves.ensures.value) c.in-Some.ensures in
-    subst (IsState c.args.model.now) (sym c.set.ensures) (state_after _ _ _ _ c.requires move.target)
+    subst (IsState c.args.model.now) (sym c.set.ensures) (moved _ _ _ _ c.requires move.target)

@@ -1,5 +1,6 @@
-use Rattle.titan_top.proofs.PlannerLemmas.{found_pair, mode_in_state}
+use Rattle.titan_top.proofs.PlainPlanner.{found_pair}
 use Rattle.titan_top.proofs.planner.reply_to.Goals as goal
+use Rattle.cca_base.proofs.StateLaws.{mode_in_state}
 
 pub command_toward-requires : goal.command_toward-requires
 command_toward-requires c = found_pair c.args.model.now _ _ _ c.requires.goal c.in-Some.ensures

@@ -6,4 +6,4 @@ use Rattle.titan_top.proofs.planner.wider.Given as goal
 
 -- a move that was seen leads from the mode into the set
 abbrev pub invariant-loop-x : goal.invariant-loop-x
-invariant-loop-x l = (a : ℕ) → has l.wide a ≡ (has l.near a || list_any (λ x. leaves l.c a x && has l.near x.target) (take l.x-index l.moves))
+invariant-loop-x l = (a : ℕ) → has l.wide a ≡ (has l.near a || list_any (λ x. leaves l.component a x && has l.near x.target) (take l.x-index l.moves))

@@ -1,4 +1,4 @@
-use Rattle.titan_top.proofs.ReadingLemmas.{event_line_read}
+use Rattle.titan_top.proofs.PlainEvents.{event_line_read}
 use Rattle.titan_top.proofs.script.act.Goals as goal
 
 pub event-requires-clause-plain : goal.event-requires-clause-plain

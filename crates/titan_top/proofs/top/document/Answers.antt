@@ -1,6 +1,6 @@
 use Rattle.std.proofs.Common.{arith}
 use Rattle.titan_top.proofs.Inputs.{short_text, long_text, short_known, long_known, nothing_known, short_room, long_room, long_some, short_some, nothing_some}
-use Rattle.titan_top.proofs.TopLemmas.{form_ended, form_refused}
+use Rattle.titan_top.proofs.StatusLaws.{form_ended, form_refused}
 use Rattle.titan_top.specs.declared.status.Status.TheVariants.{ReadFault, Memory}
 use Rattle.titan_top.proofs.top.document.Goals as goal
 

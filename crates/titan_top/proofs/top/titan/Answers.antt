@@ -1,7 +1,7 @@
 use Rattle.std.proofs.Common.{sym}
-use Rattle.titan_top.specs.Text.{IsOutcome}
-use Rattle.titan_top.proofs.TraceLemmas.{run_is_traced}
-use Rattle.titan_top.proofs.TopLemmas.{form_text, form_known, usage_known, form_room, form_some, form_nothing, form_something, completes, usage_room, usage_answers, usage_some, never_read}
+use Rattle.titan_top.specs.Output.{IsOutcome}
+use Rattle.titan_top.proofs.TraceOfRun.{run_is_traced}
+use Rattle.titan_top.proofs.StatusLaws.{form_text, form_known, usage_known, form_room, form_some, form_nothing, form_something, completes, usage_room, usage_answers, usage_some, never_read}
 use Rattle.titan_top.proofs.top.titan.Goals as goal
 
 pub document-requires : goal.document-requires

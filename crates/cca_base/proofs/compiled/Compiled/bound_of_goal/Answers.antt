@@ -1,6 +1,6 @@
 use Rattle.std.proofs.Common.{◌≤◌, sum, sum_by, arith}
 use Rattle.std.proofs.lemmas.Grind.{common_steps}
-use Rattle.cca_base.proofs.BoundLemmas.{at, sum_of_different, next_fits}
+use Rattle.cca_base.proofs.BoundSums.{at, sum_of_different, next_fits}
 use Rattle.cca_base.proofs.compiled.Compiled.bound_of_goal.Goals as goal
 
 pub overflow_add-number : goal.overflow_add-number

@@ -1,6 +1,6 @@
 use Rattle.std.proofs.Common.{◌∙◌, ap, sym, subst}
 use Rattle.reach_laws.specs.Cells.{IsCell}
-use Rattle.reversibility.specs.Parts.{in_row}
+use Rattle.reversibility.specs.ClassParts.{in_row}
 use Rattle.policy_tables.specs.Tables.{IsTables}
 use Rattle.policy_tables.proofs.Choices.{choice_from}
 use Rattle.policy_tables.proofs.Places.{place_of}

@@ -1,6 +1,6 @@
 use Rattle.std.proofs.Common.{◌≡◌, ◌+◌, length, sym, ap, subst, arith}
 use Rattle.policy_tables.specs.Filling.{AreFilledTo}
-use Rattle.reversibility.specs.Parts.{ClassParts}
+use Rattle.reversibility.specs.ClassParts.{ClassParts}
 use Rattle.policy_tables.proofs.Filled.{filled_next, filled_all}
 use Rattle.policy_tables.proofs.tables.Tables.of.Goals as goal
 

@@ -1,6 +1,6 @@
 use Rattle.std.proofs.Common.{◌↔◌, ◌≡◌, ◌∙◌, slice_index, sym, ap, subst}
 use Rattle.std.proofs.lemmas.Option.{get_or_from_slice_get}
-use Rattle.reversibility.specs.Parts.{ClassParts, IsClasses}
+use Rattle.reversibility.specs.ClassParts.{ClassParts, IsClasses}
 use Rattle.reversibility.specs.Promises.{IsLost, IsEmptySet, IsReachOf}
 use Rattle.reversibility.proofs.Promised.{reach_of, empty_lost}
 use Rattle.reversibility.proofs.classes.Classes.class.Goals as goal

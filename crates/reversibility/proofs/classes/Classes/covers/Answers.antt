@@ -2,7 +2,7 @@ use Rattle.std.proofs.Common.{◌≡◌, ◌<◌, ◌≤◌, ◌∙◌, refl, sy
 use Rattle.std.proofs.lemmas.Bool.{false≢true}
 use Rattle.cca_base.specs.State.{IsState}
 use Rattle.reach_laws.specs.Classes.{Covers, Stands}
-use Rattle.reversibility.specs.Parts.{ClassParts, IsClasses, CoversState, in_row}
+use Rattle.reversibility.specs.ClassParts.{ClassParts, IsClasses, CoversState, in_row}
 use Rattle.reversibility.proofs.Standing.{below_next, inside_here, base_here, not_covered}
 use Rattle.reversibility.proofs.Promised.{allows_inside, mends_inside, stays_inside, by_base}
 use Rattle.reversibility.proofs.classes.Classes.covers.Goals.{else-not-has-via-then-not-has+else-mode-get, else-not-has-via-else-not-has}

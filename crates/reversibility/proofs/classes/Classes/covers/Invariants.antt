@@ -1,6 +1,6 @@
 use Rattle.std.proofs.Common.{◌<◌, ℕ, slice_index}
 use Rattle.reach_laws.specs.Classes.{Stands}
-use Rattle.reversibility.specs.Parts.{in_row}
+use Rattle.reversibility.specs.ClassParts.{in_row}
 use Rattle.reversibility.proofs.classes.Classes.covers.Given as goal
 
 abbrev pub invariant-loop-c : goal.invariant-loop-c

@@ -1,6 +1,6 @@
 use Rattle.std.proofs.Common.{◌≡◌, ◌-◌, ◌∙◌, ℕ, List, drop, length, sym, ap, subst, arith}
-use Rattle.cca_base.specs.Accepted.{CompiledParts, IsCompiled}
-use Rattle.reversibility.specs.Parts.{ClassParts, IsClasses, CoversState}
+use Rattle.cca_base.specs.Accepted.{CompiledModel, IsCompiled}
+use Rattle.reversibility.specs.ClassParts.{ClassParts, IsClasses, CoversState}
 use Rattle.reversibility.specs.Homes.{AreDone}
 use Rattle.reversibility.proofs.Taken.{all_done}
 use Rattle.reversibility.proofs.Promised.{base_covered}
@@ -8,7 +8,7 @@ use Rattle.reversibility.proofs.classes.Classes.of.Goals as goal
 
 pub invariant_of-result : goal.invariant_of-result
 invariant_of-result c =
-    let b : CompiledParts = c.args.compiled.now.value in
+    let b : CompiledModel = c.args.compiled.now.value in
     let is : IsCompiled b = subst IsCompiled c.deref.ensures c.model.ensures.compiled in
     let s : List ℕ = c.args.state.now.modes in
     let order_is : c.order.result.now ≡ b.order = c.order.ensures.value ∙ ap (λ z. z.order) c.deref-2.ensures in

@@ -1,0 +1,16 @@
+-- A model of concurrent components, as its parts.
+use Rattle.std.specs.Prelude.{ℕ, List}
+use Rattle.cca_base.specs.declared.formula.Formula.{Formula}
+use Rattle.cca_base.specs.declared.model.Component.{Component}
+use Rattle.cca_base.specs.declared.model.Variable.{Variable}
+use Rattle.cca_base.specs.declared.model.Move.{Move}
+use Rattle.cca_base.specs.declared.model.Failure.{Failure}
+
+-- components, variables and moves are numbered by their places in these lists
+pub record PlantModel : Type 0 where
+  pub components : List Component
+  pub variables : List Variable
+  pub rules : List Formula
+  pub commands : List (List ℕ)
+  pub moves : List Move
+  pub failures : List Failure

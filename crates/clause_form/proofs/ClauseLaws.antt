@@ -1,0 +1,72 @@
+-- Literals that hold more, and clauses that say less.
+use Rattle.std.proofs.Common.{◌≡◌, ℕ, zero, suc, ◌<◌, ◌==◌, ◌||◌, ◌&&◌, Bool, true, false, List, [], ◌∷◌, ◌++◌, length, All, get_or, set, slice_index, slice_index_or, slice_set, bit_or, sym, ap, subst, ◌∙◌, refl, arith}
+use Rattle.std.specs.List.{list_any, list_all}
+use Rattle.std.proofs.lemmas.Bool.{eqb-true, and_parts, and_from}
+use Rattle.std.proofs.lemmas.List.{length_push}
+use Rattle.std.proofs.lemmas.List.Elements.{All-take, All-get_or, All-push}
+use Rattle.std.proofs.lemmas.List.Folds.{list_all-append}
+use Rattle.std.proofs.Math.Seq.{get_or-append_seam, take-append_seam}
+use Rattle.std.proofs.Math.Bool.{or_assoc}
+use Rattle.cca_base.proofs.SetLaws.{has-or}
+use Rattle.cca_base.specs.Sets.{has}
+use Rattle.clause_form.specs.declared.clause.Literal.{Literal}
+use Rattle.clause_form.specs.Clauses.{is_true, is_met}
+
+-- a set that the union does not change has all of the other
+pub within : (a b v : ℕ) → (bit_or a b == b) ≡ true → has a v ≡ true → has b v ≡ true
+within a b v h k = subst (λ s. has s v ≡ true) (eqb-true (bit_or a b) b h) (has-or a b v ∙ ap (λ x. x || has b v) k)
+
+and_true : (a : Bool) → (a && (true && true)) ≡ a
+and_true true = refl
+and_true false = refl
+
+or_swap : (a b c : Bool) → ((a || b) || c) ≡ ((a || c) || b)
+or_swap true b c = refl
+or_swap false true true = refl
+or_swap false true false = refl
+or_swap false false true = refl
+or_swap false false false = refl
+
+-- an element in whose place stands one that passes more often
+list_any-set : {X : Type 0} (p : X → Bool) (xs : List X) (i : ℕ) (y d : X) (b : Bool) → i < length xs → p y ≡ (p (get_or xs i d) || b)
+    → list_any p (set xs i y) ≡ (list_any p xs || b)
+list_any-set p [] i y d b h e = absurd (omega arith)
+list_any-set p (x ∷ xs) zero y d b h e = ap (λ v. v || list_any p xs) e ∙ or_swap (p x) b (list_any p xs)
+list_any-set p (x ∷ xs) (suc i) y d b h e = ap (λ v. p x || v) (list_any-set p xs i y d b (omega arith) e) ∙ sym (or_assoc (p x) (list_any p xs) b)
+
+-- a literal with the values of both, in place of the one
+pub met_both : (xs : List ℕ) (literals : List Literal) (i : ℕ) (one more both : Literal) → i < length literals → one ≡ slice_index_or literals i one
+    → one.subject ≡ more.subject → both.subject ≡ one.subject → ((v : ℕ) → has both.values v ≡ (has one.values v || has more.values v))
+    → is_met xs (slice_set literals i both) ≡ (is_met xs literals || is_true xs more)
+met_both xs literals i one more both h is same subject values =
+    list_any-set (is_true xs) literals i both one (is_true xs more) h
+    (subst (λ (l : Literal). is_true xs both ≡ (is_true xs l || is_true xs more)) is
+    (ap (λ s. has both.values (slice_index xs s)) subject
+    ∙ (values (slice_index xs one.subject) ∙ ap (λ s. has one.values (slice_index xs one.subject) || has more.values (slice_index xs s)) same)))
+
+-- ---- a list of clauses that keeps some of those gone through
+
+pub kept_push : {X : Type 0} (p : X → Bool) (kept more done : List X) (x : X) → more ≡ kept ++ x ∷ [] → list_all p kept ≡ list_all p done → list_all p more ≡ list_all p (done ++ x ∷ [])
+kept_push p kept more done x e h = ap (list_all p) e ∙ (list_all-append p kept (x ∷ []) ∙ (ap (λ v. v && list_all p (x ∷ [])) h ∙ sym (list_all-append p done (x ∷ []))))
+
+pub fewer_push : {X : Type 0} (p : X → Bool) (kept more done : List X) (x : X) → more ≡ kept ++ x ∷ [] → (list_all p done ≡ true → list_all p kept ≡ true) → list_all p (done ++ x ∷ []) ≡ true → list_all p more ≡ true
+fewer_push p kept more done x e h all =
+    let parts = and_parts (list_all p done) (list_all p (x ∷ [])) (sym (list_all-append p done (x ∷ [])) ∙ all) in
+    ap (list_all p) e ∙ (list_all-append p kept (x ∷ []) ∙ and_from _ _ (h parts.0) parts.1)
+
+pub kept_skip : {X : Type 0} (p : X → Bool) (kept done : List X) (x : X) → p x ≡ true → list_all p kept ≡ list_all p done → list_all p kept ≡ list_all p (done ++ x ∷ [])
+kept_skip p kept done x px h = h ∙ sym (list_all-append p done (x ∷ []) ∙ (ap (λ v. list_all p done && (v && true)) px ∙ and_true (list_all p done)))
+
+pub fewer_skip : {X : Type 0} (p : X → Bool) (kept done : List X) (x : X) → (list_all p done ≡ true → list_all p kept ≡ true) → list_all p (done ++ x ∷ []) ≡ true → list_all p kept ≡ true
+fewer_skip p kept done x h all = h (and_parts (list_all p done) (list_all p (x ∷ [])) (sym (list_all-append p done (x ∷ [])) ∙ all)).0
+
+pub All-before : {X : Type 0} (P : X → Type 0) (done : List X) (x : X) → All P (done ++ x ∷ []) → All P done
+All-before P done x h = subst (All P) (take-append_seam done (x ∷ [])) (All-take P (length done) (done ++ x ∷ []) h)
+
+All-last : {X : Type 0} (P : X → Type 0) (done : List X) (x : X) → All P (done ++ x ∷ []) → P x
+All-last P done x h =
+    let here : length done < length (done ++ x ∷ []) = omega (arith, length_push done x) in
+    subst P (get_or-append_seam done x [] x) (All-get_or P (done ++ x ∷ []) (length done) x here h)
+
+pub below_push : {X : Type 0} (P : X → Type 0) (kept more done : List X) (x : X) → more ≡ kept ++ x ∷ [] → (All P done → All P kept) → All P (done ++ x ∷ []) → All P more
+below_push P kept more done x e h all = subst (All P) (sym e) (All-push P kept x (h (All-before P done x all)) (All-last P done x all))

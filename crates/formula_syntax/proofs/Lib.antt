@@ -1,0 +1,12 @@
+pub mod UnknownNames
+pub mod ModesByName
+pub mod TextReadings
+pub mod Complete
+pub mod Lexing
+pub mod Sound
+pub mod Comparisons
+pub mod Verdicts
+pub mod FormulaReadWhole
+pub mod TextFormulas
+pub mod TextDepths
+pub mod SoundReadings

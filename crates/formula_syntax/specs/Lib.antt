@@ -1,0 +1,7 @@
+pub mod Chain
+pub mod Grammar
+pub mod Lookups
+pub mod ReadParts
+pub mod FormulaParser
+pub mod Meanings
+pub mod Answers

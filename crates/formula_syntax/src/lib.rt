@@ -1,0 +1,18 @@
+//! The text of formulas: its grammar, what it means in a model, and a parser by operator precedence with its own stack. What a
+//! text spells is read as what it means, or its least code is answered, and nothing else is read.
+#![tactic(auto)]
+
+mod atom;
+mod atom_steps;
+mod formula;
+mod formula_parser;
+mod level;
+mod lookup;
+mod read_part;
+mod read_parts;
+mod steps;
+mod transitions;
+
+pub use formula::{read_formula, read_strictly, texts_are_read_one_way};
+pub use lookup::{subject_of, value_of};
+pub use read_part::ReadPart;

@@ -1,0 +1,5 @@
+pub mod Places
+pub mod Elements
+pub mod Kept
+pub mod Tests
+pub mod Orders

@@ -1,0 +1,22 @@
+-- What stands at a place of a list.
+use Rattle.std.proofs.Common.{◌≡◌, ◌<◌, ℕ, zero, suc, List, [], ◌∷◌, length, slice_get, slice_index, get_or, Some, inl, inr, refl, ap, ◌∙◌, arith}
+use Rattle.std.proofs.lemmas.Bool.{cases_lt}
+use Rattle.std.proofs.lemmas.List.{get_or_past}
+use Rattle.std.proofs.lemmas.Option.{get_or_from_slice_get, slice_get-get_or}
+
+-- something stands at each place of the list
+pub some_at : {X : Type 0} (xs : List X) (i : ℕ) → i < length xs → (x : X) × (slice_get xs i ≡ Some x)
+some_at [] i h = absurd (omega arith)
+some_at (x ∷ xs) zero h = (x, refl)
+some_at (x ∷ xs) (suc i) h = some_at xs i (omega arith)
+
+-- the number at a place, by both words
+pub value_at : (xs : List ℕ) (i v : ℕ) → slice_get xs i ≡ Some v → slice_index xs i ≡ v
+value_at xs i v h = get_or_from_slice_get xs i v 0 h
+
+pub get_at : (xs : List ℕ) (i v : ℕ) → i < length xs → slice_index xs i ≡ v → slice_get xs i ≡ Some v
+get_at xs i v h e = slice_get-get_or xs i 0 h ∙ ap Some e
+
+-- a number that is above another stands at a place of the list
+pub place_inside : (xs : List ℕ) (i v : ℕ) → v < get_or xs i 0 → i < length xs
+place_inside xs i v h = elim (cases_lt i (length xs)) [ inl inside ↦ inside | inr past ↦ absurd (omega (arith, h, get_or_past xs i 0 past)) ]

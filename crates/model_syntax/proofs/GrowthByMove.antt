@@ -1,0 +1,290 @@
+-- Moves, repairs and commands of a model that grows by a move.
+use Rattle.std.proofs.Common.{◌≡◌, ◌≢◌, ℕ, ◌-◌, ◌<◌, Bool, true, false, not, cond, ◌&&◌, ◌||◌, ◌==◌, ◌⊎◌, eqb, get_or, List, [], ◌∷◌, ◌++◌, length, take, Option, Some, None, IsTrue, All, Contains, inl, inr, refl, sym, ap, subst, ◌∙◌, arith}
+use Rattle.std.specs.Prelude.{nat_le, nat_eq, is_some, unwrap_or}
+use Rattle.std.specs.List.{list_any}
+use Rattle.std.specs.Str.{bytes_eq}
+use Rattle.std.specs.Cmp.Lexicographic.{pointwise}
+use Rattle.std.proofs.Math.Bool.{or-false}
+use Rattle.std.proofs.lemmas.Bool.{and_parts, and_from, eqb-true, eq-eqb, cases_Bool, cases_lt, false≢true, or_parts, not-false, or_from, or_cases}
+use Rattle.std.proofs.lemmas.List.{length_push}
+use Rattle.std.proofs.lemmas.List.Elements.{All-nil, All-cons, All-push, All-weaker, Contains-push_cases}
+use Rattle.std.proofs.lemmas.List.Folds.{list_any-append, list_any_none}
+use Rattle.std.proofs.lemmas.List.Quantifiers.{position-Some}
+use Rattle.std.proofs.lemmas.Slice.Eq.{bytes_eq-Decides}
+use Rattle.indexmap.specs.IndexMap.{IsUnchanged, Updates}
+use Rattle.std.specs.Map.{lookup}
+use Rattle.cca_base.specs.declared.model.Move.{Move}
+use Rattle.cca_base.specs.declared.limits.TheConstants.{MAX_MOVES}
+use Rattle.cca_base.specs.PlantModel.{PlantModel}
+use Rattle.cca_base.specs.Model.{WellFormed, IsFormula, IsMove, HasMode, IsNext, RepairsFit, IsComplete, is_broken, is_repair_of, is_used, with_command, without_last_command, with_move}
+use Rattle.cca_base.proofs.Growth.{move_kept, ordinary_fits, command_kept}
+use Rattle.formula_syntax.specs.Lookups.{place_of, or_else}
+use Rattle.model_syntax.specs.Reader.{NumbersFit}
+use Rattle.model_syntax.specs.Codes.{least, is_long, command_number, with_named, leads_to, leaves_unmarked, is_ambiguous, is_into_broken, is_unmarked_exit, mends_twice, move_faults}
+use Rattle.model_syntax.specs.Lines.{is_bare_name}
+use Rattle.model_syntax.proofs.AddedParts.{least_none, below, is_named}
+use Rattle.model_syntax.proofs.NamesInGrowth.{Names}
+use Rattle.model_syntax.proofs.FirstPlaces.{position_push, none_passes}
+
+-- ---- what leads to a repaired mode
+
+eqb_same : (n : ℕ) → eqb n n ≡ true
+eqb_same n = eq-eqb n n refl
+
+-- the move itself leads there where its ends are one
+pub leads_to_push : (moves : List Move) (x : Move) → list_any (leads_to x.component x.source) (moves ++ x ∷ []) ≡ (list_any (leads_to x.component x.source) moves || x.target == x.source)
+leads_to_push moves x =
+    list_any-append (leads_to x.component x.source) moves (x ∷ [])
+    ∙ ap (λ b. list_any (leads_to x.component x.source) moves || b) (or-false (x.component == x.component && x.target == x.source) ∙ ap (λ b. b && x.target == x.source) (eqb_same x.component))
+
+-- ---- facts about each move
+
+all_of_any : {X : Type 0} (p : X → Bool) (xs : List X) → list_any p xs ≡ false → All (λ x. p x ≡ false) xs
+all_of_any p [] e = All-nil (λ x. p x ≡ false)
+all_of_any p (x ∷ xs) e = let q = or_parts (p x) (list_any p xs) e in All-cons (λ x. p x ≡ false) x xs q.0 (all_of_any p xs q.1)
+
+and_false : (a b : Bool) → (a && b) ≡ false → a ≡ true → b ≡ false
+and_false true b e h = e
+and_false false b e h = absurd cc
+
+any_push : {X : Type 0} (p : X → Bool) (xs : List X) (x : X) → list_any p (xs ++ x ∷ []) ≡ (list_any p xs || p x)
+any_push p xs x = list_any-append p xs (x ∷ []) ∙ ap (λ b. list_any p xs || b) (or-false (p x))
+
+eqb_sym : (a b : ℕ) → eqb a b ≡ eqb b a
+eqb_sym a b = elim (cases_Bool (eqb a b)) [
+  | inl e ↦ e ∙ sym (eq-eqb b a (sym (eqb-true a b e)))
+  | inr e ↦ elim (cases_Bool (eqb b a)) [
+    | inl f ↦ absurd (false≢true (sym e ∙ eq-eqb a b (sym (eqb-true b a f))))
+    | inr f ↦ e ∙ sym f
+  ]
+]
+
+both_sym : (a b c d : ℕ) → (eqb a b && eqb c d) ≡ (eqb b a && eqb d c)
+both_sym a b c d = ap (λ x. x && eqb c d) (eqb_sym a b) ∙ ap (λ x. eqb b a && x) (eqb_sym c d)
+
+-- ---- a repair
+
+module _ (moves : List Move) (x : Move) (h : RepairsFit moves) (repair : x.repair ≡ true) (into : is_broken moves x.component x.target ≡ false)
+    (led : list_any (leads_to x.component x.source) (moves ++ x ∷ []) ≡ false)
+    (unmarked : list_any (leaves_unmarked x.component x.source) moves ≡ false)
+    (one : list_any (λ y. y.repair && ((y.component == x.component && y.source == x.source) && not (y.target == x.target))) moves ≡ false) where
+  -- whether x repairs a mode
+  repairs_it : (c mode : ℕ) → is_repair_of c mode x ≡ (x.component == c && x.source == mode)
+  repairs_it c mode = ap (λ b. b && (x.component == c && x.source == mode)) repair
+
+  -- nothing leads to what x repairs
+  not_into : All (λ move. (x.component == move.component && x.source == move.target) ≡ false) (moves ++ x ∷ [])
+  not_into = All-weaker (λ y. leads_to x.component x.source y ≡ false) (λ move. (x.component == move.component && x.source == move.target) ≡ false)
+      (λ y e. both_sym x.component y.component x.source y.target ∙ e) (moves ++ x ∷ []) (all_of_any (leads_to x.component x.source) (moves ++ x ∷ []) led)
+
+  broken_after : (c mode : ℕ) → is_broken (moves ++ x ∷ []) c mode ≡ (is_broken moves c mode || (x.component == c && x.source == mode))
+  broken_after c mode = any_push (is_repair_of c mode) moves x ∙ ap (λ b. is_broken moves c mode || b) (repairs_it c mode)
+
+  none_into_before : All (λ move. is_broken moves move.component move.target ≡ false) (moves ++ x ∷ [])
+  none_into_before = All-push (λ move. is_broken moves move.component move.target ≡ false) moves x h.none_into into
+
+  -- the target of another repair of the same mode
+  same_target : (c mode a : ℕ) → IsNext moves c mode a → is_repair_of c mode x ≡ true → a ≡ x.target
+  same_target c mode a p q =
+      let y = p.repair in
+      let is = and_parts x.repair (x.component == c && x.source == mode) q in
+      let ends = and_parts (x.component == c) (x.source == mode) is.1 in
+      let its = and_parts y.repair (y.component == c && y.source == mode) p.mends in
+      let its_ends = and_parts (y.component == c) (y.source == mode) its.1 in
+      let same_c : y.component ≡ x.component = eqb-true y.component c its_ends.0 ∙ sym (eqb-true x.component c ends.0) in
+      let same_s : y.source ≡ x.source = eqb-true y.source mode its_ends.1 ∙ sym (eqb-true x.source mode ends.1) in
+      let not_other = at_member (λ y. (y.repair && ((y.component == x.component && y.source == x.source) && not (y.target == x.target))) ≡ false) moves y
+      (all_of_any (λ y. y.repair && ((y.component == x.component && y.source == x.source) && not (y.target == x.target))) moves one) p.of_model in
+      let step = and_false y.repair _ not_other its.0 in
+      let last = and_false (y.component == x.component && y.source == x.source) _ step (and_from (y.component == x.component) (y.source == x.source) (eq-eqb y.component x.component same_c) (eq-eqb y.source x.source same_s)) in
+      sym p.target ∙ eqb-true y.target x.target (not-false (y.target == x.target) last)
+    where
+      at_member : {X : Type 0} (P : X → Type 0) (xs : List X) (y : X) → All P xs → Contains xs y → P y
+      at_member P xs y all (k, within, is) = subst P is (all k y within)
+
+  mended_by : (c mode a : ℕ) → IsNext (moves ++ x ∷ []) c mode a → IsNext moves c mode a ⊎ ((is_repair_of c mode x ≡ true) × (a ≡ x.target))
+  mended_by c mode a p = elim (Contains-push_cases moves x p.repair p.of_model) [
+    | inl old ↦ inl (record { repair = p.repair; of_model = old; mends = p.mends; target = p.target })
+    | inr e ↦ inr (ap (is_repair_of c mode) e ∙ p.mends, sym p.target ∙ ap (λ (y : Move). y.target) (sym e))
+  ]
+
+  pub repair_fits : RepairsFit (moves ++ x ∷ [])
+  repair_fits = record {
+    one_target = λ c mode a b p q. elim (mended_by c mode a p) [
+      | inl old ↦ elim (mended_by c mode b q) [
+        | inl also ↦ h.one_target c mode a b old also
+        | inr new ↦ same_target c mode a old new.0 ∙ sym new.1
+      ]
+      | inr new ↦ elim (mended_by c mode b q) [
+        | inl old ↦ new.1 ∙ sym (same_target c mode b old new.0)
+        | inr also ↦ new.1 ∙ sym also.1
+      ]
+    ];
+    none_into = λ k d within.
+        broken_after _ _ ∙ or_from (is_broken moves _ _) _ (none_into_before k d within) (not_into k d within);
+    only_repairs_leave = All-push (λ move. IsTrue (is_broken (moves ++ x ∷ []) move.component move.source) → IsTrue move.repair) moves x
+        (λ k d within broken. leaves k d within (or_cases _ _ (sym (broken_after _ _) ∙ broken)))
+        (λ broken. repair);
+  }
+    where
+      marked : All (λ y. leaves_unmarked x.component x.source y ≡ false) moves
+      marked = all_of_any (leaves_unmarked x.component x.source) moves unmarked
+
+      leaves : (k : ℕ) (d : Move) (within : k < length moves) → (let y = get_or moves k d in (is_broken moves y.component y.source ≡ true) ⊎ ((x.component == y.component && x.source == y.source) ≡ true) → IsTrue y.repair)
+      leaves k d within (inl old) = h.only_repairs_leave k d within old
+      leaves k d within (inr new) =
+          let y = get_or moves k d in
+          elim (cases_Bool y.repair) [
+            | inl r ↦ r
+            | inr r ↦
+                let m = marked k d within in
+                let f = sym m ∙ ap (λ b. not b && (y.component == x.component && y.source == x.source)) r ∙ sym (both_sym x.component y.component x.source y.source) ∙ new in
+                absurd cc
+          ]
+
+-- ---- what holds where no code applies to a move
+
+pub record MayMove (m : PlantModel) (x : Move) (command : List ℕ) : Type 0 where
+  pub short : is_long command ≡ false
+  pub room : nat_le MAX_MOVES (length m.moves) ≡ false
+  pub clear : is_ambiguous m.moves x ≡ false
+  pub into : is_into_broken m.moves x ≡ false
+  pub exit : is_unmarked_exit m.moves x ≡ false
+  pub one : mends_twice m.moves x ≡ false
+
+pub may_move : (m : PlantModel) (x : Move) (command : List ℕ) → least ((4, is_long command || nat_le MAX_MOVES (length m.moves)) ∷ move_faults m x) ≡ None → MayMove m x command
+may_move m x command e =
+    let a = least_none 4 (is_long command || nat_le MAX_MOVES (length m.moves)) (move_faults m x) e in
+    let b = least_none 5 (is_ambiguous m.moves x) ((6, is_into_broken m.moves x) ∷ (7, is_unmarked_exit m.moves x) ∷ (8, mends_twice m.moves x) ∷ []) a.1 in
+    let c = least_none 6 (is_into_broken m.moves x) ((7, is_unmarked_exit m.moves x) ∷ (8, mends_twice m.moves x) ∷ []) b.1 in
+    let d = least_none 7 (is_unmarked_exit m.moves x) ((8, mends_twice m.moves x) ∷ []) c.1 in
+    let f = least_none 8 (mends_twice m.moves x) [] d.1 in
+    let limits = or_parts (is_long command) (nat_le MAX_MOVES (length m.moves)) a.0 in
+    record { short = limits.0; room = limits.1; clear = b.0; into = c.0; exit = d.0; one = f.0 }
+
+module _ (m : PlantModel) (x : Move) (command : List ℕ) (w : WellFormed m) (may : MayMove m x command) where
+  into_parts : (is_broken m.moves x.component x.target ≡ false) × ((x.repair && list_any (leads_to x.component x.source) (m.moves ++ x ∷ [])) ≡ false)
+  into_parts = or_parts (is_broken m.moves x.component x.target) _ may.into
+
+  exit_parts : ((not x.repair && is_broken m.moves x.component x.source) ≡ false) × ((x.repair && list_any (leaves_unmarked x.component x.source) m.moves) ≡ false)
+  exit_parts = or_parts (not x.repair && is_broken m.moves x.component x.source) _ may.exit
+
+  repairs_after : RepairsFit (m.moves ++ x ∷ [])
+  repairs_after = elim (cases_Bool x.repair) [
+    | inl r ↦ repair_fits m.moves x w.repairs r into_parts.0 (and_false x.repair _ into_parts.1 r) (and_false x.repair _ exit_parts.1 r) (and_false x.repair _ may.one r)
+    | inr r ↦ ordinary_fits m.moves x w.repairs r (and_false (not x.repair) _ exit_parts.0 (ap not r)) into_parts.0
+  ]
+
+  own_command : (y : Move) → (y.command == x.command && (not (y.component == x.component) || y.source == x.source)) ≡ false → y.command ≡ x.command → (y.component ≡ x.component) × (y.source ≢ x.source)
+  own_command y e same =
+      let p = or_parts (not (y.component == x.component)) (y.source == x.source) (and_false (y.command == x.command) _ e (eq-eqb y.command x.command same)) in
+      (eqb-true y.component x.component (not-false (y.component == x.component) p.0), λ s. false≢true (sym p.1 ∙ eq-eqb y.source x.source s))
+
+  commands_after : All (λ y. y.command ≡ x.command → (y.component ≡ x.component) × (y.source ≢ x.source)) m.moves
+  commands_after = All-weaker (λ y. (y.command == x.command && (not (y.component == x.component) || y.source == x.source)) ≡ false)
+      (λ y. y.command ≡ x.command → (y.component ≡ x.component) × (y.source ≢ x.source)) own_command m.moves
+      (all_of_any (λ y. y.command == x.command && (not (y.component == x.component) || y.source == x.source)) m.moves may.clear)
+
+  module _ (good : IsFormula m x.guard) (source : HasMode m x.component x.source) (target : HasMode m x.component x.target) (complete : IsComplete m) (number : x.command ≡ command_number m command) where
+    -- the number of a command that the model has
+    number_old : (k : ℕ) → place_of m.commands command ≡ Some k → x.command < length m.commands
+    number_old k e =
+        let none : List ℕ = [] in
+        let within = (position-Some (λ name. bytes_eq name command) m.commands k none e).0 in
+        let is : x.command ≡ k = number ∙ ap (λ o. unwrap_or o (length m.commands)) e in
+        omega (arith, within, is)
+
+    pub number_new : place_of m.commands command ≡ None → x.command ≡ length m.commands
+    number_new e = number ∙ ap (λ o. unwrap_or o (length m.commands)) e
+
+    pub old_move_kept : (k : ℕ) → place_of m.commands command ≡ Some k → WellFormed (with_move m x)
+    old_move_kept k e =
+        let within = number_old k e in
+        move_kept m x w (below MAX_MOVES (length m.moves) may.room) (record { source = source; target = target; command = within; guard = good }) repairs_after commands_after
+        (λ c before. complete c (omega (arith, within, before)))
+
+    pub new_command_kept : place_of m.commands command ≡ None → is_bare_name command ≡ true → WellFormed (with_command m command)
+    new_command_kept e bare =
+        command_kept m command w (is_named command bare may.short)
+        (All-weaker (λ name. bytes_eq name command ≡ false) (λ name. name ≢ command) (λ name f same. false≢true (sym f ∙ (bytes_eq-Decides name command).1 same)) m.commands
+        (none_passes (λ name. bytes_eq name command) m.commands e))
+
+    pub new_move_kept : place_of m.commands command ≡ None → is_bare_name command ≡ true → WellFormed (with_move (with_command m command) x)
+    new_move_kept e bare =
+        let is = number_new e in
+        let longer = length_push m.commands command in
+        move_kept (with_command m command) x (new_command_kept e bare) (below MAX_MOVES (length m.moves) may.room)
+        (record { source = source; target = target; command = omega (arith, is, longer); guard = record { fits = good.fits; shallow = good.shallow } }) repairs_after commands_after
+        (λ c before. complete c (omega (arith, is, before)))
+
+-- ---- commands
+
+not_equal : (a b : ℕ) → a < b → eqb a b ≡ false
+not_equal a b h = elim (cases_Bool (eqb a b)) [ inl e ↦ (let same = eqb-true a b e in absurd (omega (arith, h, same))) | inr e ↦ e ]
+
+-- no move has a command that the model lacks
+unused_next : (m : PlantModel) → WellFormed m → is_used m.moves (length m.commands) ≡ false
+unused_next m w =
+    list_any_none (λ move. move.command == length m.commands) m.moves
+    (All-weaker (IsMove m) (λ move. (move.command == length m.commands) ≡ false) (λ move h. not_equal move.command (length m.commands) h.command) m.moves w.moves)
+
+take_front : {X : Type 0} (xs : List X) (x : X) → take (length xs) (xs ++ x ∷ []) ≡ xs
+take_front [] x = refl
+take_front (y ∷ xs) x = ap (λ (l : List _). y ∷ l) (take_front xs x)
+
+-- the last command, taken back
+pub command_taken_back : (m : PlantModel) (command : List ℕ) → without_last_command (with_command m command) ≡ m
+command_taken_back m command =
+    let n : length (m.commands ++ command ∷ []) - 1 ≡ length m.commands = omega (arith, length_push m.commands command) in
+    ap (λ (k : ℕ). record m { commands = take k (m.commands ++ command ∷ []) }) n ∙ ap (λ (cs : List (List ℕ)). record m { commands = cs }) (take_front m.commands command)
+
+-- the map with the new command
+place_push : (cs : List (List ℕ)) (command q : List ℕ) → place_of cs command ≡ None → place_of (cs ++ command ∷ []) q ≡ cond (bytes_eq command q) (Some (length cs)) (place_of cs q)
+place_push cs command q free =
+    position_push (λ name. bytes_eq name q) cs command ∙ go (place_of cs q) (bytes_eq command q) (λ e. ap (place_of cs) (sym ((bytes_eq-Decides command q).0 e)) ∙ free)
+  where
+    go : (o : Option ℕ) (b : Bool) → (b ≡ true → o ≡ None) → or_else o (cond b (Some (length cs)) None) ≡ cond b (Some (length cs)) o
+    go None true h = refl
+    go None false h = refl
+    go (Some k) true h = let e = h refl in absurd cc
+    go (Some k) false h = refl
+
+pub command_numbered : (old new : Names ℕ) (cs : List (List ℕ)) (command : List ℕ) → NumbersFit old cs → place_of cs command ≡ None → Updates (pointwise nat_eq) old new command (Some (length cs)) → NumbersFit new (cs ++ command ∷ [])
+command_numbered old new cs command fit free h q =
+    h.0 q ∙ ap (λ (o : Option ℕ). cond (bytes_eq command q) (Some (length cs)) o) (fit q) ∙ sym (place_push cs command q free)
+
+pub unchanged_numbers : (old new : Names ℕ) (cs : List (List ℕ)) → IsUnchanged old new → NumbersFit old cs → NumbersFit new cs
+unchanged_numbers old new cs e fit q = ap (λ entries. lookup (pointwise nat_eq q) entries) e ∙ fit q
+
+-- ---- completeness
+
+used_push : (moves : List Move) (x : Move) (k : ℕ) → (IsTrue (is_used moves k)) ⊎ (x.command ≡ k) → IsTrue (is_used (moves ++ x ∷ []) k)
+used_push moves x k (inl old) = any_push (λ move. move.command == k) moves x ∙ ap (λ b. b || x.command == k) old
+used_push moves x k (inr new) = any_push (λ move. move.command == k) moves x ∙ ap (λ b. is_used moves k || b) (eq-eqb x.command k new) ∙ or_true (is_used moves k)
+  where
+    or_true : (b : Bool) → (b || true) ≡ true
+    or_true true = refl
+    or_true false = refl
+
+pub with_named_old : (m : PlantModel) (command : List ℕ) (k : ℕ) → place_of m.commands command ≡ Some k → with_named m command ≡ m
+with_named_old m command k e = ap (λ o. cond (is_some o) m (with_command m command)) e
+
+pub with_named_new : (m : PlantModel) (command : List ℕ) → place_of m.commands command ≡ None → with_named m command ≡ with_command m command
+with_named_new m command e = ap (λ o. cond (is_some o) m (with_command m command)) e
+
+pub old_complete : (m : PlantModel) (x : Move) → IsComplete m → IsComplete (with_move m x)
+old_complete m x h k within = used_push m.moves x k (inl (h k within))
+
+pub new_complete : (m : PlantModel) (x : Move) (command : List ℕ) → x.command ≡ length m.commands → IsComplete m → IsComplete (with_move (with_command m command) x)
+new_complete m x command e h k within =
+    let longer = length_push m.commands command in
+    elim (cases_lt k (length m.commands)) [
+      | inl old ↦ used_push m.moves x k (inl (h k old))
+      | inr new ↦ used_push m.moves x k (inr (omega (arith, e, new, longer, within)))
+    ]
+
+-- the last of one more command is used by no move
+pub unused_last : (m : PlantModel) (command : List ℕ) → WellFormed m → is_used m.moves (length (m.commands ++ command ∷ []) - 1) ≡ false
+unused_last m command w =
+    let n : length (m.commands ++ command ∷ []) - 1 ≡ length m.commands = omega (arith, length_push m.commands command) in
+    ap (is_used m.moves) n ∙ unused_next m w

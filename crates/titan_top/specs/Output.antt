@@ -1,0 +1,119 @@
+-- The whole text and the status for words and an input.
+use Rattle.std.specs.Prelude.{◌≡◌, ℕ, List, [], ◌∷◌, ◌++◌, Option, Some, None, codes, String}
+use Rattle.std.specs.Global.{Global}
+use Rattle.cca_base.specs.declared.events.Refusal.{Refusal}
+use Rattle.cca_base.specs.PlantModel.{PlantModel}
+use Rattle.trace_text.specs.Refusals.{refusal_line}
+use Rattle.trace_text.specs.Reports.{reports_text}
+use Rattle.plain_laws.specs.Executive.{Standing, begin, reports_from}
+use Rattle.cca_base.specs.Accepted.{CompiledModel}
+use Rattle.trace_text.specs.Compiled.{show_text}
+use Rattle.titan_top.specs.Acceptance.{Acceptance, AcceptedAs, RefusedFor, IsAcceptanceOf}
+use Rattle.titan_top.specs.Document.{Document, DocumentEnd, Complete, RefusedAt, ModelText, Scripted, Stopped, EndsModel, SaysByEnd, IsDocument}
+use Rattle.titan_top.specs.Words.{form_of, texts}
+use Rattle.titan_top.specs.declared.status.Status.{Status}
+use Rattle.titan_top.specs.declared.status.Status.TheVariants.{Ended, Rejected, Usage, Refused, ReadFault, WriteFault, Memory}
+use Rattle.titan_top.specs.declared.words.Form.{Form}
+use Rattle.titan_top.specs.declared.words.Form.TheVariants.{Run, Show}
+
+-- what is printed and the status that it ends with, where no fault comes
+pub record Outcome : Type 0 where
+  pub text : List ℕ
+  pub status : Status
+
+-- the outcome of a refusal
+abbrev pub refusal : PlantModel → ℕ → Refusal → Outcome
+refusal m line r = record { text = refusal_line m line r; status = Refused }
+
+-- a text that is printed before the rest
+abbrev pub with_text : List ℕ → Outcome → Outcome
+with_text text o = record { text = text ++ o.text; status = o.status }
+
+-- what is printed for the end of an input, and its status
+abbrev pub ending : PlantModel → DocumentEnd → Outcome
+ending m Complete = record { text = []; status = Ended }
+ending m (RefusedAt line r) = refusal m line r
+
+-- the lines of the reports of a reading's events, from a standing on, and then its ending
+unfoldable pub printed_from : PlantModel → Standing → Document → Outcome
+printed_from m x r = with_text (reports_text m (reports_from m x r.events)) (ending m r.ending)
+
+-- what is printed of a reading: the executive makes its events one after the other
+unfoldable pub printed : Document → Outcome
+printed r = printed_from r.model (begin r.model) r
+
+-- the line for words of no form
+abbrev pub usage_text : List ℕ
+usage_text = codes "usage: see the forms of titan" ++ 10 ∷ []
+
+-- the outcome for words of no form
+abbrev pub usage : Outcome
+usage = record { text = usage_text; status = Usage }
+
+-- words of no form
+abbrev pub AreNoForm : List (String Global) → Type 0
+AreNoForm words = form_of (texts words) ≡ None
+
+-- what is shown of a model that is accepted
+abbrev pub shown_model : CompiledModel → Outcome
+shown_model b = record { text = show_text b; status = Ended }
+
+-- what is shown of a model whose script stands behind n lines
+abbrev pub shown_acceptance : PlantModel → ℕ → Acceptance → Outcome
+shown_acceptance m n (AcceptedAs b) = shown_model b
+shown_acceptance m n (RefusedFor r) = refusal m n r
+
+-- what is shown, by how the model ends
+abbrev pub IsShown : ModelText → Outcome → Type 0
+IsShown (Scripted m n short ls) o = (v : Acceptance) × IsAcceptanceOf m short v × (o ≡ shown_acceptance m n v)
+IsShown (Stopped m line r) o = o ≡ refusal m line r
+
+-- the outcome for a form of words, by how the model ends
+abbrev pub IsOutcomeByEnd : Form → ModelText → Outcome → Type 0
+IsOutcomeByEnd Run end o = (r : Document) × SaysByEnd end r × (o ≡ printed r)
+IsOutcomeByEnd Show end o = IsShown end o
+
+-- the outcome for a form of words and an input
+abbrev pub IsOutcomeFor : Form → List ℕ → Outcome → Type 0
+IsOutcomeFor form input o = (end : ModelText) × EndsModel input end × IsOutcomeByEnd form end o
+
+-- the outcome for words of a form, or of none
+abbrev pub IsOutcomeOf : Option Form → List ℕ → Outcome → Type 0
+IsOutcomeOf None input o = o ≡ usage
+IsOutcomeOf (Some form) input o = IsOutcomeFor form input o
+
+-- the outcome for words and an input
+unfoldable pub IsOutcome : List (String Global) → List ℕ → Outcome → Type 0
+IsOutcome words input o = IsOutcomeOf (form_of (texts words)) input o
+
+-- the model came to its script, and is accepted
+abbrev pub IsAcceptedEnd : ModelText → Type 0
+IsAcceptedEnd (Scripted m n short ls) = (b : CompiledModel) × IsAcceptanceOf m short (AcceptedAs b)
+IsAcceptedEnd (Stopped m line r) = ⊥
+
+-- a line of the model is refused, or the model itself at its script
+abbrev pub IsRefusedEnd : ModelText → ℕ → Refusal → Type 0
+IsRefusedEnd (Scripted m n short ls) line r = (line ≡ n) × IsAcceptanceOf m short (RefusedFor r)
+IsRefusedEnd (Stopped m n s) line r = (line ≡ n) × (r ≡ s)
+
+-- nothing that the form reads is refused: `run` reads the whole input, and `show` its model
+abbrev pub NothingRefused : Option Form → List ℕ → Type 0
+NothingRefused None input = ⊥
+NothingRefused (Some Run) input = (r : Document) × IsDocument input r × (r.ending ≡ Complete)
+NothingRefused (Some Show) input = (end : ModelText) × EndsModel input end × IsAcceptedEnd end
+
+-- the first line that is refused, and why
+abbrev pub SomeRefused : Option Form → List ℕ → Type 0
+SomeRefused None input = ⊥
+SomeRefused (Some Run) input = (r : Document) × IsDocument input r × ((line : ℕ) × (refusal : Refusal) × (r.ending ≡ RefusedAt line refusal))
+SomeRefused (Some Show) input = (end : ModelText) × EndsModel input end × ((line : ℕ) × (refusal : Refusal) × IsRefusedEnd end line refusal)
+
+-- a status that comes from a fault or from want of memory
+abbrev pub IsCut : Status → Type 0
+IsCut ReadFault = Unit {0}
+IsCut WriteFault = Unit {0}
+IsCut Memory = Unit {0}
+IsCut Ended = ⊥
+IsCut Rejected = ⊥
+IsCut Usage = ⊥
+IsCut Refused = ⊥
