@@ -2,3 +2,4 @@ pub mod Wire
 pub mod Memory
 pub mod Steady
 pub mod Edge
+pub mod Front

@@ -1,6 +1,9 @@
-ghost use Rattle.std.specs.Prelude.{◌≡◌, ◌^◌, ◌<◌, ◌≤◌, length, take, Some, None, IfOk};
+//! Sources and sinks over real readers and writers.
+
+ghost use Rattle.std.specs.Prelude.{◌≡◌, ◌^◌, ◌<◌, ◌≤◌, length, take, Some, None, IfOk, OnErr};
 ghost use Rattle.std.specs.Io.KnownBytes.{ReadConsumes, Appends};
 ghost use Rattle.titan_wire.specs.Wire.{HasCause, faults_after};
+ghost use Rattle.titan_wire.specs.Front.{AppendsFront};
 
 use crate::wire::{Failed, Sink, Source};
 use std::io::{ErrorKind, Read, Write};
@@ -23,23 +26,30 @@ fn read_once<R: Read>(reader: &mut R, buf: &mut [u8]) -> Result<usize, Failed>
     Err(Failed)
 }
 
-/// One write, tried again as long as it is interrupted, and then a flush.
+/// One write, tried again as long as it is interrupted, and then a flush. Bytes that were written and
+/// then not flushed stay written.
+#[tactic(auto, using(crate::proofs::FailedWrites::kept, crate::proofs::FailedWrites::written, crate::proofs::FailedWrites::written_and_kept))]
 fn write_once<W: Write>(writer: &mut W, piece: &[u8]) -> Result<usize, Failed>
     ensures count { IfOk result (λ n. (0 < n) × (n ≤ length piece.now)) }
     ensures bytes { IfOk result (λ n.
         Appends (W.contents writer.old) (W.contents writer.new) (take n piece.now)) }
+    ensures err { OnErr result
+        (AppendsFront (W.contents writer.old) (W.contents writer.new) piece.now) }
 {
     for _ in 0..u64::MAX {
         match writer.write(piece) {
             Ok(count) => {
-                if count > 0 && writer.flush().is_ok() {
-                    return Ok(count);
+                if count == 0 {
+                    return Err(Failed);
                 }
-                break;
+                if writer.flush().is_err() {
+                    return Err(Failed);
+                }
+                return Ok(count);
             }
             Err(e) => {
                 if e.kind() != ErrorKind::Interrupted {
-                    break;
+                    return Err(Failed);
                 }
             }
         }
@@ -132,6 +142,10 @@ impl<W: Write> Sink for WriterSink<W> {
         ensures faults { writer_faults self.new ≡ faults_after (writer_faults self.old) result }
         ensures bytes { IfOk result (λ n. Appends
             (W.contents (writer_of self.old)) (W.contents (writer_of self.new)) (take n piece.now)) }
+
+        // A piece that failed isn't written again: the writer got a front of it, or nothing.
+        ensures err_bytes { OnErr result (AppendsFront
+            (W.contents (writer_of self.old)) (W.contents (writer_of self.new)) piece.now) }
     {
         let result = write_once(&mut self.writer, piece);
         if result.is_err() {

@@ -1,3 +1,5 @@
+//! Sources and sinks in memory.
+
 ghost use Rattle.std.specs.Prelude.{◌≡◌, ◌+◌, ◌-◌, ◌^◌, ◌<◌, ◌≤◌, ◌↔◌, ◌⊎◌, min, [], ◌++◌, length, take, Some, None, vec_len, vec_capacity, IsErr, IfOk, OnErr, IfSome, Contains};
 ghost use Rattle.std.specs.Io.KnownBytes.{prepend_known, append_known, IsAtEnd};
 ghost use Rattle.titan_wire.specs.Wire.{HasCause, counted, faults_after};

@@ -1,3 +1,5 @@
+//! Sources and sinks that never fail.
+
 ghost use Rattle.std.specs.Prelude.{◌≡◌, ◌+◌, ◌-◌, ◌<◌, ◌≤◌, min, [], length, take, Some, vec_len, vec_capacity, IfOk, IsOkAnd, OnErr, IfSome};
 ghost use Rattle.std.proofs.Common.{lit<};
 ghost use Rattle.std.specs.Io.KnownBytes.{prepend_known, append_known, IsAtEnd};

@@ -1,3 +1,5 @@
+//! Sources of bytes and sinks of pieces, which count their faults.
+
 ghost use Rattle.std.specs.Prelude.{◌≡◌, ℕ, ◌+◌, ◌-◌, ◌^◌, ◌<◌, ◌≤◌, List, [], length, take, Option, IfOk, OnErr, ◌⊎◌};
 ghost use Rattle.std.specs.Io.KnownBytes.{prepend_known, append_known, IsAtEnd};
 ghost use Rattle.titan_wire.specs.Wire.{Rose, HasCause, HasRoom, less_space, sent_of};

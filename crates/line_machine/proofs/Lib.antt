@@ -1,0 +1,12 @@
+pub mod FirstLineFeed
+pub mod BetweenLines
+pub mod Calls
+pub mod DriverInvariant
+pub mod LastBytes
+pub mod LengthCodes
+pub mod JoinedLines
+pub mod RunsAreOne
+pub mod SentPieces
+pub mod SureTextBegins
+pub mod LineOutput
+pub mod KnownInputs

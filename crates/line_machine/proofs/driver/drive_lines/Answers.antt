@@ -1,0 +1,75 @@
+use Rattle.std.proofs.Common.{◌+◌, sym, subst, ◌∙◌, arith}
+use Rattle.std.proofs.lemmas.List.{take_all}
+use Rattle.line_machine.proofs.DriverInvariant.{IsDriving, came, goes_on_line, in_turn, found_line, found_long, found_last, line_room, line_cut, line_ends, line_next, line_few, long_room, long_cut, long_refused, starved, no_memory, last_room, last_ends}
+use Rattle.line_machine.proofs.driver.drive_lines.Goals as goal
+
+pub refuse-requires : goal.refuse-requires
+refuse-requires g c =
+    let d = came c.lines.invariant.driving c.next_limit-limit.ensures.short c.next_line.ensures.came in
+    let f = found_long _ _ _ c.in-Ok.found c.in-Ok.ensures.found c.in-Long.is in
+    long_room d f.0 (omega (arith, f.1)) (c.next_limit-limit.ensures.long _ f.1) c.requires
+
+pub returns-in-Ok-refuse-clause-driven : goal.returns-in-Ok-refuse-clause-driven
+returns-in-Ok-refuse-clause-driven g c =
+    let d = came c.lines.invariant.driving c.next_limit-limit.ensures.short c.next_line.ensures.came in
+    let f = found_long _ _ _ c.in-Ok.found c.in-Ok.ensures.found c.in-Long.is in
+    in_turn _ d (long_refused d f.0 (omega (arith, f.1)) (c.next_limit-limit.ensures.long _ f.1) c.in-Ok-refuse.ensures.ok)
+
+pub returns-in-Err-clause-driven : goal.returns-in-Err-clause-driven
+returns-in-Err-clause-driven g c =
+    let d = came c.lines.invariant.driving c.next_limit-limit.ensures.short c.next_line.ensures.came in
+    let f = found_long _ _ _ c.in-Ok.found c.in-Ok.ensures.found c.in-Long.is in
+    in_turn _ d (long_cut d f.0 (omega (arith, f.1)) (c.next_limit-limit.ensures.long _ f.1) _ c.in-Err.ensures.cut)
+
+pub take_last-requires-clause-room : goal.take_last-requires-clause-room
+take_last-requires-clause-room g c =
+    let d = came c.lines.invariant.driving c.next_limit-limit.ensures.short c.next_line.ensures.came in
+    let f = found_last _ _ _ c.in-Ok.found c.in-Ok.ensures.found c.in-Last.is in
+    last_room d f.0.no_line f.1 (c.front.ensures ∙ take_all _ _ (omega (arith, c.len-len.ensures))) c.requires
+
+pub returns-in-Last-clause-driven : goal.returns-in-Last-clause-driven
+returns-in-Last-clause-driven g c =
+    let d = came c.lines.invariant.driving c.next_limit-limit.ensures.short c.next_line.ensures.came in
+    let f = found_last _ _ _ c.in-Ok.found c.in-Ok.ensures.found c.in-Last.is in
+    in_turn _ d (last_ends d f.0.no_line f.1 (c.front.ensures ∙ take_all _ _ (omega (arith, c.len-len.ensures))) c.take_last.result _ c.take_last.ensures.ok c.take_last.ensures.cut c.take_last.ensures.front)
+
+pub returns-in-Err-Fault-clause-driven : goal.returns-in-Err-Fault-clause-driven
+returns-in-Err-Fault-clause-driven g c =
+    let d = came c.lines.invariant.driving c.next_limit-limit.ensures.short c.next_line.ensures.came in
+    let w = c.in-Err-Fault.ensures.waits in
+    in_turn _ d (starved d w.no_line (λ some. c.next_limit-limit.ensures.short _ some w.short))
+
+pub returns-in-Err-Memory-clause-driven : goal.returns-in-Err-Memory-clause-driven
+returns-in-Err-Memory-clause-driven g c =
+    let d = came c.lines.invariant.driving c.next_limit-limit.ensures.short c.next_line.ensures.came in
+    in_turn _ d (no_memory d)
+
+pub take_line-requires : goal.take_line-requires
+take_line-requires g c =
+    let d = came c.lines.invariant.driving c.next_limit-limit.ensures.short c.next_line.ensures.came in
+    let line = found_line _ _ _ c.in-Ok.found c.in-Ok.ensures.found c.in-Line.len c.in-Line.is in
+    line_room d line c.front-in-lines.ensures c.requires
+
+pub returns-in-Err-take_line-clause-driven : goal.returns-in-Err-take_line-clause-driven
+returns-in-Err-take_line-clause-driven g c =
+    let d = came c.lines.invariant.driving c.next_limit-limit.ensures.short c.next_line.ensures.came in
+    let line = found_line _ _ _ c.in-Ok.found c.in-Ok.ensures.found c.in-Line.len c.in-Line.is in
+    in_turn _ d (line_cut d line c.front-in-lines.ensures _ c.in-Err-take_line.ensures.cut)
+
+pub returns-in-Some-clause-driven : goal.returns-in-Some-clause-driven
+returns-in-Some-clause-driven g c =
+    let d = came c.lines.invariant.driving c.next_limit-limit.ensures.short c.next_line.ensures.came in
+    let line = found_line _ _ _ c.in-Ok.found c.in-Ok.ensures.found c.in-Line.len c.in-Line.is in
+    in_turn _ d (line_ends d line c.front-in-lines.ensures _ c.in-Ok-take_line.said c.in-Some.end c.in-Some.is c.in-Ok-take_line.ensures.ok)
+
+pub lines-preserved : goal.lines-preserved
+lines-preserved g c =
+    let d = goes_on_line c.in-Ok.found c.in-Line.is (came c.lines.invariant.driving c.next_limit-limit.ensures.short c.in-Ok.ensures.came) in
+    let line = found_line _ _ _ c.in-Ok.found c.in-Ok.ensures.found c.in-Line.len c.in-Line.is in
+    record {
+      driving = subst (λ h. IsDriving g.M.Machine c.args.machine.now (g.I.Intake.left c.args.source.now) (g.K.Sink.written c.args.sink.now) (g.K.Sink.space c.args.sink.now) (g.I.Intake.calls c.args.source.now) ⊥ (c.lines.count + 1) c.take_line.new.machine h (g.I.Intake.left c.next_line.new.source) (g.K.Sink.written c.take_line.new.sink) (g.K.Sink.space c.take_line.new.sink) (g.I.Intake.calls c.next_line.new.source)) (sym c.drop_line.ensures)
+          (line_next d line c.front-in-lines.ensures _ c.in-Ok-take_line.said c.in-None.is c.in-Ok-take_line.ensures.ok);
+      few = line_few d line c.front-in-lines.ensures _ c.in-Ok-take_line.said c.in-None.is c.in-Ok-take_line.ensures.ok;
+      later_source = omega (arith, c.next_line.ensures.later, c.lines.invariant.later_source);
+      later_sink = omega (arith, c.take_line.ensures.later, c.lines.invariant.later_sink);
+    }

@@ -1,0 +1,10 @@
+pub mod Call
+pub mod Calls
+pub mod Driven
+pub mod Found
+pub mod KnownInput
+pub mod Lines
+pub mod Next
+pub mod Runs
+pub mod Sent
+pub mod SentCut

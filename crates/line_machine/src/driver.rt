@@ -1,0 +1,147 @@
+//! The driver: one loop that reads a line, steps the machine, and prints what it says before it reads again.
+ghost use Rattle.std.specs.Prelude.{◌≡◌, ◌+◌, ◌<◌, ◌≤◌, ℕ, Some, None, IsErrOf, IfSome, IfOk, IfErr, List};
+ghost use Rattle.titan_wire.specs.Wire.{Rose};
+ghost use Rattle.line_machine.specs.Runs.{length_code, IsText};
+ghost use Rattle.line_machine.specs.declared.machine.End.{End};
+ghost use Rattle.line_machine.specs.Calls.{AsksInTurn, DrivenInTurn};
+ghost use Rattle.line_machine.specs.Driven.{HasRoomFor};
+ghost use Rattle.line_machine.specs.KnownInput.{Streamed, OutputFor};
+
+use crate::buffer::{FillStop, Found, LineBuffer};
+use crate::intake::{Intake, Unwatched};
+use crate::line::{refuse, take_last, take_line};
+use crate::machine::{End, LONG_LINE, MAX_LINES, Machine, TOO_MANY_LINES};
+use crate::send::Cut;
+use std::alloc::Global;
+use titan_wire::{Sink, Source};
+
+/// The most bytes of the line behind so many lines, and the code that it has with more.
+#[tactic(auto, using(crate::proofs::LengthCodes::long_code, crate::proofs::LengthCodes::short_code, crate::proofs::LengthCodes::many_code))]
+fn next_limit<M: Machine>(machine: &M, count: u64) -> (usize, u8)
+    ensures long { (len : ℕ) → result.0 < len → length_code (M.limit_of machine.now) (count + 1) len ≡
+        Some result.1 }
+    ensures short { (len : ℕ) → 0 < len → len ≤ result.0 →
+        length_code (M.limit_of machine.now) (count + 1) len ≡ None }
+{
+    if count < MAX_LINES {
+        (machine.limit(), LONG_LINE)
+    } else {
+        (0, TOO_MANY_LINES)
+    }
+}
+
+/// The loop of `drive_by`.
+fn drive_lines<M: Machine, S, K: Sink, I: Intake<S, K>>(
+    alloc: Global,
+    machine: &mut M,
+    source: &mut S,
+    sink: &mut K,
+) -> Result<End, Cut>
+    requires { HasRoomFor M.Machine machine.old (I.left source.old) (K.space sink.old) }
+    ensures driven { DrivenInTurn M.Machine machine.old (I.left source.old) (I.left source.new)
+        (K.written sink.old) (K.written sink.new) (I.calls source.old) (I.calls source.new) result }
+    ensures read { IsErrOf result Cut.ReadFault → Rose (I.faults source.old) (I.faults source.new) }
+    ensures write { IsErrOf result Cut.WriteFault → Rose (K.faults sink.old) (K.faults sink.new) }
+{
+    let mut buffer = LineBuffer::new(alloc);
+    let mut count: u64 = 0;
+    'lines: loop {
+        let (limit, code) = next_limit(machine, count);
+        let found = match buffer.next_line::<S, K, I>(source, sink, limit) {
+            Ok(found) => found,
+            Err(FillStop::Fault) => return Err(Cut::ReadFault),
+            Err(FillStop::Memory) => return Err(Cut::Memory),
+        };
+        let len = match found {
+            Found::Line(len) => len,
+            Found::Long => match refuse(alloc, machine, count + 1, code, sink) {
+                Ok(()) => return Ok(End::Refused),
+                Err(cut) => return Err(cut),
+            },
+            Found::Last => {
+                let len = buffer.len();
+                return take_last(alloc, machine, count, buffer.front(len), sink);
+            }
+        };
+        let said = match take_line(alloc, machine, count + 1, buffer.front(len), sink) {
+            Ok(said) => said,
+            Err(cut) => return Err(cut),
+        };
+        match said {
+            None => {}
+            Some(end) => return Ok(end),
+        }
+        buffer.drop_line(len);
+        count += 1;
+    }
+}
+
+/// Hands the lines of a source to the machine, one after the other, and what it says of each to the sink before the next one is
+/// read. The source is asked by an intake, so that the order of reads and writes can be said.
+pub fn drive_by<M: Machine, S, K: Sink, I: Intake<S, K>>(
+    alloc: Global,
+    machine: &mut M,
+    source: &mut S,
+    sink: &mut K,
+) -> Result<End, Cut>
+    requires { HasRoomFor M.Machine machine.old (I.left source.old) (K.space sink.old) }
+
+    // Over every source: the bytes that were taken, what the machine says of them, and what of it was written.
+    ensures streamed { Streamed M.Machine machine.old (I.left source.old) (I.left source.new)
+        (K.written sink.old) (K.written sink.new) result }
+
+    // At each call of the source all that the bytes taken decide had been written, and that is no end. After a call that brings
+    // nothing there is no other.
+    ensures order { AsksInTurn M.Machine machine.old (I.left source.old) (I.left source.new)
+        (K.written sink.old) (I.calls source.old) (I.calls source.new) }
+
+    // Over a source whose bytes are known: the whole text of the input, or a prefix of it.
+    ensures text { IfSome (I.left source.old) (λ input. OutputFor M.Machine machine.old input
+        (K.written sink.old) (K.written sink.new) result) }
+
+    // An answer without a fault is the end of each text of the input.
+    ensures ends { IfSome (I.left source.old) (λ input. (e : End) (text : List ℕ) →
+        IsText M.Machine machine.old input e text → IfOk result (λ f. f ≡ e)) }
+
+    // Each fault has its cause.
+    ensures read { IsErrOf result Cut.ReadFault → Rose (I.faults source.old) (I.faults source.new) }
+    ensures write { IsErrOf result Cut.WriteFault → Rose (K.faults sink.old) (K.faults sink.new) }
+
+    // Where no fault rose, it comes to the end, or memory ran out.
+    ensures complete { ¬ (Rose (I.faults source.old) (I.faults source.new)) →
+        ¬ (Rose (K.faults sink.old) (K.faults sink.new)) → IfErr result (λ c. c ≡ Cut.Memory) }
+{
+    drive_lines::<M, S, K, I>(alloc, machine, source, sink)
+}
+
+/// `drive_by` over a source by itself.
+pub fn drive<M: Machine, S: Source, K: Sink>(
+    alloc: Global,
+    machine: &mut M,
+    source: &mut S,
+    sink: &mut K,
+) -> Result<End, Cut>
+    requires { HasRoomFor M.Machine machine.old (S.left source.old) (K.space sink.old) }
+
+    // Over every source: the bytes that were taken, what the machine says of them, and what of it was written.
+    ensures streamed { Streamed M.Machine machine.old (S.left source.old) (S.left source.new)
+        (K.written sink.old) (K.written sink.new) result }
+
+    // Over a source whose bytes are known: the whole text of the input, or a prefix of it.
+    ensures text { IfSome (S.left source.old) (λ input. OutputFor M.Machine machine.old input
+        (K.written sink.old) (K.written sink.new) result) }
+
+    // An answer without a fault is the end of each text of the input.
+    ensures ends { IfSome (S.left source.old) (λ input. (e : End) (text : List ℕ) →
+        IsText M.Machine machine.old input e text → IfOk result (λ f. f ≡ e)) }
+
+    // Each fault has its cause.
+    ensures read { IsErrOf result Cut.ReadFault → Rose (S.faults source.old) (S.faults source.new) }
+    ensures write { IsErrOf result Cut.WriteFault → Rose (K.faults sink.old) (K.faults sink.new) }
+
+    // Where no fault rose, it comes to the end, or memory ran out.
+    ensures complete { ¬ (Rose (S.faults source.old) (S.faults source.new)) →
+        ¬ (Rose (K.faults sink.old) (K.faults sink.new)) → IfErr result (λ c. c ≡ Cut.Memory) }
+{
+    drive_by::<M, S, K, Unwatched>(alloc, machine, source, sink)
+}

@@ -1,0 +1,139 @@
+//! One turn of the driver: a line, the refusal of a line, or the end of the input, with what is printed for it.
+ghost use Rattle.std.specs.Prelude.{◌≡◌, ◌≢◌, ◌≤◌, ◌<◌, ◌^◌, ℕ, List, length, option_map, IfOk, IfErr, IfNone, OnErr, IsErrOf};
+ghost use Rattle.titan_wire.specs.Wire.{Rose, HasRoom};
+ghost use Rattle.line_machine.specs.Next.{Next, next_of};
+ghost use Rattle.line_machine.specs.Sent.{Sent, SentFront};
+ghost use Rattle.line_machine.specs.SentCut.{SentCut};
+ghost use Rattle.line_machine.specs.Runs.{length_code, MayPrint, Transition, Ends, MayEnd};
+ghost use Rattle.line_machine.specs.declared.machine.End.{End};
+
+use crate::machine::{End, LONG_LINE, MAX_LINES, Machine, TOO_MANY_LINES};
+use crate::send::{Cut, send};
+use std::alloc::Global;
+use titan_wire::Sink;
+
+/// The code that a line has by its number and its length alone.
+fn length_code(limit: usize, number: u64, len: usize) -> Option<u8>
+    ensures { result ≡ length_code limit number len }
+{
+    if number > MAX_LINES {
+        Some(TOO_MANY_LINES)
+    } else if len > limit {
+        Some(LONG_LINE)
+    } else {
+        None
+    }
+}
+
+/// Prints the refusal of a line.
+pub fn refuse<M: Machine, K: Sink>(
+    alloc: Global,
+    machine: &M,
+    number: u64,
+    code: u8,
+    sink: &mut K,
+) -> Result<(), Cut>
+    requires { HasRoom (K.space sink.old) (length (M.refusal machine.now number code)) }
+    ensures ok { IfOk result (λ _. Sent (λ x. x ≡ M.refusal machine.now number code)
+        (K.written sink.old) (K.written sink.new) (K.space sink.old) (K.space sink.new)) }
+    ensures cut { IfErr result (λ c. SentCut c (λ x. x ≡ M.refusal machine.now number code)
+        (K.written sink.old) (K.written sink.new)) }
+    ensures later { K.faults sink.old ≤ K.faults sink.new }
+    ensures fault { IsErrOf result Cut.WriteFault → Rose (K.faults sink.old) (K.faults sink.new) }
+{
+    match machine.refuse(alloc, number, code) {
+        Ok(text) => send(sink, text.as_slice()),
+        Err(_) => Err(Cut::Memory),
+    }
+}
+
+/// Hands a line to the machine, and prints what it says. A line that is too long or one too many is refused before.
+pub fn take_line<M: Machine, K: Sink>(
+    alloc: Global,
+    machine: &mut M,
+    number: u64,
+    line: &[u8],
+    sink: &mut K,
+) -> Result<Option<End>, Cut>
+    requires { (text : List ℕ) → MayPrint M.Machine machine.old number line.now text →
+        HasRoom (K.space sink.old) (length text) }
+    ensures ok { IfOk result (λ end. Sent (Transition M.Machine machine.old number line.now
+        (next_of machine.new end)) (K.written sink.old) (K.written sink.new) (K.space sink.old)
+        (K.space sink.new)) }
+    ensures cut { IfErr result (λ c. SentCut c (MayPrint M.Machine machine.old number line.now)
+        (K.written sink.old) (K.written sink.new)) }
+    ensures later { K.faults sink.old ≤ K.faults sink.new }
+    ensures fault { IsErrOf result Cut.WriteFault → Rose (K.faults sink.old) (K.faults sink.new) }
+{
+    match length_code(machine.limit(), number, line.len()) {
+        Some(code) => match refuse(alloc, machine, number, code, sink) {
+            Ok(()) => Ok(Some(End::Refused)),
+            Err(cut) => Err(cut),
+        },
+        None => match machine.step(alloc, number, line) {
+            Ok(said) => match send(sink, said.text.as_slice()) {
+                Ok(()) => Ok(said.end),
+                Err(cut) => Err(cut),
+            },
+            Err(_) => Err(Cut::Memory),
+        },
+    }
+}
+
+/// Prints what the machine says of the end of the input.
+pub fn finish<M: Machine, K: Sink>(
+    alloc: Global,
+    machine: &mut M,
+    count: u64,
+    sink: &mut K,
+) -> Result<End, Cut>
+    requires few { count ≤ MAX_LINES }
+    requires room { (e : End) (text : List ℕ) → M.closes machine.old count e text →
+        HasRoom (K.space sink.old) (length text) }
+    ensures ok { IfOk result (λ e. Sent (M.closes machine.old count e) (K.written sink.old)
+        (K.written sink.new) (K.space sink.old) (K.space sink.new)) }
+    ensures cut { IfErr result (λ c. SentCut c (λ text. (e : End) × M.closes machine.old count e text)
+        (K.written sink.old) (K.written sink.new)) }
+    ensures later { K.faults sink.old ≤ K.faults sink.new }
+    ensures fault { IsErrOf result Cut.WriteFault → Rose (K.faults sink.old) (K.faults sink.new) }
+{
+    match machine.close(alloc, count) {
+        Ok((text, end)) => {
+            send(sink, text.as_slice())?;
+            Ok(end)
+        }
+        Err(_) => Err(Cut::Memory),
+    }
+}
+
+/// Hands the last bytes to the machine, which are one more line if there are some, and then the end of the input.
+pub fn take_last<M: Machine, K: Sink>(
+    alloc: Global,
+    machine: &mut M,
+    count: u64,
+    tail: &[u8],
+    sink: &mut K,
+) -> Result<End, Cut>
+    requires few { count ≤ MAX_LINES }
+    requires room { (text : List ℕ) → MayEnd M.Machine machine.old count tail.now text →
+        HasRoom (K.space sink.old) (length text) }
+    ensures ok { IfOk result (λ e. Sent (Ends M.Machine machine.old count tail.now e)
+        (K.written sink.old) (K.written sink.new) (K.space sink.old) (K.space sink.new)) }
+    ensures cut { IfErr result (λ c. c ≢ Cut.ReadFault) }
+    ensures front { OnErr result (SentFront (MayEnd M.Machine machine.old count tail.now)
+        (K.written sink.old) (K.written sink.new)) }
+    ensures later { K.faults sink.old ≤ K.faults sink.new }
+    ensures fault { IsErrOf result Cut.WriteFault → Rose (K.faults sink.old) (K.faults sink.new) }
+{
+    if tail.is_empty() {
+        return finish(alloc, machine, count, sink);
+    }
+    let said = match take_line(alloc, machine, count + 1, tail, sink) {
+        Ok(said) => said,
+        Err(cut) => return Err(cut),
+    };
+    match said {
+        None => return finish(alloc, machine, count + 1, sink),
+        Some(end) => return Ok(end),
+    }
+}
