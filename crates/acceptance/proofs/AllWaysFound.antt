@@ -1,7 +1,7 @@
 -- The prime implicants of the moves, one move after the other.
 use Rattle.std.proofs.Common.{◌≡◌, ◌<◌, ◌≤◌, ◌+◌, ℕ, List, [], ◌∷◌, ◌++◌, length, slice_get, Some, All, inl, inr, refl, sym, ap, subst, ◌∙◌, arith}
 use Rattle.std.proofs.lemmas.List.{length_push}
-use Rattle.std.proofs.lemmas.Option.{slice_get_within}
+use Rattle.std.proofs.lemmas.Option.{slice_get_within, none-some}
 use Rattle.std.proofs.lemmas.List.Elements.{All-push, All-contains}
 use Rattle.list_laws.proofs.Places.{some_at}
 use Rattle.cca_base.specs.declared.cube.Pair.{Pair}
@@ -11,7 +11,7 @@ use Rattle.cca_base.specs.declared.events.Stop.TheVariants.{Refused, Memory}
 use Rattle.cca_base.specs.declared.limits.TheConstants.{MAX_WAYS}
 use Rattle.cca_base.specs.Accepted.{AreWays, HasFewWays}
 use Rattle.cca_base.specs.PlantModel.{PlantModel}
-use Rattle.cca_base.proofs.Members.{all_from, none_some}
+use Rattle.cca_base.proofs.Members.{all_from}
 use Rattle.cca_base.proofs.Growth.{slice_get_cases}
 use Rattle.guard_compiler.specs.Ways.{AtMove, HasManyWays, IsStop}
 use Rattle.guard_compiler.proofs.WaysMeaning.{not_many}
@@ -27,7 +27,7 @@ pub record AreWaysTo (m : PlantModel) (ways : List (List (List Pair))) (n : ℕ)
   pub few : All (λ cubes. length cubes ≤ MAX_WAYS) ways
 
 pub ways_none : (m : PlantModel) → AreWaysTo m [] 0
-ways_none m = record { full = refl; each = λ i move cubes at there. absurd (none_some cubes there); few = λ k d within. absurd (omega arith) }
+ways_none m = record { full = refl; each = λ i move cubes at there. absurd (none-some cubes there); few = λ k d within. absurd (omega arith) }
 
 module _ (m : PlantModel) (ways : List (List (List Pair))) (n : ℕ) (h : AreWaysTo m ways n) where
   pub ways_more : (cubes : List (List Pair)) → AtMove m n (λ move. AreWays m move cubes) → length cubes ≤ MAX_WAYS → AreWaysTo m (ways ++ cubes ∷ []) (n + 1)

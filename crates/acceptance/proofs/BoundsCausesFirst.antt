@@ -4,7 +4,7 @@ use Rattle.std.proofs.lemmas.Bool.{cases_lt}
 use Rattle.std.proofs.lemmas.List.{get_or-set_same, get_or-set_other, length-set, length-replicate, get_or_past, drop_more, drop_all, take-append-drop}
 use Rattle.std.proofs.lemmas.List.Elements.{All-contains}
 use Rattle.std.proofs.lemmas.List.Sums.{sum_by-cons, sum_by-append}
-use Rattle.std.proofs.lemmas.Option.{slice_get_within, get_or_from_slice_get}
+use Rattle.std.proofs.lemmas.Option.{slice_get_within, get_or_from_slice_get, same_Some, none-some}
 use Rattle.cca_base.specs.declared.model.Component.{Component}
 use Rattle.cca_base.specs.declared.limits.TheConstants.{MAX_BOUND, MAX_CHOICES}
 use Rattle.cca_base.specs.Accepted.{SumFits}
@@ -14,7 +14,7 @@ use Rattle.cca_base.specs.Implicants.{Needs}
 use Rattle.cca_base.specs.Model.{WellFormed, IsComponent, mode_counts}
 use Rattle.cca_base.specs.Orders.{IsEffectsFirst}
 use Rattle.cca_base.specs.Relations.{numbers_below}
-use Rattle.cca_base.proofs.Members.{all_from, contains_cases, contains_here, contains_there, contains_none, some_inj, none_some}
+use Rattle.cca_base.proofs.Members.{all_from, contains_cases, contains_here, contains_there, contains_none}
 use Rattle.cca_base.proofs.PathLaws.{all_taken, below_contains, numbers_within, numbers_rise}
 use Rattle.causal_graph.specs.Laws.{AreNeedsOf}
 use Rattle.causal_graph.specs.Needs.{RowNeeds}
@@ -105,8 +105,8 @@ module _ (sizes : List ℕ) (rows : List (List ℕ)) where
 
 -- how many modes a component has
 pub count_at : (xs : List Component) (c : ℕ) (x : Component) → slice_get xs c ≡ Some x → slice_index (map (λ (y : Component). length y.modes) xs) c ≡ length x.modes
-count_at [] c x h = absurd (none_some x h)
-count_at (y ∷ xs) zero x h = ap (λ (z : Component). length z.modes) (some_inj y x h)
+count_at [] c x h = absurd (none-some x h)
+count_at (y ∷ xs) zero x h = ap (λ (z : Component). length z.modes) (same_Some y x h)
 count_at (y ∷ xs) (suc c) x h = count_at xs c x h
 
 -- a component's modes are some, and not too many

@@ -3,7 +3,7 @@ use Rattle.std.proofs.Common.{◌≡◌, ◌<◌, ◌≤◌, ◌+◌, ◌↔◌,
 use Rattle.std.proofs.lemmas.Bool.{cases_lt}
 use Rattle.std.proofs.lemmas.List.{map-append, take_more, length_push, length-replicate, get_or_push, get_or_append_left}
 use Rattle.std.proofs.lemmas.List.Elements.{All-contains, Contains-append_left, Contains-push, Contains-push_cases}
-use Rattle.std.proofs.lemmas.Option.{slice_get-get_or, slice_get_within, get_or_from_slice_get}
+use Rattle.std.proofs.lemmas.Option.{slice_get-get_or, slice_get_within, get_or_from_slice_get, same_Some}
 use Rattle.list_laws.proofs.Places.{some_at}
 use Rattle.cca_base.specs.declared.cube.Pair.{Pair}
 use Rattle.cca_base.specs.declared.model.Move.{Move}
@@ -12,7 +12,7 @@ use Rattle.cca_base.specs.PlantModel.{PlantModel}
 use Rattle.cca_base.specs.Bounds.{AreNeeds}
 use Rattle.cca_base.specs.Model.{HasMode}
 use Rattle.cca_base.specs.Relations.{AreExactly}
-use Rattle.cca_base.proofs.Members.{all_from, contains_cases, contains_here, contains_there, contains_none, some_inj}
+use Rattle.cca_base.proofs.Members.{all_from, contains_cases, contains_here, contains_there, contains_none}
 use Rattle.cca_base.proofs.Within.{mode_within}
 use Rattle.causal_graph.specs.Laws.{AreNeedsOf}
 use Rattle.causal_graph.specs.Search.{Marks}
@@ -137,7 +137,7 @@ module _ (m : PlantModel) (ways : List (List (List Pair))) (c : ℕ) where
           | inl before ↦ within_first (n + 1) n u k before
           | inr past ↦
               let same : k.place ≡ n = omega (arith, past, k.early) in
-              absurd (other (ap (λ (x : Move). x.component) (some_inj move k.move (sym at ∙ ap (slice_get m.moves) (sym same) ∙ k.move_at)) ∙ k.own))
+              absurd (other (ap (λ (x : Move). x.component) (same_Some move k.move (sym at ∙ ap (slice_get m.moves) (sym same) ∙ k.move_at)) ∙ k.own))
         ]),
       );
     }
@@ -154,7 +154,7 @@ module _ (m : PlantModel) (ways : List (List (List Pair))) (c : ℕ) where
           | inl before ↦ inl ((h.each u).1 (within_first (n + 1) n u k before))
           | inr past ↦
               let same : k.place ≡ n = omega (arith, past, k.early) in
-              inr (subst (λ z. OccursIn z u) (some_inj k.cubes cubes (sym k.cubes_at ∙ ap (slice_get ways) same ∙ there)) k.occurs)
+              inr (subst (λ z. OccursIn z u) (same_Some k.cubes cubes (sym k.cubes_at ∙ ap (slice_get ways) same ∙ there)) k.occurs)
         ]),
       );
     }

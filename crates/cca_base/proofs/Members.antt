@@ -1,6 +1,7 @@
 -- Members of lists, and the pairs of a state.
 use Rattle.std.proofs.Common.{◌≡◌, ◌+◌, ◌⊎◌, ℕ, Bool, true, List, [], ◌∷◌, slice_get, Option, Some, None, All, Contains, filter, zero, suc, sym, ap, subst, inl, inr, arith}
 use Rattle.std.proofs.lemmas.Bool.{cases_Bool, both_ways, cond-true, cond-false}
+use Rattle.std.proofs.lemmas.Option.{same_Some, none-some}
 use Rattle.std.proofs.lemmas.List.Elements.{All-weaker, All-contains_itself}
 use Rattle.cca_base.specs.declared.cube.Pair.{Pair}
 use Rattle.cca_base.specs.Repairs.{pairs_from, pairs_of}
@@ -8,12 +9,6 @@ use Rattle.cca_base.specs.Repairs.{pairs_from, pairs_of}
 -- what holds of each member holds of all
 pub all_from : {X : Type 0} (P : X → Type 0) (xs : List X) → ((x : X) → Contains xs x → P x) → All P xs
 all_from P xs h = All-weaker (Contains xs) P h xs (All-contains_itself xs)
-
-pub some_inj : {X : Type 0} (x y : X) → Some x ≡ Some y → x ≡ y
-some_inj x y h = cc
-
-pub none_some : {X : Type 0} (x : X) → ◌≡◌ {A = Option X} None (Some x) → ⊥
-none_some x h = cc
 
 pub contains_cases : {X : Type 0} (x y : X) (xs : List X) → Contains (x ∷ xs) y → (x ≡ y) ⊎ Contains xs y
 contains_cases x y xs (zero, h, e) = inl e
@@ -57,10 +52,10 @@ from_filter test (y ∷ xs) x among = elim (cases_Bool (test y)) [
 ]
 
 pub to_pairs : (k : ℕ) (s : List ℕ) (i j x : ℕ) → j ≡ k + i → slice_get s i ≡ Some x → Contains (pairs_from k s) (record { item = j; value = x })
-to_pairs k [] i j x e h = absurd (none_some x h)
+to_pairs k [] i j x e h = absurd (none-some x h)
 to_pairs k (mode ∷ s) zero j x e h =
     let here : k ≡ j = omega arith in
-    contains_here (record { item = k; value = mode }) (record { item = j; value = x }) (pairs_from (k + 1) s) (λ d. record { item = here d; value = some_inj mode x h d })
+    contains_here (record { item = k; value = mode }) (record { item = j; value = x }) (pairs_from (k + 1) s) (λ d. record { item = here d; value = same_Some mode x h d })
 to_pairs k (mode ∷ s) (suc i) j x e h =
     contains_there (record { item = k; value = mode }) (record { item = j; value = x }) (pairs_from (k + 1) s) (to_pairs (k + 1) s i j x (omega arith) h)
 

@@ -2,7 +2,7 @@
 use Rattle.std.proofs.Common.{◌≡◌, ◌≢◌, ◌<◌, ℕ, inl, inr, List, length, replicate, slice_get, slice_index_or, slice_set, Option, Some, Contains, length-set, refl, sym, ap, subst, ◌∙◌, arith}
 use Rattle.std.proofs.lemmas.Bool.{cases_eq, cases_order}
 use Rattle.std.proofs.lemmas.Grind.{get_or-set_at}
-use Rattle.std.proofs.lemmas.Option.{slice_get-get_or, slice_get_within, get_or_from_slice_get}
+use Rattle.std.proofs.lemmas.Option.{slice_get-get_or, slice_get_within, get_or_from_slice_get, same_Some}
 use Rattle.std.proofs.lemmas.List.{get_or-replicate, get_or-set_other, length-replicate}
 use Rattle.std.proofs.lemmas.List.Elements.{All-contains}
 use Rattle.std.proofs.lemmas.List.Folds.{sum_by-replicate}
@@ -11,7 +11,6 @@ use Rattle.cca_base.specs.PlantModel.{PlantModel}
 use Rattle.cca_base.specs.Model.{WellFormed, HasMode, IsMove, CommandsFit}
 use Rattle.cca_base.specs.State.{IsState}
 use Rattle.cca_base.specs.Successors.{IsCommanded, Nominal, Costs}
-use Rattle.cca_base.proofs.Members.{some_inj}
 
 -- ---- there is one
 
@@ -26,15 +25,15 @@ apart moves s i j a b fit before x y same at there =
     let both : Fit (slice_index_or moves i a) (slice_index_or moves j a) = fit i j a before (slice_get_within moves j b y) in
     let fits : Fit a b = subst (λ u. Fit u b) (get_or_from_slice_get moves i a a x) (subst (Fit (slice_index_or moves i a)) (get_or_from_slice_get moves j b a y) both) in
     let e = fits same in
-    e.1 (some_inj a.source b.source (sym at ∙ ap (slice_get s) e.0 ∙ there))
+    e.1 (same_Some a.source b.source (sym at ∙ ap (slice_get s) e.0 ∙ there))
 
 one_commanded : (m : PlantModel) (s : List ℕ) (k : Option ℕ) (a b : Move) → CommandsFit m.moves → IsCommanded m s k a → IsCommanded m s k b → a ≡ b
 one_commanded m s k a b fit h g =
-    let same : a.command ≡ b.command = some_inj a.command b.command (sym h.command ∙ g.command) in
+    let same : a.command ≡ b.command = same_Some a.command b.command (sym h.command ∙ g.command) in
     let x = stands_at m.moves a h.of_model in
     let y = stands_at m.moves b g.of_model in
     elim (cases_order h.of_model.0 g.of_model.0) [
-      | inl e ↦ some_inj a b (sym x ∙ ap (slice_get m.moves) e ∙ y)
+      | inl e ↦ same_Some a b (sym x ∙ ap (slice_get m.moves) e ∙ y)
       | inr (inl before) ↦ absurd (apart m.moves s h.of_model.0 g.of_model.0 a b fit before x y same h.source g.source)
       | inr (inr after) ↦ absurd (apart m.moves s g.of_model.0 h.of_model.0 b a fit after y x (sym same) g.source h.source)
     ]

@@ -39,6 +39,13 @@ impl<T> List<T> {
         List { items }
     }
 
+    /// The items.
+    pub fn into_vec(self) -> Vec<T, Global>
+        ensures { result.items ≡ self }
+    {
+        self.items
+    }
+
     /// How many items there are.
     pub fn len(&self) -> usize
         ensures { result ≡ length self.now }

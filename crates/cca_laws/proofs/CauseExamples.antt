@@ -2,6 +2,7 @@
 use Rattle.std.proofs.Common.{◌≡◌, ℕ, inl, inr, [], ◌∷◌, Some, refl, sym, ap, subst, ◌∙◌, arith}
 use Rattle.std.specs.Prelude.{slice_get}
 use Rattle.std.proofs.lemmas.Bool.{false≢true}
+use Rattle.std.proofs.lemmas.Option.{same_Some}
 use Rattle.list_laws.proofs.Places.{value_at}
 use Rattle.cca_base.specs.declared.cube.Pair.{Pair}
 use Rattle.cca_base.specs.declared.model.Move.{Move}
@@ -9,7 +10,7 @@ use Rattle.cca_base.specs.Sets.{has}
 use Rattle.cca_base.specs.Goals.{IsNeeded}
 use Rattle.cca_base.specs.Implicants.{Suffices, Needs, Ancestor, source_pair}
 use Rattle.cca_base.specs.Steps.{Step, Allowed}
-use Rattle.cca_base.proofs.Members.{contains_cases, contains_none, some_inj}
+use Rattle.cca_base.proofs.Members.{contains_cases, contains_none}
 use Rattle.cca_laws.proofs.Tiny.{one_at, five_at}
 use Rattle.cca_laws.proofs.FormulaExamples.{truth_mode}
 use Rattle.cca_laws.proofs.FreeMoves.{free_step, single_prime, free_needs_nothing}
@@ -64,7 +65,7 @@ driver_serves_valve = (
     step = switching_on 0;
     pair = record { item = 1; value = 1 };
     wanted = (0, omega arith, refl);
-    missing = λ e. absurd (omega (arith, some_inj 0 1 e));
+    missing = λ e. absurd (omega (arith, same_Some 0 1 e));
     serves = inr ([], valve_needs_driver);
   },
   record {

@@ -3,6 +3,7 @@ use Rattle.std.proofs.Common.{◌≡◌, ◌≢◌, ◌<◌, ◌≤◌, ◌⊎�
 use Rattle.std.specs.Prelude.{slice_get, slice_index, slice_set, IsTrue, if◌then◌else◌}
 use Rattle.std.specs.List.{list_all, list_any}
 use Rattle.std.proofs.lemmas.Bool.{false≢true}
+use Rattle.std.proofs.lemmas.Option.{same_Some, none-some}
 use Rattle.list_laws.proofs.Places.{value_at}
 use Rattle.cca_base.specs.declared.cube.Pair.{Pair}
 use Rattle.cca_base.specs.declared.model.Move.{Move}
@@ -14,7 +15,6 @@ use Rattle.cca_base.specs.Model.{HasMode}
 use Rattle.cca_base.specs.State.{IsState, HasValue}
 use Rattle.cca_base.specs.Successors.{Costs, Nominal, IsCommanded, ChangeCosts, HasFailure}
 use Rattle.cca_base.specs.Estimates.{Consistent, IsEarlier}
-use Rattle.cca_base.proofs.Members.{some_inj, none_some}
 use Rattle.cca_laws.proofs.Tiny.{one_at, below_one, below_two, below_three}
 use Rattle.cca_laws.proofs.FormulaExamples.{truth_mode, truth_iff, truth_both, truth_either}
 use Rattle.cca_laws.proofs.ValveExamples.{truth_flow, open_is_the_one}
@@ -51,13 +51,13 @@ module _ (failure : Failure) where
 
   opened : (nominal : List ℕ) → Nominal failing (1 ∷ 0 ∷ []) (Some 2) nominal → nominal ≡ 1 ∷ 1 ∷ []
   opened nominal h = elim h [
-    | inl x ↦ x.2 ∙ ap (λ (y : Move). slice_set (1 ∷ 0 ∷ []) y.component y.target) (sym (open_is_the_one x.0 (sym (some_inj 2 x.0.command x.1.command)) x.1.of_model))
+    | inl x ↦ x.2 ∙ ap (λ (y : Move). slice_set (1 ∷ 0 ∷ []) y.component y.target) (sym (open_is_the_one x.0 (sym (same_Some 2 x.0.command x.1.command)) x.1.of_model))
     | inr x ↦ absurd (x.0 open_move commanded)
   ]
 
 -- without a command nothing moves
 pub unmoved : (m : PlantModel) (s nominal : List ℕ) → Nominal m s None nominal → nominal ≡ s
-unmoved m s nominal h = elim h [ inl x ↦ absurd (none_some x.0.command x.1.command) | inr x ↦ x.1 ]
+unmoved m s nominal h = elim h [ inl x ↦ absurd (none-some x.0.command x.1.command) | inr x ↦ x.1 ]
 
 opening_costs : Costs falling_open (1 ∷ 0 ∷ []) (Some 2) (1 ∷ 1 ∷ []) 0
 opening_costs = record {
@@ -123,7 +123,7 @@ standing_costs : Costs staying_shut (1 ∷ 0 ∷ []) None (1 ∷ 0 ∷ []) 0
 standing_costs = record {
   state = two_modes (record { component = 1; source = 0; target = 0; cost = 3 }) 0 (omega arith);
   nominal = 1 ∷ 0 ∷ [];
-  is_nominal = inr (λ move h. none_some move.command h.command, refl);
+  is_nominal = inr (λ move h. none-some move.command h.command, refl);
   parts = 0 ∷ 0 ∷ [];
   full = refl;
   each = below_two (λ c. ChangeCosts staying_shut c (slice_index (1 ∷ 0 ∷ []) c) (slice_index (1 ∷ 0 ∷ []) c) (slice_index (1 ∷ 0 ∷ []) c) (slice_index (0 ∷ 0 ∷ []) c))
@@ -247,7 +247,7 @@ two_for_one = record {
     costs = record {
       state = record { full = refl; modes = below_three (λ c. HasMode three c (slice_index (1 ∷ 1 ∷ 0 ∷ []) c)) (omega arith) (omega arith) (omega arith) };
       nominal = 0 ∷ 0 ∷ 0 ∷ [];
-      is_nominal = inr (λ move h. none_some move.command h.command, refl);
+      is_nominal = inr (λ move h. none-some move.command h.command, refl);
       parts = 4 ∷ 6 ∷ 0 ∷ [];
       full = refl;
       each = below_three (λ c. ChangeCosts three c (slice_index (0 ∷ 0 ∷ 0 ∷ []) c) (slice_index (0 ∷ 0 ∷ 0 ∷ []) c) (slice_index (1 ∷ 1 ∷ 0 ∷ []) c) (slice_index (4 ∷ 6 ∷ 0 ∷ []) c))

@@ -3,6 +3,7 @@ use Rattle.std.proofs.Common.{◌≡◌, ◌<◌, ◌≤◌, ℕ, zero, suc, Boo
 use Rattle.std.specs.Prelude.{slice_get, IsTrue, codes}
 use Rattle.std.proofs.lemmas.Bool.{false≢true}
 use Rattle.std.proofs.lemmas.List.Elements.{All-nil}
+use Rattle.std.proofs.lemmas.Option.{same_Some, none-some}
 use Rattle.cca_base.specs.declared.formula.Formula.TheOpen.{Formula-F}
 use Rattle.cca_base.specs.declared.formula.Formula.TheFolds.{fold-roll-Formula}
 use Rattle.cca_base.specs.declared.model.Variable.{Variable}
@@ -11,7 +12,6 @@ use Rattle.cca_base.specs.declared.limits.TheConstants.{MAX_CHOICES}
 use Rattle.cca_base.specs.PlantModel.{PlantModel}
 use Rattle.cca_base.specs.Formula.{Printed, printed_step, fits_step}
 use Rattle.cca_base.specs.Model.{WellFormed, AreChoices, IsComponent, IsFormula, IsMove, IsFailure, is_repair_of, is_broken, mode_counts, value_counts}
-use Rattle.cca_base.proofs.Members.{some_inj, none_some}
 use Rattle.cca_laws.proofs.SmallModels.{are_names, are_choices, own_fit, own_first_use}
 use Rattle.cca_laws.proofs.Tiny.{one_at, two_at}
 use Rattle.cca_laws.specs.Examples.{always_true, lamp, on_move, off_move}
@@ -38,9 +38,9 @@ no_repairs repair c mode mends (suc zero, h, e) = false≢true (ap (is_repair_of
 no_repairs repair c mode mends (suc (suc k), h, e) = absurd (omega arith)
 
 own_command : (i : ℕ) (move : Move) → slice_get lamp.moves i ≡ Some move → i ≡ move.command
-own_command zero move e = ap (λ (y : Move). y.command) (some_inj on_move move e)
-own_command (suc zero) move e = ap (λ (y : Move). y.command) (some_inj off_move move e)
-own_command (suc (suc i)) move e = absurd (none_some move e)
+own_command zero move e = ap (λ (y : Move). y.command) (same_Some on_move move e)
+own_command (suc zero) move e = ap (λ (y : Move). y.command) (same_Some off_move move e)
+own_command (suc (suc i)) move e = absurd (none-some move e)
 
 fails : (cost : ℕ) → 0 < cost → cost ≤ 1000000 → WellFormed (failing_lamp 0 cost)
 fails cost above below = record {

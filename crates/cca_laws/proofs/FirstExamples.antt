@@ -3,6 +3,7 @@ use Rattle.std.proofs.Common.{◌≡◌, ◌<◌, ◌≤◌, ◌⊎◌, ◌+◌,
 use Rattle.std.specs.Prelude.{slice_get, slice_index, IsTrue, if◌then◌else◌}
 use Rattle.std.specs.List.{list_all}
 use Rattle.std.proofs.lemmas.Bool.{false≢true}
+use Rattle.std.proofs.lemmas.Option.{none-some}
 use Rattle.list_laws.proofs.Places.{value_at}
 use Rattle.cca_base.specs.declared.cube.Pair.{Pair}
 use Rattle.cca_base.specs.declared.model.Failure.{Failure}
@@ -12,7 +13,6 @@ use Rattle.cca_base.specs.Model.{HasMode}
 use Rattle.cca_base.specs.State.{HasValue, Extends}
 use Rattle.cca_base.specs.Successors.{ChangeCosts, HasFailure}
 use Rattle.cca_base.specs.Estimates.{Consistent, IsEarlier}
-use Rattle.cca_base.proofs.Members.{none_some}
 use Rattle.cca_laws.proofs.Tiny.{one_at, below_one, below_two}
 use Rattle.cca_laws.proofs.EstimateLaws.{one_estimate}
 use Rattle.cca_laws.proofs.FormulaExamples.{truth_mode, truth_iff, truth_both}
@@ -128,7 +128,7 @@ pipe_is_burst = record {
     costs = record {
       state = record { full = refl; modes = below_two (λ c. HasMode pumping c (slice_index (0 ∷ 1 ∷ []) c)) (omega arith) (omega arith) };
       nominal = 0 ∷ 0 ∷ [];
-      is_nominal = inr (λ move h. none_some move.command h.command, refl);
+      is_nominal = inr (λ move h. none-some move.command h.command, refl);
       parts = 0 ∷ 5 ∷ [];
       full = refl;
       each = below_two (λ c. ChangeCosts pumping c (slice_index (0 ∷ 0 ∷ []) c) (slice_index (0 ∷ 0 ∷ []) c) (slice_index (0 ∷ 1 ∷ []) c) (slice_index (0 ∷ 5 ∷ []) c))

@@ -2,11 +2,12 @@
 use Rattle.std.proofs.Common.{◌≡◌, ℕ, zero, suc, false, inl, inr, [], ◌∷◌, Some, Contains, refl, sym, subst, arith}
 use Rattle.std.specs.Prelude.{slice_get}
 use Rattle.std.proofs.lemmas.Bool.{false≢true}
+use Rattle.std.proofs.lemmas.Option.{same_Some, none-some}
 use Rattle.cca_base.specs.declared.cube.Pair.{Pair}
 use Rattle.cca_base.specs.Model.{is_broken}
 use Rattle.cca_base.specs.Plans.{IsWanted, IsBackGoal}
 use Rattle.cca_base.specs.Steps.{Reach}
-use Rattle.cca_base.proofs.Members.{contains_cases, contains_here, contains_there, contains_none, some_inj, none_some}
+use Rattle.cca_base.proofs.Members.{contains_cases, contains_here, contains_there, contains_none}
 use Rattle.cca_base.proofs.NextModes.{next_of_mended}
 use Rattle.cca_laws.proofs.MendModel.{only_m_has_next, well_formed}
 use Rattle.cca_laws.proofs.MendCompiled.{mending_is_compiled}
@@ -20,9 +21,9 @@ ok_is_reached = (0 ∷ [], 1 ∷ 0 ∷ [], (1 ∷ 0 ∷ [], reset_allowed 0, ref
 -- the one pair that stands and isn't broken
 stands_sound : (i v : ℕ) → slice_get (0 ∷ 0 ∷ []) i ≡ Some v → is_broken mending.moves i v ≡ false → (1 ≡ i) × (0 ≡ v)
 stands_sound zero zero h sound = absurd (false≢true (sym sound))
-stands_sound zero (suc v) h sound = absurd (omega (arith, some_inj 0 (suc v) h))
-stands_sound (suc zero) v h sound = (refl, some_inj 0 v h)
-stands_sound (suc (suc i)) v h sound = absurd (none_some v h)
+stands_sound zero (suc v) h sound = absurd (omega (arith, same_Some 0 (suc v) h))
+stands_sound (suc zero) v h sound = (refl, same_Some 0 v h)
+stands_sound (suc (suc i)) v h sound = absurd (none-some v h)
 
 wanted : (p : Pair) → IsWanted mending (0 ∷ 0 ∷ []) p → Contains (b_is_x ∷ c_is_ok ∷ []) p
 wanted p (inl (stands, sound)) =

@@ -3,6 +3,7 @@ use Rattle.std.proofs.Common.{◌≡◌, ◌≢◌, ◌<◌, ℕ, zero, suc, fal
 use Rattle.std.specs.Prelude.{slice_get, slice_index, IsTrue}
 use Rattle.std.proofs.lemmas.Bool.{false≢true}
 use Rattle.std.proofs.lemmas.List.Elements.{All-nil}
+use Rattle.std.proofs.lemmas.Option.{same_Some, none-some}
 use Rattle.list_laws.proofs.Places.{value_at}
 use Rattle.cca_base.specs.declared.cube.Pair.{Pair}
 use Rattle.cca_base.specs.declared.model.Move.{Move}
@@ -12,7 +13,7 @@ use Rattle.cca_base.specs.Implicants.{PrimeImplicant, Suffices, source_pair}
 use Rattle.cca_base.specs.Model.{HasMode}
 use Rattle.cca_base.specs.Sets.{has}
 use Rattle.cca_base.specs.State.{IsState, IsWorld, Extends}
-use Rattle.cca_base.proofs.Members.{contains_cases, contains_here, contains_none, some_inj, none_some}
+use Rattle.cca_base.proofs.Members.{contains_cases, contains_here, contains_none}
 use Rattle.cca_laws.proofs.Tiny.{one_at, two_at, below_two}
 use Rattle.cca_laws.proofs.FormulaExamples.{truth_mode}
 use Rattle.cca_laws.proofs.FreeMoves.{free_ways, single_prime}
@@ -75,10 +76,10 @@ back_ways = record {
 }
 
 pub ways : (i : ℕ) (move : Move) (cubes : List (List Pair)) → slice_get mending.moves i ≡ Some move → slice_get mending_compiled.ways i ≡ Some cubes → AreWays mending move cubes
-ways zero move cubes e f = subst (AreWays mending move) (some_inj ([] ∷ []) cubes f) (free_ways mending move (ap (λ (y : Move). y.guard) (sym (some_inj reset_move move e))))
-ways (suc zero) move cubes e f = subst (AreWays mending move) (some_inj ([] ∷ []) cubes f) (free_ways mending move (ap (λ (y : Move). y.guard) (sym (some_inj z_move move e))))
-ways (suc (suc zero)) move cubes e f = subst (AreWays mending move) (some_inj ([] ∷ []) cubes f) (free_ways mending move (ap (λ (y : Move). y.guard) (sym (some_inj ok_move move e))))
-ways (suc (suc (suc zero))) move cubes e f = subst (AreWays mending move) (some_inj ([] ∷ []) cubes f) (free_ways mending move (ap (λ (y : Move). y.guard) (sym (some_inj go_move move e))))
+ways zero move cubes e f = subst (AreWays mending move) (same_Some ([] ∷ []) cubes f) (free_ways mending move (ap (λ (y : Move). y.guard) (sym (same_Some reset_move move e))))
+ways (suc zero) move cubes e f = subst (AreWays mending move) (same_Some ([] ∷ []) cubes f) (free_ways mending move (ap (λ (y : Move). y.guard) (sym (same_Some z_move move e))))
+ways (suc (suc zero)) move cubes e f = subst (AreWays mending move) (same_Some ([] ∷ []) cubes f) (free_ways mending move (ap (λ (y : Move). y.guard) (sym (same_Some ok_move move e))))
+ways (suc (suc (suc zero))) move cubes e f = subst (AreWays mending move) (same_Some ([] ∷ []) cubes f) (free_ways mending move (ap (λ (y : Move). y.guard) (sym (same_Some go_move move e))))
 ways (suc (suc (suc (suc zero)))) move cubes e f =
-    subst (AreWays mending move) (some_inj ((c_is_z ∷ []) ∷ []) cubes f) (subst (λ y. AreWays mending y ((c_is_z ∷ []) ∷ [])) (some_inj back_move move e) back_ways)
-ways (suc (suc (suc (suc (suc i))))) move cubes e f = absurd (none_some move e)
+    subst (AreWays mending move) (same_Some ((c_is_z ∷ []) ∷ []) cubes f) (subst (λ y. AreWays mending y ((c_is_z ∷ []) ∷ [])) (same_Some back_move move e) back_ways)
+ways (suc (suc (suc (suc (suc i))))) move cubes e f = absurd (none-some move e)

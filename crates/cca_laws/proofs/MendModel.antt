@@ -3,6 +3,7 @@ use Rattle.std.proofs.Common.{◌≡◌, ◌==◌, ℕ, zero, suc, Bool, true, f
 use Rattle.std.specs.Prelude.{slice_get, IsTrue, codes}
 use Rattle.std.proofs.lemmas.Bool.{false≢true, and_parts, eqb-true}
 use Rattle.std.proofs.lemmas.List.Elements.{All-nil}
+use Rattle.std.proofs.lemmas.Option.{same_Some, none-some}
 use Rattle.cca_base.specs.declared.formula.Formula.TheOpen.{Formula-F}
 use Rattle.cca_base.specs.declared.formula.Formula.TheFolds.{fold-roll-Formula}
 use Rattle.cca_base.specs.declared.formula.Subject.TheVariants.{Component}
@@ -10,7 +11,6 @@ use Rattle.cca_base.specs.declared.model.Variable.{Variable}
 use Rattle.cca_base.specs.declared.model.Move.{Move}
 use Rattle.cca_base.specs.Formula.{Printed, fits_step}
 use Rattle.cca_base.specs.Model.{WellFormed, AreChoices, IsComponent, IsFormula, IsMove, IsFailure, IsNext, is_repair_of, is_broken, IsComplete, names_of}
-use Rattle.cca_base.proofs.Members.{some_inj, none_some}
 use Rattle.cca_laws.proofs.Tiny.{two_at, five_at}
 use Rattle.cca_laws.proofs.SmallModels.{are_names, are_choices, own_fit, own_first_use}
 use Rattle.cca_laws.proofs.EdgeExamples.{always_fits}
@@ -19,12 +19,12 @@ use Rattle.cca_laws.specs.FormulaExamples.{mode_in}
 use Rattle.cca_laws.specs.MendExamples.{reset_move, z_move, ok_move, go_move, back_move, mending}
 
 own_command : (i : ℕ) (move : Move) → slice_get mending.moves i ≡ Some move → i ≡ move.command
-own_command zero move e = ap (λ (y : Move). y.command) (some_inj reset_move move e)
-own_command (suc zero) move e = ap (λ (y : Move). y.command) (some_inj z_move move e)
-own_command (suc (suc zero)) move e = ap (λ (y : Move). y.command) (some_inj ok_move move e)
-own_command (suc (suc (suc zero))) move e = ap (λ (y : Move). y.command) (some_inj go_move move e)
-own_command (suc (suc (suc (suc zero)))) move e = ap (λ (y : Move). y.command) (some_inj back_move move e)
-own_command (suc (suc (suc (suc (suc i))))) move e = absurd (none_some move e)
+own_command zero move e = ap (λ (y : Move). y.command) (same_Some reset_move move e)
+own_command (suc zero) move e = ap (λ (y : Move). y.command) (same_Some z_move move e)
+own_command (suc (suc zero)) move e = ap (λ (y : Move). y.command) (same_Some ok_move move e)
+own_command (suc (suc (suc zero))) move e = ap (λ (y : Move). y.command) (same_Some go_move move e)
+own_command (suc (suc (suc (suc zero)))) move e = ap (λ (y : Move). y.command) (same_Some back_move move e)
+own_command (suc (suc (suc (suc (suc i))))) move e = absurd (none-some move e)
 
 mends_m : (c mode : ℕ) → is_repair_of c mode reset_move ≡ true → (0 ≡ c) × (0 ≡ mode)
 mends_m c mode h = let parts = and_parts (0 == c) (0 == mode) h in (eqb-true 0 c parts.0, eqb-true 0 mode parts.1)

@@ -2,7 +2,7 @@
 use Rattle.std.proofs.Common.{◌≡◌, ◌≢◌, ◌<◌, ◌≤◌, ◌+◌, ◌*◌, ℕ, zero, suc, false, inl, inr, List, [], ◌∷◌, Some, Contains, refl, sym, ap, subst, ◌∙◌, arith}
 use Rattle.std.specs.Prelude.{slice_get}
 use Rattle.std.proofs.lemmas.List.Sorted.{IsPermutation-refl}
-use Rattle.std.proofs.lemmas.Option.{slice_get-get_or}
+use Rattle.std.proofs.lemmas.Option.{slice_get-get_or, same_Some, none-some}
 use Rattle.std.proofs.lemmas.List.Elements.{All-nil}
 use Rattle.cca_base.specs.declared.cube.Pair.{Pair}
 use Rattle.cca_base.specs.declared.model.Move.{Move}
@@ -13,7 +13,6 @@ use Rattle.cca_base.specs.Model.{is_broken}
 use Rattle.cca_base.specs.Orders.{IsNextOf}
 use Rattle.cca_base.specs.State.{Extends}
 use Rattle.cca_base.specs.Steps.{Reach}
-use Rattle.cca_base.proofs.Members.{some_inj, none_some}
 use Rattle.cca_laws.proofs.Tiny.{one_at}
 use Rattle.cca_laws.proofs.ChoiceLaws.{open_free, none_away, one_away, least_cube}
 use Rattle.cca_laws.proofs.FreeMoves.{free_prime}
@@ -24,12 +23,12 @@ use Rattle.cca_laws.specs.MendExamples.{reset_move, z_move, ok_move, go_move, ba
 
 -- a mode has one move only: by the component and the source its place is known
 by_place : (i : ℕ) (move : Move) → slice_get mending.moves i ≡ Some move → i ≡ 3 * move.component + move.source
-by_place zero move e = ap (λ (y : Move). 3 * y.component + y.source) (some_inj reset_move move e)
-by_place (suc zero) move e = ap (λ (y : Move). 3 * y.component + y.source) (some_inj z_move move e)
-by_place (suc (suc zero)) move e = ap (λ (y : Move). 3 * y.component + y.source) (some_inj ok_move move e)
-by_place (suc (suc (suc zero))) move e = ap (λ (y : Move). 3 * y.component + y.source) (some_inj go_move move e)
-by_place (suc (suc (suc (suc zero)))) move e = ap (λ (y : Move). 3 * y.component + y.source) (some_inj back_move move e)
-by_place (suc (suc (suc (suc (suc i))))) move e = absurd (none_some move e)
+by_place zero move e = ap (λ (y : Move). 3 * y.component + y.source) (same_Some reset_move move e)
+by_place (suc zero) move e = ap (λ (y : Move). 3 * y.component + y.source) (same_Some z_move move e)
+by_place (suc (suc zero)) move e = ap (λ (y : Move). 3 * y.component + y.source) (same_Some ok_move move e)
+by_place (suc (suc (suc zero))) move e = ap (λ (y : Move). 3 * y.component + y.source) (same_Some go_move move e)
+by_place (suc (suc (suc (suc zero)))) move e = ap (λ (y : Move). 3 * y.component + y.source) (same_Some back_move move e)
+by_place (suc (suc (suc (suc (suc i))))) move e = absurd (none-some move e)
 
 module _ (s : List ℕ) (to at : ℕ) (move : Move) (here : slice_get mending.moves at ≡ Some move) (nearer : ComesNearer mending s move.component to move) where
   chosen : (cube : List Pair) → PrimeImplicant mending move cube → IsWithinReach mending s cube → ((other : List Pair) → PrimeImplicant mending move other → IsBeforeCube other cube → ⊥)
@@ -39,7 +38,7 @@ module _ (s : List ℕ) (to at : ℕ) (move : Move) (here : slice_get mending.mo
     move_at = here;
     nearer = nearer;
     first_move = λ earlier other lt e near.
-        absurd (omega (arith, lt, by_place at move here, by_place earlier other e, near.own, some_inj other.source move.source (sym near.source ∙ nearer.source)));
+        absurd (omega (arith, lt, by_place at move here, by_place earlier other e, near.own, same_Some other.source move.source (sym near.source ∙ nearer.source)));
     prime = prime;
     reached = reached;
     first_cube = λ other h within before. first other h before;
@@ -136,7 +135,7 @@ z_is_next : (c : ℕ) → c < 2 → IsNextOf (1 ∷ 0 ∷ []) (c ∷ 1 ∷ []) (
 z_is_next c h = record {
   sorted = c_is_z ∷ [];
   is_sorted = record { same = IsPermutation-refl (c_is_z ∷ []); in_order = inl (inr (2, [], refl, refl)) };
-  first = record { before = []; after = []; split = refl; held = All-nil (λ (p : Pair). slice_get (c ∷ 1 ∷ []) p.item ≡ Some p.value); missing = λ e. absurd (omega (arith, some_inj c 2 e)) };
+  first = record { before = []; after = []; split = refl; held = All-nil (λ (p : Pair). slice_get (c ∷ 1 ∷ []) p.item ≡ Some p.value); missing = λ e. absurd (omega (arith, same_Some c 2 e)) };
 }
 
 z_from_m : Reach mending (0 ∷ 1 ∷ []) 0 2
@@ -155,7 +154,7 @@ none_held s = All-nil (λ (p : Pair). slice_get s p.item ≡ Some p.value)
 -- on the way back b is missing first, while it is y
 pub picks_toward_x : (c k : ℕ) → Picks mending_compiled (c ∷ 1 ∷ []) 1 0 k → PicksForGoal mending_compiled (c ∷ 1 ∷ []) home k
 picks_toward_x c k picks =
-    (b_is_x, record { before = []; after = c_is_ok ∷ []; split = refl; held = none_held (c ∷ 1 ∷ []); missing = λ e. absurd (omega (arith, some_inj 1 0 e)) }, picks)
+    (b_is_x, record { before = []; after = c_is_ok ∷ []; split = refl; held = none_held (c ∷ 1 ∷ []); missing = λ e. absurd (omega (arith, same_Some 1 0 e)) }, picks)
 
 pub picks_reset : Picks mending_compiled (0 ∷ 1 ∷ []) 1 0 0
 picks_reset = First 1 0 0 back_move (c_is_z ∷ []) c_is_z (back_chosen 0 z_from_m) (z_is_next 0 (omega arith)) (Now 0 2 reset_move [] reset_chosen (none_held (0 ∷ 1 ∷ [])))
@@ -175,7 +174,7 @@ picks_ok = (
     after = [];
     split = refl;
     held = one_at (λ (p : Pair). slice_get (2 ∷ 0 ∷ []) p.item ≡ Some p.value) b_is_x refl;
-    missing = λ e. absurd (omega (arith, some_inj 2 1 e));
+    missing = λ e. absurd (omega (arith, same_Some 2 1 e));
   },
   Now 0 1 ok_move [] ok_chosen (none_held (2 ∷ 0 ∷ [])),
 )
@@ -183,6 +182,6 @@ picks_ok = (
 pub picks_go : PicksForGoal mending_compiled (0 ∷ 0 ∷ []) (b_is_y ∷ []) 3
 picks_go = (
   b_is_y,
-  record { before = []; after = []; split = refl; held = none_held (0 ∷ 0 ∷ []); missing = λ e. absurd (omega (arith, some_inj 0 1 e)) },
+  record { before = []; after = []; split = refl; held = none_held (0 ∷ 0 ∷ []); missing = λ e. absurd (omega (arith, same_Some 0 1 e)) },
   Now 1 1 go_move [] go_chosen (none_held (0 ∷ 0 ∷ [])),
 )

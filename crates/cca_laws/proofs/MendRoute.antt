@@ -1,10 +1,10 @@
 -- The way there and the way back in the model with a reset.
 use Rattle.std.proofs.Common.{◌≡◌, ℕ, [], ◌∷◌, Some, refl, arith}
 use Rattle.std.specs.Prelude.{slice_get}
+use Rattle.std.proofs.lemmas.Option.{same_Some}
 use Rattle.cca_base.specs.declared.cube.Pair.{Pair}
 use Rattle.cca_base.specs.Plans.{Whole}
 use Rattle.cca_base.specs.State.{Extends}
-use Rattle.cca_base.proofs.Members.{some_inj}
 use Rattle.cca_laws.proofs.Tiny.{one_at, two_at}
 use Rattle.cca_laws.proofs.MendCompiled.{mending_is_compiled}
 use Rattle.cca_laws.proofs.MendSteps.{reset_step, z_step, ok_step, go_step, back_step}
@@ -14,7 +14,7 @@ use Rattle.cca_laws.proofs.MendPicks.{home, picks_toward_x, picks_reset, picks_z
 
 there : Whole mending_compiled (b_is_y ∷ []) (0 ∷ 0 ∷ []) (3 ∷ []) (0 ∷ 1 ∷ [])
 there = (
-  λ h. absurd (omega (arith, some_inj 0 1 (h 0 b_is_y (omega arith)))),
+  λ h. absurd (omega (arith, same_Some 0 1 (h 0 b_is_y (omega arith)))),
   picks_go,
   0 ∷ 1 ∷ [],
   go_step 0,
@@ -23,14 +23,14 @@ there = (
 
 -- while b is y, the start doesn't stand
 not_home : (c : ℕ) → Extends (c ∷ 1 ∷ []) home → ⊥
-not_home c h = absurd (omega (arith, some_inj 1 0 (h 0 b_is_x (omega arith))))
+not_home c h = absurd (omega (arith, same_Some 1 0 (h 0 b_is_x (omega arith))))
 
 back : Whole mending_compiled home (0 ∷ 1 ∷ []) (0 ∷ 1 ∷ 4 ∷ 2 ∷ []) (1 ∷ 0 ∷ [])
 back = (not_home 0, picks_toward_x 0 0 picks_reset, 1 ∷ 1 ∷ [], reset_step 1, from_ok)
   where
     from_x : Whole mending_compiled home (2 ∷ 0 ∷ []) (2 ∷ []) (1 ∷ 0 ∷ [])
     from_x = (
-      λ h. absurd (omega (arith, some_inj 2 1 (h 1 b_is_x (omega arith)))),
+      λ h. absurd (omega (arith, same_Some 2 1 (h 1 b_is_x (omega arith)))),
       picks_ok,
       1 ∷ 0 ∷ [],
       ok_step 0,

@@ -2,6 +2,7 @@
 use Rattle.std.proofs.Common.{◌≡◌, ◌<◌, ◌⊎◌, ℕ, zero, suc, inl, inr, List, [], ◌∷◌, Some, Contains, refl, sym, ap, subst, ◌∙◌, arith}
 use Rattle.std.specs.Prelude.{slice_get, slice_index, slice_set}
 use Rattle.std.proofs.lemmas.Bool.{false≢true}
+use Rattle.std.proofs.lemmas.Option.{same_Some}
 use Rattle.list_laws.proofs.Places.{value_at}
 use Rattle.cca_base.specs.declared.cube.Pair.{Pair}
 use Rattle.cca_base.specs.declared.model.Move.{Move}
@@ -10,7 +11,6 @@ use Rattle.cca_base.specs.Repairs.{Mending}
 use Rattle.cca_base.specs.Sets.{has}
 use Rattle.cca_base.specs.State.{Follows}
 use Rattle.cca_base.specs.Steps.{Step, Run, Allowed, support}
-use Rattle.cca_base.proofs.Members.{some_inj}
 use Rattle.cca_laws.proofs.Tiny.{two_at, below_two}
 use Rattle.cca_laws.proofs.FormulaExamples.{truth_mode}
 use Rattle.cca_laws.proofs.FreeMoves.{free_step}
@@ -93,7 +93,7 @@ stays_away c b s2 k away step (suc (suc zero), lt, e) = (1, b, moved (c ∷ b �
 stays_away c b s2 k away step (suc (suc (suc zero)), lt, e) = (c, 1, moved (c ∷ b ∷ []) s2 k step go_move e, inr refl)
 stays_away (suc c) b s2 k away step (suc (suc (suc (suc zero))), lt, e) = (suc c, 0, moved (suc c ∷ b ∷ []) s2 k step back_move e, inl (omega arith))
 stays_away zero b s2 k away step (suc (suc (suc (suc zero))), lt, e) =
-    let from : b ≡ 1 = some_inj b 1 (subst (λ (y : Move). slice_get (0 ∷ b ∷ []) y.component ≡ Some y.source) (sym e) step.source) in
+    let from : b ≡ 1 = same_Some b 1 (subst (λ (y : Move). slice_get (0 ∷ b ∷ []) y.component ≡ Some y.source) (sym e) step.source) in
     absurd (not_from_m (
     subst (λ x. Follows mending (support mending (0 ∷ x ∷ []) back_move) back_move.guard) from
     (subst (λ (y : Move). Follows mending (support mending (0 ∷ b ∷ []) y) y.guard) (sym e) step.guard)

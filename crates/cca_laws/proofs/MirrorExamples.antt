@@ -3,12 +3,13 @@ use Rattle.std.proofs.Common.{◌≡◌, ◌≢◌, ℕ, zero, suc, ◌||◌, �
 use Rattle.std.specs.Prelude.{slice_get, slice_index, IsTrue, ◌↔◌}
 use Rattle.std.proofs.lemmas.Bool.{cases_eq, both_ways, eq-eqb, ne_eqb}
 use Rattle.std.proofs.lemmas.List.Elements.{All-nil}
+use Rattle.std.proofs.lemmas.Option.{same_Some, none-some}
 use Rattle.cca_base.specs.declared.cube.Pair.{Pair}
 use Rattle.cca_base.specs.Cube.{IsUnion}
 use Rattle.cca_base.specs.Sets.{has, with_number}
 use Rattle.cca_base.specs.State.{HasValue}
 use Rattle.cca_base.specs.Trace.{ExecutiveState, start, MayBeSeen, MayBeObserved, HasOneValue}
-use Rattle.cca_base.proofs.Members.{contains_cases, contains_none, contains_here, none_some, some_inj}
+use Rattle.cca_base.proofs.Members.{contains_cases, contains_none, contains_here}
 use Rattle.cca_base.proofs.SetLaws.{has-with_number}
 use Rattle.cca_laws.proofs.Tiny.{one_at}
 use Rattle.cca_laws.proofs.ValveExamples.{rule_is, start_world, nothing_flows}
@@ -65,8 +66,8 @@ none_flows w world =
 
 -- what the plant's world has
 in_plant : (i v : ℕ) → slice_get (0 ∷ []) i ≡ Some v → Contains no_flow (record { item = i; value = v })
-in_plant zero v h = contains_here (record { item = 0; value = 0 }) (record { item = 0; value = v }) [] (λ k. record { item = 0; value = some_inj 0 v h k })
-in_plant (suc i) v h = absurd (none_some v h)
+in_plant zero v h = contains_here (record { item = 0; value = 0 }) (record { item = 0; value = v }) [] (λ k. record { item = 0; value = same_Some 0 v h k })
+in_plant (suc i) v h = absurd (none-some v h)
 
 pub plant_is_mirrored : PlantIsMirrored
 plant_is_mirrored = (
@@ -82,6 +83,6 @@ plant_is_mirrored = (
   },
   λ h. elim ((h.each (record { item = 0; value = 1 })).0 (0, omega arith, refl)) [
     | inl none ↦ contains_none (record { item = 0; value = 1 }) none
-    | inr shown ↦ omega (arith, some_inj 0 1 (shown.1 (0 ∷ []) start_world))
+    | inr shown ↦ omega (arith, same_Some 0 1 (shown.1 (0 ∷ []) start_world))
   ],
 )

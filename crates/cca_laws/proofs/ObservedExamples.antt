@@ -2,11 +2,12 @@
 use Rattle.std.proofs.Common.{◌≡◌, ◌<◌, ℕ, zero, suc, inl, inr, [], ◌∷◌, Some, Contains, refl, arith}
 use Rattle.std.specs.Prelude.{slice_get, slice_index}
 use Rattle.std.proofs.lemmas.List.Sorted.{IsPermutation-append_comm}
+use Rattle.std.proofs.lemmas.Option.{same_Some, none-some}
 use Rattle.cca_base.specs.declared.cube.Pair.{Pair}
 use Rattle.cca_base.specs.Cube.{IsRising}
 use Rattle.cca_base.specs.State.{IsWorld, HasValue}
 use Rattle.cca_base.specs.Trace.{HasOneValue}
-use Rattle.cca_base.proofs.Members.{contains_cases, contains_none, contains_here, contains_there, none_some, some_inj}
+use Rattle.cca_base.proofs.Members.{contains_cases, contains_none, contains_here, contains_there}
 use Rattle.cca_laws.proofs.Tiny.{below_two}
 use Rattle.cca_laws.specs.ObservedExamples.{loose, x_low, y_high, PendingRises, NothingMirrored, GoalIsTurned}
 
@@ -38,9 +39,9 @@ pub world : (a b : ℕ) → a < 2 → b < 2 → IsWorld loose [] (a ∷ b ∷ []
 world a b h k = record { full = refl; values = below_two (λ v. HasValue loose v (slice_index (a ∷ b ∷ []) v)) h k; rules = λ i d lt. absurd (omega arith) }
 
 either_value : (i v : ℕ) → slice_get (0 ∷ 0 ∷ []) i ≡ Some v → slice_get (1 ∷ 1 ∷ []) i ≡ Some v → ⊥
-either_value zero v h k = omega (arith, some_inj 0 v h, some_inj 1 v k)
-either_value (suc zero) v h k = omega (arith, some_inj 0 v h, some_inj 1 v k)
-either_value (suc (suc i)) v h k = none_some v h
+either_value zero v h k = omega (arith, same_Some 0 v h, same_Some 1 v k)
+either_value (suc zero) v h k = omega (arith, same_Some 0 v h, same_Some 1 v k)
+either_value (suc (suc i)) v h k = none-some v h
 
 no_one_value : (p : Pair) → HasOneValue loose [] p → ⊥
 no_one_value p h = either_value p.item p.value (h (0 ∷ 0 ∷ []) (world 0 0 (omega arith) (omega arith))) (h (1 ∷ 1 ∷ []) (world 1 1 (omega arith) (omega arith)))

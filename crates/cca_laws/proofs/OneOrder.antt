@@ -7,7 +7,7 @@ use Rattle.std.proofs.lemmas.Bool.{cases_eq}
 use Rattle.std.proofs.lemmas.Cmp.{nat_cmp_total, on_total, then_total, lists_total}
 use Rattle.std.proofs.lemmas.List.Elements.{All-contains, All-cons, All-head}
 use Rattle.std.proofs.lemmas.List.Kept.{AllPairs-cons}
-use Rattle.std.proofs.lemmas.Option.{slice_get-get_or, slice_get_within, get_or_from_slice_get}
+use Rattle.std.proofs.lemmas.Option.{slice_get-get_or, slice_get_within, get_or_from_slice_get, same_Some}
 use Rattle.cca_base.specs.Accepted.{CompiledModel, IsCompiled}
 use Rattle.std.proofs.lemmas.List.Sorted.{Contains-permutation, IsPermutation-sym}
 use Rattle.std.specs.FinMap.{slice_cmp-IsAntisymmetric, nat_cmp-IsAntisymmetric}
@@ -19,7 +19,7 @@ use Rattle.cca_base.specs.PlantModel.{PlantModel}
 use Rattle.cca_base.specs.Cube.{IsUnion, pair_cmp, cube_cmp, IsBeforeCube}
 use Rattle.cca_base.specs.Orders.{numbers_below, TakesEffectsFirst, AreInOrder, IsSorted}
 use Rattle.cca_laws.specs.Laws.{NoneTwice, ComesBefore}
-use Rattle.cca_base.proofs.Members.{contains_cases, contains_here, contains_there, contains_none, from_filter, some_inj}
+use Rattle.cca_base.proofs.Members.{contains_cases, contains_here, contains_there, contains_none, from_filter}
 
 abbrev pub SameElements : {X : Type 0} → List X → List X → Type 0
 SameElements {X} a b = ((x : X) → Contains a x → Contains b x) × ((x : X) → Contains b x → Contains a x)
@@ -133,7 +133,7 @@ before_first c order d h = (0, suc h.0, refl, contained_at order d h, omega arit
 
 -- what comes before in the longer list, and is not its head, comes before in the shorter
 before_rest : (c : ℕ) (order : List ℕ) (x y : ℕ) → (x ≡ c → ⊥) → ComesBefore (c ∷ order) x y → ComesBefore order x y
-before_rest c order x y ne (zero, j, at, there, lt) = absurd (ne (sym (some_inj c x at)))
+before_rest c order x y ne (zero, j, at, there, lt) = absurd (ne (sym (same_Some c x at)))
 before_rest c order x y ne (suc i, zero, at, there, lt) = absurd (omega arith)
 before_rest c order x y ne (suc i, suc j, at, there, lt) = (i, j, at, there, omega arith)
 

@@ -3,6 +3,7 @@ use Rattle.std.proofs.Common.{◌≡◌, ℕ, ◌⊎◌, List, All, Contains, sl
 use Rattle.std.proofs.lemmas.Bool.{cases_order}
 use Rattle.std.proofs.lemmas.List.Elements.{All-contains}
 use Rattle.std.proofs.lemmas.List.Sorted.{All-permutation}
+use Rattle.std.proofs.lemmas.Option.{same_Some}
 use Rattle.cca_base.specs.declared.cube.Pair.{Pair}
 use Rattle.cca_base.specs.declared.model.Move.{Move}
 use Rattle.cca_base.specs.declared.events.Reply.{Reply}
@@ -15,14 +16,13 @@ use Rattle.cca_base.specs.Steps.{Reach}
 use Rattle.cca_base.specs.Orders.{IsFirstMissing, IsNextOf}
 use Rattle.cca_base.specs.Goals.{IsFirstUnreached}
 use Rattle.cca_base.specs.Choice.{IsChosen, Picks, Now, First, PicksForGoal, IsChosenReply}
-use Rattle.cca_base.proofs.Members.{some_inj}
 use Rattle.cca_laws.proofs.OneOrder.{one_sorted, neither_cube}
 use Rattle.cca_laws.specs.Laws.{NoneTwice}
 use Rattle.cca_laws.proofs.GoalLaws.{Held, middle, same_split, one_first_missing, sends_serve, standing_is_reached}
 
 one_move : (m : PlantModel) (s : List ℕ) (c to : ℕ) (a b : Move) (x y : List Pair) → IsChosen m s c to a x → IsChosen m s c to b y → a ≡ b
 one_move m s c to a b x y h k = elim (cases_order h.at k.at) [
-  | inl e ↦ some_inj a b (sym h.move_at ∙ ap (slice_get m.moves) e ∙ k.move_at)
+  | inl e ↦ same_Some a b (sym h.move_at ∙ ap (slice_get m.moves) e ∙ k.move_at)
   | inr (inl before) ↦ absurd (k.first_move h.at a before h.move_at h.nearer)
   | inr (inr after) ↦ absurd (h.first_move k.at b after k.move_at k.nearer)
 ]

@@ -3,13 +3,13 @@ use Rattle.std.proofs.Common.{◌≡◌, ℕ, zero, suc, inl, inr, List, [], ◌
 use Rattle.std.specs.Prelude.{slice_get}
 use Rattle.std.proofs.lemmas.List.Elements.{All-get_or}
 use Rattle.std.proofs.lemmas.Bool.{false≢true}
+use Rattle.std.proofs.lemmas.Option.{same_Some, none-some}
 use Rattle.cca_base.specs.declared.cube.Pair.{Pair}
 use Rattle.cca_base.specs.declared.events.Event.{Event}
 use Rattle.cca_base.specs.declared.events.Event.TheVariants as event
 use Rattle.cca_base.specs.Trace.{ExecutiveState, Observed, start}
 use Rattle.cca_base.specs.Runs.{TickRecord, CanBeSeen, StartsAnew, LeavesPlantAlone}
 use Rattle.cca_base.proofs.SetLaws.{has-empty}
-use Rattle.cca_base.proofs.Members.{some_inj, none_some}
 use Rattle.cca_laws.proofs.Tiny.{one_at}
 use Rattle.cca_laws.proofs.ValveExamples.{start_world}
 use Rattle.cca_laws.specs.ValveExamples.{valve_model}
@@ -43,9 +43,9 @@ faulty t e (inl x) = All-get_or LeavesPlantAlone faulty_moment.since 0 event.Res
 faulty t e (inr x) = fault_stays x.0 x.1 (ap (λ (u : TickRecord). u.since) e ∙ x.2)
 
 pub faults_excuse : FaultsExcuse
-faults_excuse b zero t e (inl x) seen = absurd (faulty t (some_inj faulty_moment t e) x)
+faults_excuse b zero t e (inl x) seen = absurd (faulty t (same_Some faulty_moment t e) x)
 faults_excuse b zero t e (inr x) seen = absurd (omega (arith, x.2))
-faults_excuse b (suc i) t e x seen = absurd (none_some t e)
+faults_excuse b (suc i) t e x seen = absurd (none-some t e)
 
 pub resets_end_excuses : ResetsEndExcuses
 resets_end_excuses ways order bounds h =

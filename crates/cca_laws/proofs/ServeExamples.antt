@@ -3,9 +3,9 @@ use Rattle.std.proofs.Common.{◌≡◌, ◌<◌, ◌≤◌, ◌+◌, ℕ, zero,
 use Rattle.std.specs.Prelude.{slice_get}
 use Rattle.std.proofs.lemmas.Bool.{false≢true}
 use Rattle.std.proofs.lemmas.List.Elements.{All-nil}
+use Rattle.std.proofs.lemmas.Option.{same_Some}
 use Rattle.cca_base.specs.declared.events.Reply.TheVariants.{Idle, Send, Achieved, Unreachable}
 use Rattle.cca_base.specs.Runs.{TickRecord, IsStretch, IsRight, LeavesPlantAndGoalAlone, reply_at, is_send, is_unreachable}
-use Rattle.cca_base.proofs.Members.{some_inj}
 use Rattle.cca_laws.specs.Examples.{lit}
 use Rattle.cca_laws.proofs.Tiny.{two_at, one_at}
 use Rattle.cca_laws.specs.ServeExamples.{replied, OneOfOne, TwoOfOne, TooLate, NoneAfter, NotLost, LampIsPromised, LostBeginsNone}
@@ -14,7 +14,7 @@ abbrev served : List TickRecord
 served = replied (Send 0) ∷ replied Achieved ∷ []
 
 second : (t : TickRecord) → slice_get served 1 ≡ Some t → replied Achieved ≡ t
-second t e = some_inj (replied Achieved) t e
+second t e = same_Some (replied Achieved) t e
 
 stays : (first later : ℕ) (t u : TickRecord) → 0 ≤ first → first < later → later ≤ 1 → slice_get served first ≡ Some t → slice_get served later ≡ Some u
     → reply_at t ≡ Some Achieved → is_send (reply_at u) ≡ false
@@ -57,7 +57,7 @@ abbrev sending : List TickRecord
 sending = replied (Send 0) ∷ replied (Send 1) ∷ []
 
 not_lost_at_first : (t : TickRecord) → slice_get sending 0 ≡ Some t → is_unreachable (reply_at t) ≡ false
-not_lost_at_first t e = ap (λ (x : TickRecord). is_unreachable (reply_at x)) (sym (some_inj (replied (Send 0)) t e))
+not_lost_at_first t e = ap (λ (x : TickRecord). is_unreachable (reply_at x)) (sym (same_Some (replied (Send 0)) t e))
 
 is_stretch : IsStretch sending lit 0 1
 is_stretch = record {

@@ -2,6 +2,7 @@
 use Rattle.std.proofs.Common.{◌≡◌, ℕ, zero, suc, Bool, true, false, [], ◌∷◌, Some, Contains, refl, sym, ap, ◌∙◌, arith}
 use Rattle.std.specs.Prelude.{slice_get, IsTrue, codes}
 use Rattle.std.proofs.lemmas.Bool.{false≢true}
+use Rattle.std.proofs.lemmas.Option.{same_Some, none-some}
 use Rattle.cca_base.specs.declared.formula.Formula.TheOpen.{Formula-F}
 use Rattle.cca_base.specs.declared.formula.Formula.TheFolds.{fold-roll-Formula}
 use Rattle.cca_base.specs.declared.formula.Subject.TheVariants.{Component, Variable}
@@ -9,7 +10,6 @@ use Rattle.cca_base.specs.declared.model.Variable as variable
 use Rattle.cca_base.specs.declared.model.Move.{Move}
 use Rattle.cca_base.specs.Formula.{Printed, printed_step, fits_step, depth}
 use Rattle.cca_base.specs.Model.{WellFormed, AreChoices, IsComponent, IsFormula, IsMove, IsFailure, IsNext, is_repair_of, is_broken, IsComplete, names_of}
-use Rattle.cca_base.proofs.Members.{some_inj, none_some}
 use Rattle.cca_laws.proofs.Tiny.{one_at, two_at, five_at}
 use Rattle.cca_laws.proofs.SmallModels.{are_names, are_choices, own_fit, own_first_use}
 use Rattle.cca_laws.proofs.EdgeExamples.{always_fits}
@@ -54,12 +54,12 @@ mends_to_closed c mode mended h (suc (suc (suc (suc (suc k)))), lt, e) = absurd 
 
 -- each move has the command of its own place
 own_command : (i : ℕ) (move : Move) → slice_get valve_model.moves i ≡ Some move → i ≡ move.command
-own_command zero move e = ap (λ (y : Move). y.command) (some_inj on_move move e)
-own_command (suc zero) move e = ap (λ (y : Move). y.command) (some_inj off_move move e)
-own_command (suc (suc zero)) move e = ap (λ (y : Move). y.command) (some_inj open_move move e)
-own_command (suc (suc (suc zero))) move e = ap (λ (y : Move). y.command) (some_inj close_move move e)
-own_command (suc (suc (suc (suc zero)))) move e = ap (λ (y : Move). y.command) (some_inj reset_move move e)
-own_command (suc (suc (suc (suc (suc i))))) move e = absurd (none_some move e)
+own_command zero move e = ap (λ (y : Move). y.command) (same_Some on_move move e)
+own_command (suc zero) move e = ap (λ (y : Move). y.command) (same_Some off_move move e)
+own_command (suc (suc zero)) move e = ap (λ (y : Move). y.command) (same_Some open_move move e)
+own_command (suc (suc (suc zero))) move e = ap (λ (y : Move). y.command) (same_Some close_move move e)
+own_command (suc (suc (suc (suc zero)))) move e = ap (λ (y : Move). y.command) (same_Some reset_move move e)
+own_command (suc (suc (suc (suc (suc i))))) move e = absurd (none-some move e)
 
 well_formed : WellFormed valve_model
 well_formed = record {

@@ -1,6 +1,8 @@
 -- Tokens that are read one after the other, and what is read of all of them.
 use Rattle.std.proofs.Common.{◌≡◌, ℕ, ◌+◌, ◌<◌, ◌≤◌, Bool, codes, List, [], ◌∷◌, length, get_or, drop, map, Option, Some, None, refl, sym, ap, subst, ◌∙◌, add-one, drop-cons, arith}
 use Rattle.std.proofs.lemmas.List.{length-drop, nil_from_length}
+use Rattle.std.proofs.lemmas.Option.{same_Some}
+use Rattle.list_laws.proofs.Tests.{cond_either}
 use Rattle.cca_base.specs.PlantModel.{PlantModel}
 use Rattle.text_base.specs.declared.token.Token.{Token}
 use Rattle.text_base.specs.Lexemes.{Lexeme, lexeme_of, word, symbol, comma, is_lexeme, is_name_word}
@@ -17,7 +19,6 @@ use Rattle.formula_syntax.specs.Meanings.{IsReadingOf, reading_of}
 use Rattle.formula_syntax.proofs.Complete.{text_is_read}
 use Rattle.formula_syntax.proofs.Sound.{only_text_is_read}
 use Rattle.formula_syntax.proofs.Verdicts.{text_verdict}
-use Rattle.formula_syntax.proofs.Lexing.{cond_either, some_is}
 
 pub run_is_reading : (strict : Bool) (m : PlantModel) (ls : List Lexeme) (o : Option ReadPart) → o ≡ run strict m start ls → IsReadingOf strict m ls o
 run_is_reading strict m ls o e = record {
@@ -28,7 +29,7 @@ run_is_reading strict m ls o e = record {
 -- a text is read in one way
 pub one_way : (strict : Bool) (m : PlantModel) (s t : Whole) → spelling s ≡ spelling t → reading_of strict m s ≡ reading_of strict m t
 one_way strict m s t e =
-    some_is (reading_of strict m s) (reading_of strict m t)
+    same_Some (reading_of strict m s) (reading_of strict m t)
     (ap (λ (z : ReadPart). Some z) (sym (text_verdict strict m s)) ∙ sym (text_is_read strict m s) ∙ ap (run strict m start) e ∙ text_is_read strict m t ∙ ap (λ (z : ReadPart). Some z) (text_verdict strict m t))
 
 -- ---- how many words `not` wait
@@ -38,7 +39,7 @@ module _ (t : State) (n : ℕ) where
   Few s = s.level.nots ≤ n + 1
 
   few : (s : State) → Some s ≡ Some t → Few s → Few t
-  few s e h = subst Few (some_is s t e) h
+  few s e h = subst Few (same_Some s t e) h
 
   few_none : {P : Type 0} → ◌≡◌ {A = Option State} None (Some t) → P
   few_none e = absurd cc

@@ -2,7 +2,6 @@ pub mod UnknownNames
 pub mod ModesByName
 pub mod TextReadings
 pub mod Complete
-pub mod Lexing
 pub mod Sound
 pub mod Comparisons
 pub mod Verdicts

@@ -1,5 +1,8 @@
 -- Only a formula's text is read.
 use Rattle.std.proofs.Common.{◌≡◌, ℕ, zero, suc, ◌+◌, Bool, true, false, codes, List, [], ◌∷◌, ◌++◌, map, Option, Some, None, refl, sym, ap, ◌∙◌, add-one}
+use Rattle.std.proofs.lemmas.Option.{same_Some}
+use Rattle.text_base.proofs.LexemeLaws.{lexeme_is, name_word_is}
+use Rattle.list_laws.proofs.Tests.{cond_either}
 use Rattle.cca_base.specs.PlantModel.{PlantModel}
 use Rattle.text_base.specs.Lexemes.{Lexeme, word, symbol, comma, is_lexeme, is_name_word}
 use Rattle.formula_syntax.specs.declared.read_part.ReadPart.{ReadPart}
@@ -16,7 +19,6 @@ use Rattle.formula_syntax.specs.Chain.{◌>>=◌}
 use Rattle.formula_syntax.specs.FormulaParser.{State, start, nots, more_or_one, completed, level_read, against, step, ended, run, link_from, close_from}
 use Rattle.formula_syntax.proofs.TextReadings.{with_values, factor_read, conjunction_read, disjunction_read, whole_read}
 use Rattle.formula_syntax.proofs.Complete.{here, level}
-use Rattle.formula_syntax.proofs.Lexing.{cond_either, some_is, lexeme_is, name_word_is}
 
 -- the text read so far between two parentheses, where a factor has to come
 pub record Frame : Type 0 where
@@ -223,7 +225,7 @@ module _ (strict : Bool) (m : PlantModel) where
   leads outer place l k t s outside next same e is text = record {
     outside = outside;
     next = next;
-    is = sym (some_is s t e) ∙ is;
+    is = sym (same_Some s t e) ∙ is;
     text = λ r. ap (λ (x : Lexeme). text_of outer place (x ∷ r)) same ∙ text r;
   }
 
@@ -383,7 +385,7 @@ module _ (strict : Bool) (m : PlantModel) where
   ends_whole [] (AtOperator left any c) x e = record {
     text = whole_of left (case_of any c);
     spelled = ap (left_text left) (case_text any c []) ∙ whole_text left (case_of any c) [];
-    says = sym (some_is _ x (sym (level_is_read left any c) ∙ e));
+    says = sym (same_Some _ x (sym (level_is_read left any c) ∙ e));
   }
   ends_whole (f ∷ fs) (AtOperator left any c) x e = no_reading x e
   ends_whole outer (AtOperand f) x e = no_reading x e

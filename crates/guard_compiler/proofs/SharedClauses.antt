@@ -8,12 +8,13 @@ use Rattle.std.proofs.lemmas.List.Elements.{All-append, All-map, All-filter, All
 use Rattle.std.proofs.lemmas.List.Folds.{list_all-append, list_all-map}
 use Rattle.std.proofs.lemmas.List.Filters.{length-filter_both}
 use Rattle.std.proofs.lemmas.List.Sums.{list_all-from_AllPass}
+use Rattle.std.proofs.lemmas.Option.{same_Some, none-some}
 use Rattle.list_laws.proofs.Elements.{contains_map, all_left, all_right}
 use mathlib.Core.Bool.{and-true}
 use Rattle.cca_base.specs.Sets.{has}
 use Rattle.cca_base.specs.PlantModel.{PlantModel}
 use Rattle.cca_base.specs.Formula.{truth}
-use Rattle.cca_base.proofs.Members.{all_from, to_filter, none_some, some_inj, contains_here}
+use Rattle.cca_base.proofs.Members.{all_from, to_filter, contains_here}
 use Rattle.clause_form.specs.declared.clause.Literal.{Literal}
 use Rattle.clause_form.specs.declared.clause.Clause.{Clause}
 use Rattle.clause_form.specs.Clauses.{AreValues, AreBelow, AllBelow, is_true, is_met, meets, all_met}
@@ -148,7 +149,7 @@ module _ (sizes : List ℕ) (n : ℕ) (given : List Clause) (rules : List RuleCl
     | inl there ↦ Contains-append_left more (unowned without) rule (Contains-append_left rules (owned_by x with) rule there)
     | inr there ↦
         let none : rule.owner ≡ None = All-contains (λ (r : RuleClause). r.owner ≡ None) (unowned left) rule (All-map (λ (r : RuleClause). r.owner ≡ None) free left (λ k d lt. refl)) there in
-        absurd (none_some u (sym none ∙ is))
+        absurd (none-some u (sym none ∙ is))
   ]
 
   module _ (set_of : ℕ → Bool) (xs : List ℕ) (k : AreValues sizes xs)
@@ -267,8 +268,8 @@ module _ (sizes : List ℕ) (n : ℕ) (given : List Clause) (rules : List RuleCl
     owned = all_owned;
     shared = record {
       subjects = all_more (λ (r : RuleClause). AreBelow (length sizes) r.clause.literals × ForSome r.owner (λ u. u < length sizes)) h.shared.subjects
-          (λ c p. (p.0, λ u is. subst (λ z. z < length sizes) (some_inj x u is) within));
-      owners = all_more (λ (r : RuleClause). ForSome r.owner (λ u. n ≤ u)) h.shared.owners (λ c p. λ u is. subst (λ z. n ≤ z) (some_inj x u is) above);
+          (λ c p. (p.0, λ u is. subst (λ z. z < length sizes) (same_Some x u is) within));
+      owners = all_more (λ (r : RuleClause). ForSome r.owner (λ u. n ≤ u)) h.shared.owners (λ c p. λ u is. subst (λ z. n ≤ z) (same_Some x u is) above);
       met = λ xs. same_met xs ∙ h.shared.met xs;
       completable = λ set_of xs k true_at over. elim (cases_Bool (set_of x)) [
         | inl is ↦ of_set set_of xs k true_at over is
@@ -288,8 +289,8 @@ shared_none sizes n given below =
       shared = record {
         subjects = All-map (λ (r : RuleClause). AreBelow (length sizes) r.clause.literals × ForSome r.owner (λ u. u < length sizes)) free given
             (All-weaker (λ (c : Clause). AreBelow (length sizes) c.literals) (λ c. AreBelow (length sizes) c.literals × ForSome (free c).owner (λ u. u < length sizes))
-            (λ c b. (b, λ u is. absurd (none_some u is))) given below);
-        owners = All-map (λ (r : RuleClause). ForSome r.owner (λ u. n ≤ u)) free given (λ k d lt u is. absurd (none_some u is));
+            (λ c b. (b, λ u is. absurd (none-some u is))) given below);
+        owners = All-map (λ (r : RuleClause). ForSome r.owner (λ u. n ≤ u)) free given (λ k d lt u is. absurd (none-some u is));
         met = λ xs. met_unowned xs given;
         completable = λ set_of xs k true_at over. (
           xs,

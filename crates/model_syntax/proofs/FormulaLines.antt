@@ -1,5 +1,5 @@
 -- What a line with a formula leads to, by what was read of its text.
-use Rattle.std.proofs.Common.{◌≡◌, ℕ, ◌≤◌, Bool, true, false, cond, ◌||◌, List, [], ◌∷◌, length, Option, Some, None, inl, refl, sym, ap, subst, ◌∙◌, arith}
+use Rattle.std.proofs.Common.{◌≡◌, ℕ, Bool, true, false, cond, ◌||◌, List, [], ◌∷◌, length, Option, Some, None, inl, refl, sym, ap, ◌∙◌}
 use Rattle.std.specs.Prelude.{nat_le}
 use Rattle.cca_base.specs.declared.formula.Formula.{Formula}
 use Rattle.cca_base.specs.declared.limits.TheConstants.{MAX_RULES, MAX_MOVES}
@@ -15,7 +15,7 @@ use Rattle.model_syntax.specs.Codes.{least, is_long, rule_code, move_code_from, 
 use Rattle.model_syntax.specs.Lines.{Next, Goes, Refused, IsNextOfText, rule_next, unless}
 use Rattle.model_syntax.specs.ReadCodes.{rule_code_read, move_code_read}
 use Rattle.model_syntax.proofs.AddedParts.{below}
-use Rattle.formula_syntax.proofs.SoundReadings.{same_reading, no_reading, sound_formula, sound_is_formula}
+use Rattle.formula_syntax.proofs.SoundReadings.{same_reading, sound_formula, sound_is_formula}
 
 -- ---- what was read
 

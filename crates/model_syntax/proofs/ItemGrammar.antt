@@ -1,10 +1,12 @@
 -- An item is read from its spelling, and from nothing else.
 use Rattle.std.proofs.Common.{◌≡◌, ℕ, Bool, true, false, cond, codes, List, [], ◌∷◌, ◌++◌, Option, Some, None, refl, sym, ap, subst, ◌∙◌, arith}
+use Rattle.std.proofs.lemmas.Option.{same_Some}
+use Rattle.text_base.proofs.LexemeLaws.{lexeme_is}
+use Rattle.list_laws.proofs.Tests.{cond_either, cond_found}
 use Rattle.text_base.specs.Lexemes.{Lexeme, word, number, symbol, comma, is_lexeme, next_is, name_word_at, names_at}
 use Rattle.formula_syntax.specs.Chain.{◌>>=◌}
 use Rattle.model_syntax.specs.Items.{Ends, Item, Header, Component, Variable, Rule, Move, Failure, Script, ended, number_at, ends_at, header_at, component_at, sensed_at, variable_at, move_at, failure_at, item_of, list_spelled, names_spelled, ends_spelled, sensed_spelled, move_word, line_spelled, AreNameWords, IsSpelled}
-use Rattle.formula_syntax.proofs.Lexing.{cond_either, some_is, lexeme_is}
-use Rattle.model_syntax.proofs.ListGrammar.{bind_some, then, next_read, cond_some, after, reads_name, name_read, reads_names, names_read, number_read}
+use Rattle.model_syntax.proofs.ListGrammar.{bind_some, then, next_read, after, reads_name, name_read, reads_names, names_read, number_read}
 
 abbrev equals_sign : Lexeme
 equals_sign = symbol (codes "=")
@@ -13,7 +15,7 @@ abbrev arrow : Lexeme
 arrow = symbol (codes "->")
 
 ended_read : (x y : Item) (ls : List Lexeme) → ended x ls ≡ Some y → (ls ≡ []) × (x ≡ y)
-ended_read x y [] e = (refl, some_is x y e)
+ended_read x y [] e = (refl, same_Some x y e)
 ended_read x y (l ∷ ls) e = absurd cc
 
 -- this item is spelled so
@@ -112,9 +114,9 @@ reads_variable name (value ∷ values) sensed h =
 
 -- a variable is sensed or not
 sensed_read : (name : List ℕ) (values : List (List ℕ)) (ls : List Lexeme) (i : Item) → sensed_at name values ls ≡ Some i → (sensed : Bool) × (ls ≡ sensed_spelled sensed) × (Variable name values sensed ≡ i)
-sensed_read name values [] i e = (false, refl, some_is (Variable name values false) i e)
+sensed_read name values [] i e = (false, refl, same_Some (Variable name values false) i e)
 sensed_read name values (l ∷ ls) i e =
-    let p = cond_some (is_lexeme (word (codes "sensed")) l) (ended (Variable name values true) ls) i e in
+    let p = cond_found (is_lexeme (word (codes "sensed")) l) (ended (Variable name values true) ls) i e in
     let d = ended_read (Variable name values true) i ls p.1 in
     (true, ap (λ (x : Lexeme). x ∷ ls) (lexeme_is (word (codes "sensed")) l p.0) ∙ after (word (codes "sensed")) d.0, d.1)
 
@@ -166,7 +168,7 @@ ends_read ls x e =
     let source = name_read a.0.1 s.0 s.1 in
     let to = next_read arrow s.0.1 r.0 r.1 in
     let target = name_read r.0 t.0 t.1 in
-    subst P (some_is _ x t.2)
+    subst P (same_Some _ x t.2)
     (name.0 ∙ after (word a.0.0) (source.0 ∙ after (word s.0.0) (to ∙ after arrow target.0)), (name.1, (source.1, (target.1, tt))))
 
 -- ---- moves
@@ -197,7 +199,7 @@ move_written repair ls i e =
     let when = next_read (word (codes "when")) c.0.1 g.0 g.1 in
     let behind = by ∙ after (word (codes "by")) (command.0 ∙ after (word c.0.0) when) in
     let w = after (word (move_word repair)) (ends.0 ∙ ap (ends_spelled a.0.0) behind) in
-    same_item (word (move_word repair)) ls (Move repair a.0.0 c.0.0 g.0) i (some_is _ i g.2) (w, (ends.1.0, (ends.1.1.0, (ends.1.1.1.0, (command.1, tt)))))
+    same_item (word (move_word repair)) ls (Move repair a.0.0 c.0.0 g.0) i (same_Some _ i g.2) (w, (ends.1.0, (ends.1.1.0, (ends.1.1.1.0, (command.1, tt)))))
 
 -- ---- failures
 
@@ -249,7 +251,7 @@ no_item : {P : Type 0} (i : Item) → ◌≡◌ {A = Option Item} None (Some i) 
 no_item i e = absurd cc
 
 rule_written : (ls : List Lexeme) (i : Item) → Some (Rule ls) ≡ Some i → IsWritten (word (codes "rule") ∷ ls) i
-rule_written ls i e = same_item (word (codes "rule")) ls (Rule ls) i (some_is (Rule ls) i e) (refl, tt)
+rule_written ls i e = same_item (word (codes "rule")) ls (Rule ls) i (same_Some (Rule ls) i e) (refl, tt)
 
 pub item_written : (ls : List Lexeme) (i : Item) → item_of ls ≡ Some i → (ls ≡ line_spelled i) × IsSpelled i
 item_written [] i e = absurd cc

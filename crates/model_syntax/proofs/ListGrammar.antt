@@ -1,16 +1,14 @@
 -- Names with commas between them are read from their spelling, and from nothing else.
-use Rattle.std.proofs.Common.{◌≡◌, ℕ, ◌<◌, Bool, true, false, not, cond, List, [], ◌∷◌, ◌++◌, length, Option, Some, None, refl, sym, ap, subst, ◌∙◌, arith}
+use Rattle.std.proofs.Common.{◌≡◌, ℕ, ◌<◌, Bool, true, false, cond, List, [], ◌∷◌, ◌++◌, length, Option, Some, None, refl, sym, ap, subst, ◌∙◌, arith}
+use Rattle.std.proofs.lemmas.Option.{same_Some}
+use Rattle.text_base.proofs.LexemeLaws.{kind_is, lexeme_is, name_word_is, may_be_name}
+use Rattle.list_laws.proofs.Tests.{cond_either, cond_found}
 use Rattle.cca_base.specs.Names.{is_reserved}
 use Rattle.text_base.specs.declared.token.Kind.{Kind}
 use Rattle.text_base.specs.declared.token.Kind.TheVariants.{Number}
 use Rattle.text_base.specs.Lexemes.{Lexeme, word, number, comma, same_kind, is_lexeme, is_name_word, next_is, name_word_at, with_name, names_at}
 use Rattle.formula_syntax.specs.Chain.{◌>>=◌}
 use Rattle.model_syntax.specs.Items.{names_spelled, list_spelled, AreNameWords, number_at}
-use Rattle.formula_syntax.proofs.Lexing.{cond_either, some_is, kind_is, lexeme_is, name_word_is}
-
-pub cond_some : {A : Type 0} (b : Bool) (o : Option A) (y : A) → cond b o None ≡ Some y → (b ≡ true) × (o ≡ Some y)
-cond_some true o y e = (refl, e)
-cond_some false o y e = absurd cc
 
 pub after : (l : Lexeme) {x y : List Lexeme} → x ≡ y → l ∷ x ≡ l ∷ y
 after l e = ap (λ (x : List Lexeme). l ∷ x) e
@@ -26,12 +24,8 @@ then e f = ap (λ o. o >>= f) e
 pub next_read : (l : Lexeme) (ls r : List Lexeme) → next_is l ls ≡ Some r → ls ≡ l ∷ r
 next_read l [] r e = absurd cc
 next_read l (m ∷ ls) r e =
-    let p = cond_some (is_lexeme l m) (Some ls) r e in
-    ap (λ (x : Lexeme). x ∷ ls) (lexeme_is l m p.0) ∙ after l (some_is ls r p.1)
-
--- a word that is not reserved, in place of a name
-may_be_name : (n : List ℕ) → is_reserved n ≡ false → is_name_word (word n) ≡ true
-may_be_name n h = ap not h
+    let p = cond_found (is_lexeme l m) (Some ls) r e in
+    ap (λ (x : Lexeme). x ∷ ls) (lexeme_is l m p.0) ∙ after l (same_Some ls r p.1)
 
 pub reads_name : (n : List ℕ) (ls : List Lexeme) → is_reserved n ≡ false → name_word_at (word n ∷ ls) ≡ Some (n, ls)
 reads_name n ls h = ap (λ (b : Bool). cond b (Some (n, ls)) None) (may_be_name n h)
@@ -39,10 +33,10 @@ reads_name n ls h = ap (λ (b : Bool). cond b (Some (n, ls)) None) (may_be_name 
 pub name_read : (ls : List Lexeme) (x : List ℕ × List Lexeme) → name_word_at ls ≡ Some x → (ls ≡ word x.0 ∷ x.1) × (is_reserved x.0 ≡ false)
 name_read [] x e = absurd cc
 name_read (l ∷ ls) x e =
-    let p = cond_some (is_name_word l) (Some (l.1, ls)) x e in
+    let p = cond_found (is_name_word l) (Some (l.1, ls)) x e in
     let w = name_word_is l p.0 in
     let P : List ℕ × List Lexeme → Type 0 = λ y. (l ∷ ls ≡ word y.0 ∷ y.1) × (is_reserved y.0 ≡ false) in
-    subst P (some_is (l.1, ls) x p.1) (ap (λ (y : Lexeme). y ∷ ls) w.0, w.1)
+    subst P (same_Some (l.1, ls) x p.1) (ap (λ (y : Lexeme). y ∷ ls) w.0, w.1)
 
 -- the last name
 last_name : (l : Lexeme) (behind : List Lexeme) → is_name_word l ≡ true → next_is comma behind ≡ None → names_at (l ∷ behind) ≡ Some (l.1 ∷ [], behind)
@@ -82,22 +76,22 @@ more_names l m ls read h c s =
 with_name_some : (n : List ℕ) (o : Option (List (List ℕ) × List Lexeme)) (read : List (List ℕ) × List Lexeme)
     → with_name n o ≡ Some read → (x : List (List ℕ) × List Lexeme) × (o ≡ Some x) × ((n ∷ x.0, x.1) ≡ read)
 with_name_some n None read e = absurd cc
-with_name_some n (Some x) read e = (x, refl, some_is (n ∷ x.0, x.1) read e)
+with_name_some n (Some x) read e = (x, refl, same_Some (n ∷ x.0, x.1) read e)
 
 pub names_read : (ls : List Lexeme) (read : List (List ℕ) × List Lexeme) → names_at ls ≡ Some read → IsNamesSpelled ls read
 names_read [] read e = absurd cc
 names_read (l ∷ []) read e =
-    let p = cond_some (is_name_word l) (Some (l.1 ∷ [], [])) read e in
-    subst (IsNamesSpelled (l ∷ [])) (some_is (l.1 ∷ [], []) read p.1) (one_name l [] p.0)
+    let p = cond_found (is_name_word l) (Some (l.1 ∷ [], [])) read e in
+    subst (IsNamesSpelled (l ∷ [])) (same_Some (l.1 ∷ [], []) read p.1) (one_name l [] p.0)
 names_read (l ∷ m ∷ ls) read e =
-    let p = cond_some (is_name_word l) (cond (is_lexeme comma m) (with_name l.1 (names_at ls)) (Some (l.1 ∷ [], m ∷ ls))) read e in
+    let p = cond_found (is_name_word l) (cond (is_lexeme comma m) (with_name l.1 (names_at ls)) (Some (l.1 ∷ [], m ∷ ls))) read e in
     cond_either (is_lexeme comma m) (with_name l.1 (names_at ls)) (Some (l.1 ∷ [], m ∷ ls)) (Some read) p.1
     (λ c h. let x = with_name_some l.1 (names_at ls) read h in subst (IsNamesSpelled (l ∷ m ∷ ls)) x.2 (more_names l m ls x.0 p.0 c (names_read ls x.0 x.1)))
-    (λ c h. subst (IsNamesSpelled (l ∷ m ∷ ls)) (some_is (l.1 ∷ [], m ∷ ls) read h) (one_name l (m ∷ ls) p.0))
+    (λ c h. subst (IsNamesSpelled (l ∷ m ∷ ls)) (same_Some (l.1 ∷ [], m ∷ ls) read h) (one_name l (m ∷ ls) p.0))
 
 pub number_read : (ls : List Lexeme) (x : List ℕ × List Lexeme) → number_at ls ≡ Some x → ls ≡ number x.0 ∷ x.1
 number_read [] x e = absurd cc
 number_read (l ∷ ls) x e =
-    let p = cond_some (same_kind l.0 Number) (Some (l.1, ls)) x e in
+    let p = cond_found (same_kind l.0 Number) (Some (l.1, ls)) x e in
     let P : List ℕ × List Lexeme → Type 0 = λ y. l ∷ ls ≡ number y.0 ∷ y.1 in
-    subst P (some_is (l.1, ls) x p.1) (ap (λ (k : Kind). (k, l.1) ∷ ls) (kind_is l.0 Number p.0))
+    subst P (same_Some (l.1, ls) x p.1) (ap (λ (k : Kind). (k, l.1) ∷ ls) (kind_is l.0 Number p.0))

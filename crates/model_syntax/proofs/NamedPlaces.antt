@@ -3,7 +3,7 @@ use Rattle.std.proofs.Common.{◌≡◌, ℕ, ◌<◌, Bool, true, false, cond, 
 use Rattle.std.specs.Prelude.{is_some, unwrap_or}
 use Rattle.std.specs.Option.{option_map_or}
 use Rattle.std.specs.Str.{bytes_eq}
-use Rattle.std.proofs.lemmas.Option.{slice_get-get_or}
+use Rattle.std.proofs.lemmas.Option.{slice_get-get_or, same_Some}
 use Rattle.std.proofs.lemmas.List.Quantifiers.{position-Some}
 use Rattle.std.proofs.lemmas.Slice.Eq.{bytes_eq-Decides}
 use Rattle.cca_base.specs.declared.formula.Subject.{Subject}
@@ -16,7 +16,6 @@ use Rattle.model_syntax.specs.Items.{Ends, ends_spelled}
 use Rattle.formula_syntax.specs.Lookups.{place_of, subject_of, value_of, choices_of}
 use Rattle.model_syntax.specs.Codes.{is_long, start_mode, as_component, ends_of, command_number, with_named}
 use Rattle.model_syntax.specs.Printing.{name_of, name_at, ends_said}
-use Rattle.formula_syntax.proofs.Lexing.{some_is}
 use Rattle.model_syntax.proofs.ListGrammar.{bind_some}
 use Rattle.formula_syntax.proofs.ModesByName.{mode_of_component}
 use Rattle.model_syntax.proofs.SubjectNames.{subject_name}
@@ -64,7 +63,7 @@ pub record AreNamed (m : PlantModel) (ends : Ends) (c a b : ℕ) : Type 0 where
 
 component_is : (o : Option Subject) (c : ℕ) → as_component o ≡ Some c → o ≡ Some (Component c)
 component_is None c e = absurd cc
-component_is (Some (Component d)) c e = ap (λ (x : ℕ). Some (Component x)) (some_is d c e)
+component_is (Some (Component d)) c e = ap (λ (x : ℕ). Some (Component x)) (same_Some d c e)
 component_is (Some (Variable v)) c e = absurd cc
 
 abbrev target_then : PlantModel → Ends → ℕ → ℕ → ℕ → Option (ℕ × ℕ × ℕ)
@@ -83,7 +82,7 @@ ends_named m ends x e =
     let b = bind_some (value_of m (Component c.0) ends.target) (target_then m ends c.0 a.0) x a.2 in
     let P : ℕ × ℕ × ℕ → Type 0 = λ y. AreNamed m ends y.0 y.1 y.2 in
     let choices = choices_of m (Component c.0) in
-    subst P (some_is (c.0, a.0, b.0) x b.2) (record {
+    subst P (same_Some (c.0, a.0, b.0) x b.2) (record {
       component = subject_name m ends.name (Component c.0) (component_is (subject_of m ends.name) c.0 c.1);
       source = place_named choices ends.source a.0 a.1;
       target = place_named choices ends.target b.0 b.1;

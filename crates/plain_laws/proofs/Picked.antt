@@ -4,6 +4,7 @@ use Rattle.std.specs.List.{list_any}
 use Rattle.std.proofs.lemmas.Bool.{cases_lt, both_ways, and_parts, and_from, or_cases, eq-eqb, eqb-true, not-true, not-false, false≢true}
 use Rattle.std.proofs.lemmas.List.Elements.{All-contains, Contains-append_left}
 use Rattle.std.proofs.lemmas.List.Folds.{Any-from_list_any}
+use Rattle.std.proofs.lemmas.Option.{same_Some, none-some}
 use Rattle.list_laws.proofs.Places.{value_at, get_at}
 use Rattle.cca_base.specs.declared.cube.Pair.{Pair}
 use Rattle.cca_base.specs.declared.model.Move.{Move}
@@ -18,7 +19,7 @@ use Rattle.cca_base.specs.Orders.{IsFirstMissing}
 use Rattle.cca_base.specs.Choice.{IsWithinReach, IsOpenAt, Walk, IsDistance, ComesNearer, IsChosen, Picks, Now, PicksForGoal}
 use Rattle.cca_base.specs.Trace.{command_of}
 use Rattle.cca_base.specs.Runs.{is_send}
-use Rattle.cca_base.proofs.Members.{all_from, some_inj, none_some, contains_here, contains_there}
+use Rattle.cca_base.proofs.Members.{all_from, contains_here, contains_there}
 use Rattle.cca_base.proofs.StateLaws.{mode_in_state}
 use Rattle.plain_laws.specs.Planner.{leaves, leads_within, or_else, nearer_move, move_toward, is_reached, has_pair, reply_by, reply_among}
 use Rattle.plain_laws.specs.Plain.{IsPlain, plainly_compiled, RepliesAreChosen}
@@ -34,12 +35,12 @@ at_seam (y ∷ before) x after = at_seam before x after
 
 before_seam : (before after : List Move) (j : ℕ) (y : Move) → j < length before → slice_get (before ++ after) j ≡ Some y → Contains before y
 before_seam [] after j y lt h = absurd (omega (arith, lt))
-before_seam (z ∷ before) after zero y lt h = contains_here z y before (some_inj z y h)
+before_seam (z ∷ before) after zero y lt h = contains_here z y before (same_Some z y h)
 before_seam (z ∷ before) after (suc j) y lt h = contains_there z y before (before_seam before after j y (omega (arith, lt)) h)
 
 or_else_none : {X : Type 0} (o y : Option X) → or_else o y ≡ None → (o ≡ None) × (y ≡ None)
 or_else_none None y h = (refl, h)
-or_else_none (Some x) y h = absurd (none_some x (sym h))
+or_else_none (Some x) y h = absurd (none-some x (sym h))
 
 or_else_split : {X : Type 0} (o y : Option X) (x : X) → or_else o y ≡ Some x → (o ≡ Some x) ⊎ ((o ≡ None) × (y ≡ Some x))
 or_else_split None y x h = inr (refl, h)
@@ -114,7 +115,7 @@ module _ (m : PlantModel) (plain : IsPlain m) (s : List ℕ) where
 
     nearest : (n a : ℕ) (x : Move) → nearer_move m.moves c b a n ≡ Some x → Nearest a x
     unfolding nearer_move
-    nearest zero a x h = absurd (none_some x h)
+    nearest zero a x h = absurd (none-some x h)
     nearest (suc n) a x h = elim (or_else_split (nearer_move m.moves c b a n) (find (test n a) m.moves) x h) [
       | inl sooner ↦ nearest n a x sooner
       | inr now ↦ record { count = n; found = now.1; none = none_nearer n a now.0 }
@@ -171,7 +172,7 @@ module _ (m : PlantModel) (plain : IsPlain m) (s : List ℕ) where
 
       earlier_fails : (j : ℕ) (y : Move) → j < length first.before → slice_get m.moves j ≡ Some y → ComesNearer m s c b y → ⊥
       earlier_fails j y lt h near_y =
-          let from : y.source ≡ a = some_inj y.source a (sym near_y.source ∙ at) in
+          let from : y.source ≡ a = same_Some y.source a (sym near_y.source ∙ at) in
           let here : x.source ≡ y.source = t.from ∙ sym from in
           let one : suc near_y.rest ≤ suc k = near_y.before.1 (suc k) (subst (λ (i : ℕ). Walk m s c i b (suc k)) here before.0) in
           let other : suc k ≤ suc near_y.rest = before.1 (suc near_y.rest) (subst (λ (i : ℕ). Walk m s c i b (suc near_y.rest)) (sym here) near_y.before.0) in
@@ -226,7 +227,7 @@ module _ (m : PlantModel) (plain : IsPlain m) (s : List ℕ) where
           let here : slice_get s q.item ≡ Some (slice_index s q.item) = get_at s q.item (slice_index s q.item) (within_goal q among_goal) refl in
           let picks : Picks (plainly_compiled m) s q.item q.value x.command =
           Now q.item q.value x [] (chosen q.item q.value (slice_index s q.item) x elsewhere here made) (λ i d h. absurd (omega (arith, h))) in
-          (q, is_missing, subst (Picks (plainly_compiled m) s q.item q.value) (some_inj x.command k (ap command_of e)) picks)
+          (q, is_missing, subst (Picks (plainly_compiled m) s q.item q.value) (same_Some x.command k (ap command_of e)) picks)
 
     picked_among : (u v : Option Pair) → find (λ p. not (has_pair s p)) goal ≡ v → (k : ℕ) → reply_among m.moves s u v ≡ Send k → PicksForGoal (plainly_compiled m) s goal k
     picked_among u None ev k e = absurd (false≢true (ap (λ r. is_send (Some r)) e))

@@ -1,7 +1,7 @@
 -- A plain model that uses each command is accepted, and compiled as is stated.
 use Rattle.std.proofs.Common.{◌≡◌, ◌<◌, ◌≤◌, ◌-◌, ℕ, inl, inr, List, [], ◌∷◌, length, slice_get, Some, All, AllPairs, Contains, refl, sym, ap, subst, ◌∙◌, arith}
 use Rattle.std.specs.Option.{option_map}
-use Rattle.std.proofs.lemmas.Option.{slice_get-map, slice_get_within, get_or_from_slice_get}
+use Rattle.std.proofs.lemmas.Option.{slice_get-map, slice_get_within, get_or_from_slice_get, same_Some}
 use Rattle.std.proofs.lemmas.List.{get_or-map, length-map}
 use Rattle.std.proofs.lemmas.List.Elements.{All-contains}
 use Rattle.std.proofs.lemmas.List.Sums.{sum-map, sum_by-le}
@@ -17,7 +17,7 @@ use Rattle.cca_base.specs.Implicants.{Suffices, PrimeImplicant, Needs, Path, sou
 use Rattle.cca_base.specs.Orders.{numbers_below, TakesEffectsFirst}
 use Rattle.cca_base.specs.Bounds.{IsBound, AreBounds}
 use Rattle.cca_base.specs.Accepted.{AreWays, HasFewWays, SumFits}
-use Rattle.cca_base.proofs.Members.{all_from, some_inj, contains_cases, contains_here, contains_none}
+use Rattle.cca_base.proofs.Members.{all_from, contains_cases, contains_here, contains_none}
 use Rattle.cca_base.proofs.Pairwise.{AllPairs-head, AllPairs-tail}
 use Rattle.cca_base.proofs.PathLaws.{numbers_rise, takes_out}
 use Rattle.plain_laws.specs.Plain.{IsPlain, plainly_compiled, PlainIsCompiled}
@@ -95,7 +95,7 @@ module _ (m : PlantModel) (plain : IsPlain m) where
   ways_at : (i : ℕ) (move : Move) (cubes : List (List Pair)) → slice_get m.moves i ≡ Some move → slice_get (plainly_compiled m).ways i ≡ Some cubes → AreWays m move cubes
   ways_at i move cubes h k =
       let only : Move → List (List Pair) = λ x. [] ∷ [] in
-      let same : [] ∷ [] ≡ cubes = some_inj ([] ∷ []) cubes (sym (slice_get-map only m.moves i ∙ ap (option_map only) h) ∙ k) in
+      let same : [] ∷ [] ≡ cubes = same_Some ([] ∷ []) cubes (sym (slice_get-map only m.moves i ∙ ap (option_map only) h) ∙ k) in
       subst (AreWays m move) same (one_way move (i, slice_get_within m.moves i move h, get_or_from_slice_get m.moves i move move h))
 
   needs_nothing : (c u : ℕ) → Needs m c u → ⊥

@@ -3,6 +3,7 @@ use Rattle.std.proofs.Common.{◌≡◌, ◌<◌, ℕ, inl, inr, ◌==◌, true,
 use Rattle.std.proofs.lemmas.Bool.{both_ways, and_parts, and_from, eq-eqb, eqb-true}
 use Rattle.std.proofs.lemmas.List.Elements.{All-nil, All-contains}
 use Rattle.std.proofs.lemmas.List.{ext_get_or}
+use Rattle.std.proofs.lemmas.Option.{same_Some, none-some}
 use Rattle.list_laws.proofs.Places.{value_at, get_at}
 use Rattle.cca_base.specs.declared.cube.Pair.{Pair}
 use Rattle.cca_base.specs.declared.events.Reply.TheVariants.{Idle, Send, Achieved, Unreachable}
@@ -13,7 +14,6 @@ use Rattle.cca_base.specs.Model.{WellFormed, IsMove}
 use Rattle.cca_base.specs.State.{IsState, Holds}
 use Rattle.cca_base.specs.Successors.{IsCommanded, Nominal, Costs, ChangeCosts}
 use Rattle.cca_base.specs.Estimates.{IsEarlier}
-use Rattle.cca_base.proofs.Members.{some_inj, none_some}
 use Rattle.cca_base.proofs.StateLaws.{mode_in_state, none_earlier}
 use Rattle.cca_base.proofs.NominalLaws.{one_nominal, nominal_length, nominal_is_free}
 use Rattle.plain_laws.specs.Plain.{IsPlain}
@@ -67,7 +67,7 @@ sent_is_commanded m s k move good plain state among h =
 commanded_is_sent : (m : PlantModel) (s : List ℕ) (k : ℕ) (move : Move) → IsCommanded m s (Some k) move → is_sent s k move ≡ true
 commanded_is_sent m s k move h =
     and_from (move.command == k) (slice_index s move.component == move.source)
-    (eq-eqb move.command k (sym (some_inj k move.command h.command)))
+    (eq-eqb move.command k (sym (same_Some k move.command h.command)))
     (eq-eqb (slice_index s move.component) move.source (value_at s move.component move.source h.source))
 
 arrives : (m : PlantModel) (s : List ℕ) (k : ℕ) (o : Option Move) → WellFormed m → IsPlain m → IsState m s → find (is_sent s k) m.moves ≡ o → Nominal m s (Some k) (arrive s o)
@@ -79,7 +79,7 @@ arrives m s k (Some move) good plain state found =
 
 -- without a command nothing moves
 pub stays : (m : PlantModel) (s : List ℕ) → Nominal m s None s
-stays m s = inr ((λ move h. none_some move.command h.command), refl)
+stays m s = inr ((λ move h. none-some move.command h.command), refl)
 
 pub replies_are_obeyed : RepliesAreObeyed
 replies_are_obeyed m s (Send k) good plain state = arrives m s k (find (is_sent s k) m.moves) good plain state refl

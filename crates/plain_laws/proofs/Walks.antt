@@ -4,11 +4,12 @@ use Rattle.std.specs.List.{list_any}
 use Rattle.std.proofs.lemmas.Bool.{cases_eq, cases_Bool, both_ways, and_parts, and_from, or_cases, or_left, or_right, eq-eqb, eqb-true, ne_eqb, not_from_false, not_from_true, cond-true, cond-false, false≢true}
 use Rattle.std.proofs.lemmas.List.Elements.{All-nil, All-cons, All-head, All-tail, Contains-append_right}
 use Rattle.std.proofs.lemmas.List.Folds.{Any-from_list_any, list_any-from_Any}
+use Rattle.std.proofs.lemmas.Option.{same_Some, none-some}
 use Rattle.list_laws.proofs.Kept.{filter_less}
 use Rattle.cca_base.specs.declared.model.Move.{Move}
 use Rattle.cca_base.specs.declared.limits.TheConstants.{MAX_CHOICES}
 use Rattle.cca_base.specs.Orders.{numbers_below}
-use Rattle.cca_base.proofs.Members.{some_inj, none_some, contains_here, to_filter}
+use Rattle.cca_base.proofs.Members.{contains_here, to_filter}
 use Rattle.cca_base.proofs.PathLaws.{below_contains}
 use Rattle.plain_laws.specs.Planner.{leaves, leads_within, or_else, nearer_move, move_toward, leads}
 
@@ -22,10 +23,10 @@ pub record Split (X : Type 0) (test : X → Bool) (xs : List X) (x : X) : Type 0
   pub passes : test x ≡ true
 
 pub find_split : {X : Type 0} (test : X → Bool) (xs : List X) (x : X) → find test xs ≡ Some x → Split X test xs x
-find_split test [] x h = absurd (none_some x h)
+find_split test [] x h = absurd (none-some x h)
 find_split test (y ∷ xs) x h = elim (cases_Bool (test y)) [
   | inl here ↦
-      let e : y ≡ x = some_inj y x (sym (cond-true (test y) (Some y) (find test xs) here) ∙ h) in
+      let e : y ≡ x = same_Some y x (sym (cond-true (test y) (Some y) (find test xs) here) ∙ h) in
       record { before = []; after = xs; split = ap (λ z. z ∷ xs) e; fails = All-nil (λ z. test z ≡ false); passes = subst (λ z. test z ≡ true) e here }
   | inr later ↦
       let rest = find_split test xs x (sym (cond-false (test y) (Some y) (find test xs) later) ∙ h) in
@@ -45,7 +46,7 @@ split_contains test xs x h =
 pub find_none : {X : Type 0} (test : X → Bool) (xs : List X) → find test xs ≡ None → All (λ y. test y ≡ false) xs
 find_none test [] h = All-nil (λ y. test y ≡ false)
 find_none test (y ∷ xs) h = elim (cases_Bool (test y)) [
-  | inl here ↦ absurd (none_some y (sym h ∙ cond-true (test y) (Some y) (find test xs) here))
+  | inl here ↦ absurd (none-some y (sym h ∙ cond-true (test y) (Some y) (find test xs) here))
   | inr later ↦ All-cons (λ z. test z ≡ false) y xs later (find_none test xs (sym (cond-false (test y) (Some y) (find test xs) later) ∙ h))
 ]
 
@@ -119,7 +120,7 @@ module _ (moves : List Move) (c b : ℕ) where
 
   from_nearer : (n a : ℕ) (x : Move) → nearer_move moves c b a n ≡ Some x → Toward moves c a b x
   unfolding nearer_move
-  from_nearer zero a x h = absurd (none_some x h)
+  from_nearer zero a x h = absurd (none-some x h)
   from_nearer (suc n) a x h = elim (or_else_cases (nearer_move moves c b a n) (find (λ y. leaves c a y && leads_within moves c b n y.target) moves) x h) [
     | inl sooner ↦ from_nearer n a x sooner
     | inr now ↦

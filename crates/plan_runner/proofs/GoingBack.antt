@@ -2,7 +2,7 @@
 use Rattle.std.proofs.Common.{◌≡◌, ◌<◌, ◌≤◌, ◌↔◌, ◌+◌, ◌⊎◌, ℕ, zero, suc, true, false, List, [], ◌∷◌, ◌++◌, length, slice_get, slice_index, take, Some, Contains, refl, sym, ap, subst, ◌∙◌, inl, inr, arith, append_assoc, append-nil}
 use Rattle.std.proofs.lemmas.Bool.{cases_Bool, both_ways}
 use Rattle.std.proofs.lemmas.List.{take_all}
-use Rattle.std.proofs.lemmas.Option.{slice_get_within, get_or_from_slice_get}
+use Rattle.std.proofs.lemmas.Option.{slice_get_within, get_or_from_slice_get, same_Some, none-some}
 use Rattle.std.proofs.lemmas.List.Elements.{All-contains, Contains-append_left, Contains-push, Contains-push_cases}
 use Rattle.cca_base.specs.declared.cube.Pair.{Pair}
 use Rattle.cca_base.specs.Accepted.{CompiledModel}
@@ -10,7 +10,7 @@ use Rattle.cca_base.specs.Flags.{is_set}
 use Rattle.cca_base.specs.Model.{HasMode, IsMended, is_broken}
 use Rattle.cca_base.specs.Orders.{AreInOrder}
 use Rattle.cca_base.specs.Plans.{IsWanted, IsBackGoal}
-use Rattle.cca_base.proofs.Members.{all_from, some_inj, none_some, contains_here, contains_there, contains_none}
+use Rattle.cca_base.proofs.Members.{all_from, contains_here, contains_there, contains_none}
 use Rattle.reach_laws.specs.Classes.{AreInside}
 use Rattle.reach_laws.proofs.Facts.{get_at}
 use Rattle.reach_laws.proofs.Order.{Among, IsOrder, repair_rules, order_from}
@@ -26,8 +26,8 @@ use Rattle.planner_step.proofs.Stuck.{mendable_exactly, some_mended}
 use Rattle.cca_base.proofs.NextModes.{one_mended}
 
 pub take_next : (xs : List ℕ) (i x : ℕ) → slice_get xs i ≡ Some x → take (i + 1) xs ≡ take i xs ++ x ∷ []
-take_next [] i x at = absurd (none_some x at)
-take_next (y ∷ xs) zero x at = ap (λ z. z ∷ []) (some_inj y x at)
+take_next [] i x at = absurd (none-some x at)
+take_next (y ∷ xs) zero x at = ap (λ z. z ∷ []) (same_Some y x at)
 take_next (y ∷ xs) (suc i) x at =
     let e : suc i + 1 ≡ suc (i + 1) = omega arith in
     subst (λ n. take n (y ∷ xs) ≡ take (suc i) (y ∷ xs) ++ x ∷ []) (sym e) (ap (λ l. y ∷ l) (take_next xs i x at))
@@ -45,9 +45,9 @@ module _ (t : TableParts) (is : IsTables t) (s : List ℕ) (cov : CoversState t.
   only_sound : (c mode : ℕ) → slice_get s c ≡ Some mode → is_broken b.model.moves c mode ≡ false → GoesOnlyTo t.classes s c mode
   only_sound c mode at sound x = (
     (λ back. elim back [
-      | inl held ↦ some_inj x mode (sym held.0 ∙ at)
+      | inl held ↦ same_Some x mode (sym held.0 ∙ at)
       | inr other ↦
-          let same : other.0 ≡ mode = some_inj other.0 mode (sym other.1 ∙ at) in
+          let same : other.0 ≡ mode = same_Some other.0 mode (sym other.1 ∙ at) in
           absurd (both_ways (is_broken b.model.moves c mode) sound (subst (λ y. is_broken b.model.moves c y ≡ true) same other.2.broken))
     ]),
     (λ e. inl (at ∙ ap (λ v. Some v) (sym e), subst (λ y. is_broken b.model.moves c y ≡ false) (sym e) sound)),
@@ -57,10 +57,10 @@ module _ (t : TableParts) (is : IsTables t) (s : List ℕ) (cov : CoversState t.
   only_mended c mode a at mended flag x = (
     (λ back. elim back [
       | inl held ↦
-          let same : x ≡ mode = some_inj x mode (sym held.0 ∙ at) in
+          let same : x ≡ mode = same_Some x mode (sym held.0 ∙ at) in
           absurd (both_ways (is_broken b.model.moves c mode) (subst (λ y. is_broken b.model.moves c y ≡ false) same held.1) mended.broken)
       | inr other ↦
-          let same : other.0 ≡ mode = some_inj other.0 mode (sym other.1 ∙ at) in
+          let same : other.0 ≡ mode = same_Some other.0 mode (sym other.1 ∙ at) in
           one_mended b.model.moves is.classes.compiled.accepted.well_formed.repairs c mode x a (subst (λ y. IsMended b.model.moves c y x) same other.2) mended
     ]),
     (λ e. inr (mode, at, subst (IsMended b.model.moves c mode) (sym e) mended, flag)),
@@ -69,7 +69,7 @@ module _ (t : TableParts) (is : IsTables t) (s : List ℕ) (cov : CoversState t.
   pub nowhere : (c mode : ℕ) → slice_get s c ≡ Some mode → is_broken b.model.moves c mode ≡ true → is_set t.classes.mendable c ≡ false → GoesNowhere t.classes s c
   nowhere c mode at broken flag x back = elim back [
     | inl held ↦
-        let same : x ≡ mode = some_inj x mode (sym held.0 ∙ at) in
+        let same : x ≡ mode = same_Some x mode (sym held.0 ∙ at) in
         both_ways (is_broken b.model.moves c mode) (subst (λ y. is_broken b.model.moves c y ≡ false) same held.1) broken
     | inr other ↦ both_ways (is_set t.classes.mendable c) flag other.3
   ]

@@ -1,9 +1,9 @@
 -- A right cell is the fixed choice at each covered state.
 use Rattle.std.proofs.Common.{◌≡◌, ℕ, slice_index, Some, sym, ap, subst, ◌∙◌}
 use Rattle.std.proofs.lemmas.Bool.{both_ways}
+use Rattle.std.proofs.lemmas.Option.{same_Some}
 use Rattle.list_laws.proofs.Places.{value_at}
 use Rattle.cca_base.specs.Model.{HasMode}
-use Rattle.cca_base.proofs.Members.{some_inj}
 use Rattle.cca_base.proofs.Within.{mode_within}
 use Rattle.reach_laws.specs.declared.cell.Cell.{Cell}
 use Rattle.reach_laws.specs.declared.cell.Cell.TheVariants as cell
@@ -21,6 +21,6 @@ choice_from p is c from to has_from (cell.Step number command cube left) (other,
     let at_s : IsStep p.compiled (in_row p.rows) c (slice_index s c) to number command cube left =
     subst (λ z. IsStep p.compiled (in_row p.rows) c z to number command cube left) (sym here) step in
     let chosen = chosen_exactly p.compiled p.base (in_row p.rows) s (setting p is s covered) c to number command cube left (mode_within p.compiled.model c from has_from) at_s in
-    (λ e. other (some_inj from to (sym stands ∙ e)), (at_s.move, at_s.plain, chosen.0, chosen.1, at_s.commands, at_s.sorted, chosen.2))
+    (λ e. other (same_Some from to (sym stands ∙ e)), (at_s.move, at_s.plain, chosen.0, chosen.1, at_s.commands, at_s.sorted, chosen.2))
 choice_from p is c from to has_from cell.Never (other, outside) s covered stands sound reach =
     both_ways (in_row p.rows c to) outside ((class_is_reach p.compiled.model p.compiled.order p.base (in_row p.rows) s (setting p is s covered) c to).1 (sound, reach))

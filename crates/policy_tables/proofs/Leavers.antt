@@ -3,6 +3,7 @@ use Rattle.std.proofs.Common.{◌≡◌, ◌<◌, ◌+◌, ℕ, true, suc, List,
 use Rattle.std.proofs.lemmas.Bool.{cases_lt}
 use Rattle.std.proofs.lemmas.List.{get_or_append_left, get_or_push}
 use Rattle.std.proofs.lemmas.List.Elements.{All-contains}
+use Rattle.std.proofs.lemmas.Option.{same_Some}
 use Rattle.cca_base.specs.declared.cube.Pair.{Pair}
 use Rattle.cca_base.specs.declared.model.Move.{Move}
 use Rattle.cca_base.specs.Accepted.{CompiledModel}
@@ -10,7 +11,6 @@ use Rattle.cca_base.specs.PlantModel.{PlantModel}
 use Rattle.cca_base.specs.Implicants.{PrimeImplicant}
 use Rattle.cca_base.specs.Model.{WellFormed, IsMove, HasMode, mode_counts}
 use Rattle.cca_base.specs.Relations.{AreExactly}
-use Rattle.cca_base.proofs.Members.{some_inj}
 use Rattle.reach_laws.specs.Classes.{Test}
 use Rattle.reach_laws.specs.Cells.{IsShortest, IsStep}
 use Rattle.reach_laws.proofs.Needed.{move_in}
@@ -32,7 +32,7 @@ module _ (m : PlantModel) (w : WellFormed m) (member : Test) (c from : ℕ) wher
       (λ there.
           let is = (some.each i).0 there in
           let number : IsOpenNumber m member c i = subst (IsOpenNumber m member c) is.0.2 (exactly_here (IsOpenNumber m member c) numbers are is.0.0 is.0.1) in
-          let same : is.1.0 ≡ number.move = some_inj is.1.0 number.move (sym is.1.1 ∙ number.move_at) in
+          let same : is.1.0 ≡ number.move = same_Some is.1.0 number.move (sym is.1.1 ∙ number.move_at) in
           record {
             move = number.move;
             move_at = number.move_at;
@@ -68,7 +68,7 @@ module _ (m : PlantModel) (w : WellFormed m) (member : Test) (c from : ℕ) wher
       pub first_near : (k : ℕ) → IsFirstPlace m leaving level to k → IsFirstNear m member level c from to (slice_index leaving k)
       first_near k h =
           let is : IsLeaving m member c from (slice_index leaving k) = exactly_here (IsLeaving m member c from) leaving are k h.within in
-          let same : h.near.0 ≡ is.move = some_inj h.near.0 is.move (sym h.near.1 ∙ is.move_at) in
+          let same : h.near.0 ≡ is.move = same_Some h.near.0 is.move (sym h.near.1 ∙ is.move_at) in
           record {
             leads = record {
               move = is.move;
@@ -106,8 +106,8 @@ module _ (b : CompiledModel) (w : WellFormed b.model) (member : Test) (c from to
   pub step_is : (i : ℕ) → IsFirstNear b.model member level c from to i → (move : Move) → slice_get b.model.moves i ≡ Some move → (cube : List Pair) → IsCubeOf b member i cube
       → IsStep b member c from to i move.command cube (suc rest)
   step_is i near move at cube of =
-      let same : near.leads.move ≡ move = some_inj near.leads.move move (sym near.leads.move_at ∙ at) in
-      let other : of.move ≡ move = some_inj of.move move (sym of.move_at ∙ at) in
+      let same : near.leads.move ≡ move = same_Some near.leads.move move (sym near.leads.move_at ∙ at) in
+      let other : of.move ≡ move = same_Some of.move move (sym of.move_at ∙ at) in
       record {
         move = near.leads.move;
         move_at = near.leads.move_at;

@@ -2,7 +2,7 @@
 use Rattle.std.proofs.Common.{◌≡◌, ◌<◌, ◌≢◌, ◌==◌, ◌&&◌, ℕ, Bool, true, false, not, List, ◌∷◌, length, slice_get, Some, Contains, filter, refl, sym, ap, subst, ◌∙◌, inl, inr, arith}
 use Rattle.std.proofs.lemmas.Bool.{cases_eq, both_ways, eq-eqb, ne_eqb, not-true, not_from_false, and_parts, and_from}
 use Rattle.std.proofs.lemmas.List.Elements.{All-contains}
-use Rattle.std.proofs.lemmas.Option.{slice_get_within}
+use Rattle.std.proofs.lemmas.Option.{slice_get_within, same_Some}
 use Rattle.std.proofs.lemmas.List.Kept.{AllPairs-filter}
 use Rattle.list_laws.proofs.Places.{value_at}
 use Rattle.cca_base.specs.declared.cube.Pair.{Pair}
@@ -12,7 +12,7 @@ use Rattle.cca_base.specs.Implicants.{source_pair}
 use Rattle.cca_base.specs.Repairs.{pairs_of, sound_pairs}
 use Rattle.cca_base.specs.Steps.{support}
 use Rattle.reach_laws.specs.Laws.{EachStepIsReady}
-use Rattle.cca_base.proofs.Members.{all_from, some_inj, contains_cases, contains_here, contains_there, to_filter, from_filter, stands_in}
+use Rattle.cca_base.proofs.Members.{all_from, contains_cases, contains_here, contains_there, to_filter, from_filter, stands_in}
 use Rattle.cca_laws.proofs.Minimal.{Candidate, minimal_part, pairs_rise}
 
 -- the pairs of a state that a step of c may lean on, but for those of c
@@ -45,7 +45,7 @@ steps_are_ready m s t k state step =
                 let found = from_filter sound (pairs_of s) p later in
                 elim (cases_eq p.item c) [
                   | inl e ↦
-                      let value : step.move.source ≡ p.value = some_inj step.move.source p.value
+                      let value : step.move.source ≡ p.value = same_Some step.move.source p.value
                       (sym step.source ∙ subst (λ d. slice_get s d ≡ Some p.value) e (stands_in s p found.1)) in
                       subst (λ d. slice_get u d ≡ Some p.value) (sym e)
                       (All-contains Has (own ∷ cube) own extends (contains_here own own cube refl) ∙ ap (λ v. Some v) value)

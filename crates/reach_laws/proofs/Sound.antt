@@ -2,7 +2,7 @@
 use Rattle.std.proofs.Common.{◌≡◌, ◌<◌, ◌+◌, ◌⊎◌, ◌≢◌, ◌==◌, ℕ, true, false, cond, List, [], ◌∷◌, ◌++◌, length, slice_get, slice_index, slice_set, Option, Some, None, Contains, refl, sym, ap, subst, ◌∙◌, inl, inr, zero, suc}
 use Rattle.std.proofs.lemmas.Bool.{cases_eq, cases_Bool, both_ways, cond-true, cond-false, eq-eqb, eqb-true, eqb-false, false_from_ne_true}
 use Rattle.std.proofs.lemmas.List.Elements.{All-contains}
-use Rattle.std.proofs.lemmas.Option.{slice_get_within}
+use Rattle.std.proofs.lemmas.Option.{slice_get_within, same_Some, none-some}
 use Rattle.list_laws.proofs.Places.{value_at, get_at}
 use Rattle.cca_base.specs.declared.cube.Pair.{Pair}
 use Rattle.cca_base.specs.declared.model.Move.{Move}
@@ -14,7 +14,7 @@ use Rattle.cca_base.specs.State.{IsState}
 use Rattle.cca_base.specs.Repairs.{Mending}
 use Rattle.cca_base.specs.Steps.{Step, Run, Allowed, AllowedPlan, Reach}
 use Rattle.cca_base.specs.Relations.{numbers_below}
-use Rattle.cca_base.proofs.Members.{all_from, some_inj, none_some, contains_cases, contains_here, contains_there, contains_none}
+use Rattle.cca_base.proofs.Members.{all_from, contains_cases, contains_here, contains_there, contains_none}
 use Rattle.cca_base.proofs.PathLaws.{below_contains}
 use Rattle.reach_laws.specs.Classes.{Test, IsOpen, OpenMove, OpenWalk, Joined, OpenRepairs, IsHome, InClass, AreClasses, IsOnWay, Stands, Covers}
 use Rattle.reach_laws.specs.Laws.{Setting, Ready, ClassIsReach, OneClasses, Returns, ReturnsInside, RepairsLeadIn, StaysCovered}
@@ -34,10 +34,10 @@ find_mode [] d = None
 find_mode (p ∷ ps) d = cond (p.item == d) (Some p.value) (find_mode ps d)
 
 found_in : (cube : List Pair) (d x : ℕ) → find_mode cube d ≡ Some x → Contains cube (record { item = d; value = x })
-found_in [] d x h = absurd (none_some x h)
+found_in [] d x h = absurd (none-some x h)
 found_in (p ∷ ps) d x h = elim (cases_Bool (p.item == d)) [
   | inl yes_p ↦
-      let value : p.value ≡ x = some_inj p.value x (sym (cond-true (p.item == d) (Some p.value) (find_mode ps d) yes_p) ∙ h) in
+      let value : p.value ≡ x = same_Some p.value x (sym (cond-true (p.item == d) (Some p.value) (find_mode ps d) yes_p) ∙ h) in
       contains_here p (record { item = d; value = x }) ps (λ i. record { item = eqb-true p.item d yes_p i; value = value i })
   | inr no_p ↦ contains_there p (record { item = d; value = x }) ps (found_in ps d x (sym (cond-false (p.item == d) (Some p.value) (find_mode ps d) no_p) ∙ h))
 ]
@@ -234,7 +234,7 @@ module _ (m : PlantModel) (base : List ℕ) (member : Test) (rules : RepairRules
           idle = λ d none. after.idle d none ∙ w.idle d none;
           stands = λ d x there h. elim there [
             | inl e ↦ subst (λ y. slice_index after.t y ≡ x) (sym e)
-                (after.others c first.1 ∙ (w.there ∙ some_inj b x (sym found.1 ∙ subst (λ y. want y ≡ Some x) e h)))
+                (after.others c first.1 ∙ (w.there ∙ same_Some b x (sym found.1 ∙ subst (λ y. want y ≡ Some x) e h)))
             | inr i ↦ after.stands d x i h
           ];
         }
@@ -249,7 +249,7 @@ module _ (m : PlantModel) (base : List ℕ) (member : Test) (rules : RepairRules
           others = λ d apart. after.others d (λ i. apart (inr i));
           idle = after.idle;
           stands = λ d x there h. elim there [
-            | inl e ↦ absurd (none_some x (sym none ∙ subst (λ y. want y ≡ Some x) e h))
+            | inl e ↦ absurd (none-some x (sym none ∙ subst (λ y. want y ≡ Some x) e h))
             | inr i ↦ after.stands d x i h
           ];
         }
@@ -286,8 +286,8 @@ module _ (m : PlantModel) (base : List ℕ) (member : Test) (rules : RepairRules
     option_of c (inr none) = None
 
     option_member : (c : ℕ) (h : ((a : ℕ) × IsHome m base member c a) ⊎ HasNone member c) (x : ℕ) → option_of c h ≡ Some x → member c x ≡ true
-    option_member c (inl found) x e = subst (λ y. member c y ≡ true) (some_inj found.0 x e) (home_member m base member rules classes c found.0 found.1)
-    option_member c (inr none) x e = absurd (none_some x e)
+    option_member c (inl found) x e = subst (λ y. member c y ≡ true) (same_Some found.0 x e) (home_member m base member rules classes c found.0 found.1)
+    option_member c (inr none) x e = absurd (none-some x e)
 
     -- as the component stands where that is in its class, and else its home
     abbrev back_want : List ℕ → ℕ → Option ℕ
@@ -296,7 +296,7 @@ module _ (m : PlantModel) (base : List ℕ) (member : Test) (rules : RepairRules
     back_wanted : (s : List ℕ) → IsWished m base member (back_want s)
     back_wanted s d x h = elim (cases_Bool (member d (slice_index s d))) [
       | inl inside ↦ subst (λ y. member d y ≡ true)
-          (some_inj (slice_index s d) x (sym (cond-true (member d (slice_index s d)) (Some (slice_index s d)) (option_of d (find_home grounded d)) inside) ∙ h)) inside
+          (same_Some (slice_index s d) x (sym (cond-true (member d (slice_index s d)) (Some (slice_index s d)) (option_of d (find_home grounded d)) inside) ∙ h)) inside
       | inr outside ↦ option_member d (find_home grounded d) x (sym (cond-false (member d (slice_index s d)) (Some (slice_index s d)) (option_of d (find_home grounded d)) outside) ∙ h)
     ]
 
@@ -492,8 +492,8 @@ module _ (m : PlantModel) (order base : List ℕ) (member : Test) (s : List ℕ)
       let want : ℕ → Option ℕ = λ d. cond (d == c) (Some x) None in
       let wanted : IsWished m base member want = λ d y h. elim (cases_Bool (d == c)) [
         | inl same ↦ subst (λ z. member z y ≡ true) (sym (eqb-true d c same))
-            (subst (λ v. member c v ≡ true) (some_inj x y (sym (cond-true (d == c) (Some x) None same) ∙ h)) inside)
-        | inr other ↦ absurd (none_some y (sym (cond-false (d == c) (Some x) None other) ∙ h))
+            (subst (λ v. member c v ≡ true) (same_Some x y (sym (cond-true (d == c) (Some x) None same) ∙ h)) inside)
+        | inr other ↦ absurd (none-some y (sym (cond-false (d == c) (Some x) None other) ∙ h))
       ] in
       let a : Rearranged m base member s (λ d. Among d order) want =
       achieve m base member rules g.classes order ordered.effects_first ordered.within s want g.state g.covers wanted in

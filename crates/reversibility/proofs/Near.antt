@@ -1,19 +1,18 @@
 -- Levels of nearness grow edge by edge.
 use Rattle.std.proofs.Common.{◌≡◌, ◌≢◌, ◌<◌, ◌≤◌, ◌+◌, ◌⊎◌, ◌||◌, ◌↔◌, ℕ, true, zero, suc, List, [], ◌∷◌, ◌++◌, length, slice_get, slice_index, slice_set, Some, refl, sym, ap, subst, ◌∙◌, inl, inr, arith, get_or-set_same, get_or-set_other, length-set}
 use Rattle.std.proofs.lemmas.Bool.{cases_eq, cases_lt, or_cases, or_left, or_right}
-use Rattle.std.proofs.lemmas.Option.{slice_get_within, get_or_from_slice_get}
+use Rattle.std.proofs.lemmas.Option.{slice_get_within, get_or_from_slice_get, same_Some, none-some}
 use Rattle.cca_base.specs.declared.model.Move.{Move}
 use Rattle.cca_base.specs.PlantModel.{PlantModel}
 use Rattle.cca_base.specs.Sets.{has}
-use Rattle.cca_base.proofs.Members.{some_inj, none_some}
 use Rattle.reversibility.specs.ClassParts.{in_row}
 use Rattle.reversibility.specs.Levels.{Edges, AreMovesWithin, MoveLeads, EdgeWalk, IsNear, IsLevel, AreLevels, IsExpanded}
 
 -- ---- lists that grow
 
 push_get : {X : Type 0} (xs : List X) (y z : X) (k : ℕ) → slice_get (xs ++ y ∷ []) k ≡ Some z → (slice_get xs k ≡ Some z) ⊎ ((k ≡ length xs) × (y ≡ z))
-push_get [] y z zero h = inr (refl, some_inj y z h)
-push_get [] y z (suc k) h = absurd (none_some z h)
+push_get [] y z zero h = inr (refl, same_Some y z h)
+push_get [] y z (suc k) h = absurd (none-some z h)
 push_get (x ∷ xs) y z zero h = inl h
 push_get (x ∷ xs) y z (suc k) h = elim (push_get xs y z k h) [
   | inl there ↦ inl there
@@ -27,7 +26,7 @@ pub move_within : (m : PlantModel) (n : ℕ) (numbers : List ℕ) → AreMovesWi
     → slice_get m.moves (slice_index numbers place) ≡ Some move → (move.source < n) × (move.target < n)
 move_within m n numbers within place lt move at =
     let is = within place lt in
-    let same : is.0 ≡ move = some_inj is.0 move (sym is.1 ∙ at) in
+    let same : is.0 ≡ move = same_Some is.0 move (sym is.1 ∙ at) in
     (subst (λ (z : Move). z.source < n) same is.2, subst (λ (z : Move). z.target < n) same is.3)
 
 module _ (m : PlantModel) (numbers : List ℕ) (level : List ℕ) where
@@ -45,7 +44,7 @@ module _ (m : PlantModel) (numbers : List ℕ) (level : List ℕ) where
     | inl below ↦ inl (record { place = h.place; below = below; move = h.move; move_at = h.move_at; source = h.source; target = h.target })
     | inr past ↦
         let here : h.place ≡ n = omega (arith, past, h.below) in
-        let same : h.move ≡ move = some_inj h.move move (sym h.move_at ∙ (ap (λ k. slice_get m.moves (slice_index numbers k)) here ∙ at)) in
+        let same : h.move ≡ move = same_Some h.move move (sym h.move_at ∙ (ap (λ k. slice_get m.moves (slice_index numbers k)) here ∙ at)) in
         inr (sym (ap (λ z. z.source) same) ∙ h.source, sym (ap (λ z. z.target) same) ∙ h.target)
   ]
 

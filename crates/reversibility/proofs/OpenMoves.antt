@@ -1,6 +1,6 @@
 -- The open moves of a component, by their numbers.
 use Rattle.std.proofs.Common.{◌≡◌, ◌<◌, ℕ, List, length, slice_get, slice_index, get_or, Some, All, sym, ap, subst, ◌∙◌}
-use Rattle.std.proofs.lemmas.Option.{slice_get_within, slice_get-get_or}
+use Rattle.std.proofs.lemmas.Option.{slice_get_within, slice_get-get_or, same_Some}
 use Rattle.std.proofs.lemmas.List.{get_or_default}
 use Rattle.std.proofs.lemmas.List.Elements.{All-contains}
 use Rattle.cca_base.specs.declared.cube.Pair.{Pair}
@@ -9,7 +9,7 @@ use Rattle.cca_base.specs.PlantModel.{PlantModel}
 use Rattle.cca_base.specs.Accepted.{CompiledModel, IsCompiled, AreWays}
 use Rattle.cca_base.specs.Implicants.{PrimeImplicant}
 use Rattle.cca_base.specs.Model.{WellFormed, IsMove, HasMode, mode_counts}
-use Rattle.cca_base.proofs.Members.{all_from, some_inj}
+use Rattle.cca_base.proofs.Members.{all_from}
 use Rattle.cca_base.proofs.Within.{mode_within}
 use Rattle.reach_laws.specs.Classes.{Test, IsOpen, OpenMove}
 use Rattle.reach_laws.proofs.Needed.{move_in}
@@ -47,7 +47,7 @@ module _ (m : PlantModel) (w : WellFormed m) (member : Test) (c : ℕ) where
 
   pub number_no : (i : ℕ) (move : Move) → slice_get m.moves i ≡ Some move → (move.component ≡ c → IsOpen m member move → ⊥) → IsOpenNumber m member c i → ⊥
   number_no i move at none is =
-      let same : is.move ≡ move = some_inj is.move move (sym is.move_at ∙ at) in
+      let same : is.move ≡ move = same_Some is.move move (sym is.move_at ∙ at) in
       none (subst (λ (z : Move). z.component ≡ c) same is.own) (subst (IsOpen m member) same is.open_move)
 
   module _ (numbers : List ℕ) (are : AreOpenMoves m member c numbers) where
@@ -62,7 +62,7 @@ module _ (m : PlantModel) (w : WellFormed m) (member : Test) (c : ℕ) where
     pub leads_open : (a x : ℕ) → MoveLeads m numbers (length numbers) a x → OpenMove m member c a x
     leads_open a x h =
         let is : IsOpenNumber m member c (slice_index numbers h.place) = exactly_here (IsOpenNumber m member c) numbers are h.place h.below in
-        let same : is.move ≡ h.move = some_inj is.move h.move (sym is.move_at ∙ h.move_at) in
+        let same : is.move ≡ h.move = same_Some is.move h.move (sym is.move_at ∙ h.move_at) in
         record {
           move = h.move;
           of_model = move_in m (slice_index numbers h.place) h.move h.move_at;

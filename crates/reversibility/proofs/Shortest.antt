@@ -1,11 +1,11 @@
 -- Levels of open moves, and homes by them.
 use Rattle.std.proofs.Common.{◌≡◌, ◌<◌, ◌≤◌, ◌-◌, ◌⊎◌, ℕ, true, false, zero, suc, List, length, slice_get, slice_index, Option, Some, None, refl, sym, ap, subst, ◌∙◌, inl, inr, arith}
 use Rattle.std.proofs.lemmas.Bool.{cases_lt, both_ways}
+use Rattle.std.proofs.lemmas.Option.{same_Some, none-some}
 use Rattle.cca_base.specs.declared.model.Move.{Move}
 use Rattle.cca_base.specs.PlantModel.{PlantModel}
 use Rattle.cca_base.specs.Model.{WellFormed, HasMode, IsNext, is_broken, mode_counts}
 use Rattle.cca_base.specs.Relations.{numbers_below}
-use Rattle.cca_base.proofs.Members.{some_inj, none_some}
 use Rattle.cca_base.proofs.PathLaws.{below_contains, numbers_within}
 use Rattle.reach_laws.specs.Classes.{Test, OpenMove, OpenWalk, Joined, OpenRepairs}
 use Rattle.reach_laws.specs.Cells.{IsShortest}
@@ -108,13 +108,13 @@ module _ (m : PlantModel) (w : WellFormed m) (member : Test) (c : ℕ) where
     NamesEdge a x o = (move : Move) × (o ≡ Some move) × (move.source ≡ a) × (move.target ≡ x)
 
     dec_names : (a x : ℕ) (o : Option Move) → Dec (NamesEdge a x o)
-    dec_names a x None = no (λ h. none_some h.0 h.1)
+    dec_names a x None = no (λ h. none-some h.0 h.1)
     dec_names a x (Some move) = like (dec_both (dec_equal move.source a) (dec_equal move.target x))
       where
         like : Dec ((move.source ≡ a) × (move.target ≡ x)) → Dec (NamesEdge a x (Some move))
         like (yes h) = yes (move, refl, h.0, h.1)
         like (no h) = no (λ named.
-            let same : move ≡ named.0 = some_inj move named.0 named.1 in
+            let same : move ≡ named.0 = same_Some move named.0 named.1 in
             h (ap (λ (z : Move). z.source) same ∙ named.2, ap (λ (z : Move). z.target) same ∙ named.3))
 
     dec_edge : (a x : ℕ) → Dec (OpenMove m member c a x)

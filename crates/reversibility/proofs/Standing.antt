@@ -1,7 +1,7 @@
 -- Where components stand: in their classes, or in their base modes.
 use Rattle.std.proofs.Common.{◌≡◌, false, ◌+◌, ◌<◌, ◌≤◌, ◌⊎◌, ◌↔◌, ◌==◌, ℕ, true, zero, suc, List, [], ◌∷◌, length, slice_get, slice_index, Some, refl, sym, ap, subst, ◌∙◌, inl, inr, arith, map}
 use Rattle.std.proofs.lemmas.Bool.{cases_lt, both_ways, eqb-true, eq-eqb}
-use Rattle.std.proofs.lemmas.Option.{get_or_from_slice_get, slice_get_within}
+use Rattle.std.proofs.lemmas.Option.{get_or_from_slice_get, slice_get_within, same_Some, none-some}
 use Rattle.cca_base.specs.Sets.{has}
 use Rattle.reversibility.specs.ClassParts.{ClassParts, IsClasses, in_row}
 use Rattle.cca_base.specs.declared.model.Component.{Component}
@@ -9,13 +9,12 @@ use Rattle.cca_base.specs.PlantModel.{PlantModel}
 use Rattle.cca_base.specs.Model.{WellFormed, IsComponent, mode_counts}
 use Rattle.cca_base.specs.declared.limits.TheConstants.{MAX_CHOICES}
 use Rattle.std.proofs.lemmas.List.Elements.{All-contains}
-use Rattle.cca_base.proofs.Members.{some_inj, none_some}
 use Rattle.reach_laws.specs.Classes.{Test, AreClasses, Stands, Covers}
 use Rattle.reach_laws.proofs.Stands.{stands_by_base}
 
 pub mode_count : (components : List Component) (c : ℕ) (x : Component) → slice_get components c ≡ Some x → slice_index (map (λ z. length z.modes) components) c ≡ length x.modes
-mode_count [] c x h = absurd (none_some x h)
-mode_count (y ∷ components) zero x h = ap (λ (z : Component). length z.modes) (some_inj y x h)
+mode_count [] c x h = absurd (none-some x h)
+mode_count (y ∷ components) zero x h = ap (λ (z : Component). length z.modes) (same_Some y x h)
 mode_count (y ∷ components) (suc c) x h = mode_count components c x h
 
 stands_here : (m : PlantModel) (base : List ℕ) (member : Test) (s : List ℕ) → WellFormed m → AreClasses m base member → (c mode : ℕ) → c < length m.components

@@ -1,7 +1,7 @@
 -- Which moves are commanded.
 use Rattle.std.proofs.Common.{◌≡◌, ◌↔◌, ◌<◌, ℕ, inl, inr, List, length, Some, Contains, sym, ◌∙◌, arith}
 use Rattle.std.specs.List.{slice_get}
-use Rattle.std.proofs.lemmas.Option.{slice_get_within, get_or_from_slice_get}
+use Rattle.std.proofs.lemmas.Option.{slice_get_within, get_or_from_slice_get, same_Some}
 use Rattle.std.proofs.lemmas.Bool.{cases_lt}
 use Rattle.std.proofs.lemmas.List.{length-map, get_or_past}
 use Rattle.std.proofs.lemmas.List.Elements.{All-contains}
@@ -10,7 +10,6 @@ use Rattle.cca_base.specs.declared.cube.Pair.{Pair}
 use Rattle.cca_base.specs.declared.model.Move.{Move}
 use Rattle.cca_base.specs.Accepted.{CompiledModel, IsCompiled}
 use Rattle.cca_base.specs.State.{IsState, Holds}
-use Rattle.cca_base.proofs.Members.{some_inj}
 use Rattle.successors.specs.Nominal.{SomeStands}
 use Rattle.successors.proofs.Standing.{holds_by_prime, prime_holds}
 
@@ -26,7 +25,7 @@ pub among_at : (moves : List Move) (at : ℕ) (move : Move) → slice_get moves 
 among_at moves at move e = (at, slice_get_within moves at move e, get_or_from_slice_get moves at move move e)
 
 pub same_at : (moves : List Move) (at : ℕ) (a b : Move) → slice_get moves at ≡ Some a → slice_get moves at ≡ Some b → a ≡ b
-same_at moves at a b x y = some_inj a b (sym x ∙ y)
+same_at moves at a b x y = same_Some a b (sym x ∙ y)
 
 -- a move's component is one of the state's
 pub component_within : (b : CompiledModel) → IsCompiled b → (s : List ℕ) → IsState b.model s → (at : ℕ) (move : Move) → slice_get b.model.moves at ≡ Some move → move.component < length s

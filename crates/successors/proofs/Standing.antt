@@ -3,7 +3,7 @@ use Rattle.std.proofs.Common.{◌≡◌, ◌<◌, ◌≢◌, ◌==◌, ℕ, not,
 use Rattle.std.proofs.lemmas.Bool.{cases_eq, both_ways, eq-eqb, ne_eqb, not-true, not_from_false}
 use Rattle.std.proofs.lemmas.List.Elements.{All-contains, All-cons, All-weaker}
 use Rattle.std.proofs.lemmas.List.Kept.{AllPairs-filter}
-use Rattle.std.proofs.lemmas.Option.{slice_get_within, get_or_from_slice_get}
+use Rattle.std.proofs.lemmas.Option.{slice_get_within, get_or_from_slice_get, same_Some}
 use Rattle.cca_base.specs.declared.cube.Pair.{Pair}
 use Rattle.cca_base.specs.declared.model.Move.{Move}
 use Rattle.cca_base.specs.PlantModel.{PlantModel}
@@ -11,7 +11,7 @@ use Rattle.cca_base.specs.Model.{HasMode}
 use Rattle.cca_base.specs.Implicants.{PrimeImplicant, source_pair}
 use Rattle.cca_base.specs.Repairs.{pairs_of}
 use Rattle.cca_base.specs.State.{IsState, Holds, Extends}
-use Rattle.cca_base.proofs.Members.{all_from, some_inj, contains_here, contains_there, to_filter, from_filter, stands_in}
+use Rattle.cca_base.proofs.Members.{all_from, contains_here, contains_there, to_filter, from_filter, stands_in}
 use Rattle.cca_base.proofs.StateLaws.{same_state}
 use Rattle.cca_laws.specs.Conditions.{IsSufficient}
 use Rattle.cca_laws.proofs.Minimal.{pairs_rise, prime_parts}
@@ -32,7 +32,7 @@ module _ (m : PlantModel) (s : List ℕ) (move : Move) (state : IsState m s) (so
       let Has : Pair → Type 0 = λ q. slice_get t q.item ≡ Some q.value in
       all_from Has (pairs_of s) (λ p among. elim (cases_eq p.item move.component) [
         | inl e ↦
-            let value : move.source ≡ p.value = some_inj move.source p.value (sym source ∙ subst (λ d. slice_get s d ≡ Some p.value) e (stands_in s p among)) in
+            let value : move.source ≡ p.value = same_Some move.source p.value (sym source ∙ subst (λ d. slice_get s d ≡ Some p.value) e (stands_in s p among)) in
             subst (λ d. slice_get t d ≡ Some p.value) (sym e)
             (All-contains Has (own ∷ others) own extends (contains_here own own others refl) ∙ ap (λ v. Some v) value)
         | inr ne ↦ All-contains Has (own ∷ others) p extends

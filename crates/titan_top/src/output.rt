@@ -65,7 +65,7 @@ pub fn refuse<K: Sink>(
     ensures not_rejected { result ≢ Status.Rejected }
     ensures not_ended { result ≢ Status.Ended }
 {
-    match refusal_line(alloc, model, line, refusal) {
+    match refusal_line(alloc, model, line, refusal, false) {
         Ok(text) => send(sink, text.as_slice(), Status::Refused),
         Err(_) => Status::Memory,
     }

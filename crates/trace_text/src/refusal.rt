@@ -1,6 +1,6 @@
 //! The line of a refusal.
 
-ghost use Rattle.std.specs.Prelude.{◌≡◌, ◌++◌, ◌∷◌, [], codes, IfOk, OnOk};
+ghost use Rattle.std.specs.Prelude.{◌≡◌, ◌++◌, ◌∷◌, [], false, codes, IfOk, OnOk};
 ghost use Rattle.std.specs.Fmt.{decimal};
 ghost use Rattle.trace_text.specs.Refusals.{code_name, detail_text, refusal_line};
 
@@ -55,14 +55,16 @@ fn push_detail(out: &mut Vec<u8>, model: &Model, detail: &Detail) -> Result<(), 
 }
 
 /// The line of a refusal at a line of the input, with its LF, by the names of the model that was read so far. The error
-/// is want of memory.
+/// is want of memory. There is no JSON line yet.
 #[tactic(auto, unfolding(crate::specs::Refusals::refusal_line))]
 pub fn refusal_line(
     alloc: Global,
     model: &Model,
     line: u64,
     refusal: &Refusal,
+    json: bool,
 ) -> Result<List<u8>, AllocError>
+    requires plain { json ≡ false }
     ensures { IfOk result (λ text. text ≡ refusal_line model.now line refusal.now) }
 {
     let mut out = Vec::new(alloc);

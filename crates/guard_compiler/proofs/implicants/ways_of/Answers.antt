@@ -1,8 +1,8 @@
 use Rattle.std.proofs.Common.{◌≡◌, ◌≤◌, ◌∙◌, length, ap, sym, subst, slice_get, Some, refl}
+use Rattle.std.proofs.lemmas.Option.{same_Some}
 use Rattle.cca_base.specs.Accepted.{AreWays}
 use Rattle.cca_base.specs.declared.limits.TheConstants.{MAX_WAYS}
 use Rattle.guard_compiler.specs.Ways.{HasManyWays}
-use Rattle.cca_base.proofs.Members.{some_inj}
 use Rattle.guard_compiler.proofs.WaysMeaning.{AreSteps, move_of, guard_within, component_inside, states_of, all_ways, many_ways, not_many}
 use Rattle.guard_compiler.proofs.implicants.ways_of.Goals as goal
 
@@ -25,7 +25,7 @@ returns-in-Every-clause-ways c = λ move h.
     let m = c.args.model.now in
     let the_move = c.get-the_move.result.now in
     let there : slice_get m.moves c.args.move_number ≡ Some the_move = ap (λ z. slice_get z c.args.move_number) (sym c.moves.ensures.value) ∙ c.get-the_move.ensures.value in
-    let same : the_move ≡ move = some_inj the_move move (sym there ∙ h) in
+    let same : the_move ≡ move = same_Some the_move move (sym there ∙ h) in
     let steps : AreSteps m the_move c.in_ok-asked.asked c.in_ok-fixed.fixed c.in_ok-states.states c.len.result = record {
       count = c.len.ensures ∙ ap length c.components.ensures.value;
       is_move = move_of m c.args.move_number the_move c.moves.ensures.well_formed there;
@@ -45,7 +45,7 @@ returns-clause-refused c = (
       let m = c.args.model.now in
       let the_move = c.get-the_move.result.now in
       let there : slice_get m.moves c.args.move_number ≡ Some the_move = ap (λ z. slice_get z c.args.move_number) (sym c.moves.ensures.value) ∙ c.get-the_move.ensures.value in
-      let same : the_move ≡ move = some_inj the_move move (sym there ∙ h) in
+      let same : the_move ≡ move = same_Some the_move move (sym there ∙ h) in
       let steps : AreSteps m the_move c.in_ok-asked.asked c.in_ok-fixed.fixed c.in_ok-states.states c.len.result = record {
         count = c.len.ensures ∙ ap length c.components.ensures.value;
         is_move = move_of m c.args.move_number the_move c.moves.ensures.well_formed there;

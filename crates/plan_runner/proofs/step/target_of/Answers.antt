@@ -1,8 +1,8 @@
 use Rattle.std.proofs.Common.{◌≡◌, ◌+◌, ◌∙◌, take, Contains, All, slice_get, Some, sym, ap, subst}
 use Rattle.std.proofs.lemmas.List.Elements.{All-more}
+use Rattle.std.proofs.lemmas.Option.{same_Some}
 use Rattle.cca_base.specs.declared.model.Move.{Move}
 use Rattle.cca_base.specs.Steps.{Step}
-use Rattle.cca_base.proofs.Members.{some_inj}
 use Rattle.reversibility.proofs.Lists.{all_gone}
 use Rattle.plan_runner.proofs.StepMoves.{the_move, not_among, move_place}
 use Rattle.plan_runner.proofs.step.target_of.Goals.{else-m-command-via-then-m-command+else-get-m, else-m-command-via-else-m-command}
@@ -30,7 +30,7 @@ loop-m-preserved c =
     λ here. All-more P c.as_slice-moves.result.now c.loop-m.m-index c.m-item.result c.loop-m-test.true c.loop-m.invariant (subst P c.m-item.is here) in
     elim c.else-m-command.branch [
       | else-m-command-via-then-m-command+else-get-m w ↦
-          turn (λ named held. w.if-get-m.false (some_inj w.get.result.now c.m-item.result.source (sym w.get.ensures.value ∙ held)))
+          turn (λ named held. w.if-get-m.false (same_Some w.get.result.now c.m-item.result.source (sym w.get.ensures.value ∙ held)))
       | else-m-command-via-else-m-command w ↦ turn (λ named held. w.if-m-command.false named)
     ]
 

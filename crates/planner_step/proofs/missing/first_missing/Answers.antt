@@ -1,7 +1,7 @@
 use Rattle.std.proofs.Common.{◌≡◌, ◌∙◌, sym, ap, suc, take, drop, Some, slice_get}
 use Rattle.std.proofs.lemmas.List.Elements.{All-more}
+use Rattle.std.proofs.lemmas.Option.{same_Some}
 use Rattle.cca_base.specs.declared.cube.Pair.{Pair}
-use Rattle.cca_base.proofs.Members.{some_inj}
 use Rattle.reversibility.proofs.Lists.{split_at, all_gone}
 use Rattle.planner_step.proofs.missing.first_missing.Goals as goal
 
@@ -14,7 +14,7 @@ returns-then-get-pair c = record {
   after = drop (suc c.loop-i.i) c.args.pairs.now;
   split = split_at c.args.pairs.now c.loop-i.i none c.loop-i-test.true;
   held = c.loop-i.invariant;
-  missing = λ h. c.if-get-pair.true (some_inj c.get.result.now _ (sym c.get.ensures.value ∙ h));
+  missing = λ h. c.if-get-pair.true (same_Some c.get.result.now _ (sym c.get.ensures.value ∙ h));
 }
 
 pub loop-i-preserved : goal.loop-i-preserved

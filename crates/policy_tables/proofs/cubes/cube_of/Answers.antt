@@ -1,11 +1,10 @@
 use Rattle.std.proofs.Common.{◌≡◌, ◌<◌, ◌∙◌, List, All, Contains, length, slice_get, Some, refl, sym, ap, subst, arith}
 use Rattle.std.proofs.lemmas.List.Elements.{All-contains}
-use Rattle.std.proofs.lemmas.Option.{slice_get_within, get_or_from_slice_get}
+use Rattle.std.proofs.lemmas.Option.{slice_get_within, get_or_from_slice_get, same_Some}
 use Rattle.std.proofs.lemmas.Result.{IfOk-weaker}
 use Rattle.cca_base.specs.declared.cube.Pair.{Pair}
 use Rattle.cca_base.specs.Accepted.{CompiledModel, IsCompiled, AreWays}
 use Rattle.cca_base.specs.Orders.{IsSorted}
-use Rattle.cca_base.proofs.Members.{some_inj}
 use Rattle.reach_laws.specs.Classes.{Test, AreInside}
 use Rattle.reversibility.specs.ClassParts.{in_row}
 use Rattle.reversibility.specs.Levels.{SomeInside}
@@ -57,7 +56,7 @@ returns c =
     let way = c.in-Some.way in
     let ways_at : slice_get b.ways c.args.number ≡ Some cubes = subst (λ l. slice_get l c.args.number ≡ Some cubes) c.ways.ensures.value c.get-ways.ensures.value in
     let found : IsFirstInside member cubes way = subst (λ l. IsFirstInside member l way) c.as_slice.ensures c.in-Some.ensures in
-    let same : c.get.result.now ≡ found.cube = some_inj c.get.result.now found.cube (sym c.get.ensures.value ∙ found.at) in
+    let same : c.get.result.now ≡ found.cube = same_Some c.get.result.now found.cube (sym c.get.ensures.value ∙ found.at) in
     let ways : AreWays b.model c.requires.opens.0 cubes = is.ways c.args.number c.requires.opens.0 cubes c.requires.opens.1 ways_at in
     let among : Contains cubes found.cube = (way, slice_get_within cubes way found.cube found.at, get_or_from_slice_get cubes way found.cube found.cube found.at) in
     IfOk-weaker c.effects_first.result (IsSorted b.order c.get.result.now) (IsCubeOf b member c.args.number)

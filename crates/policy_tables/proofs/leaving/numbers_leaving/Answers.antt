@@ -1,8 +1,7 @@
 use Rattle.std.proofs.Common.{◌≡◌, ◌+◌, ◌∙◌, ℕ, length, slice_get, slice_index, Some, sym, ap, subst, arith}
-use Rattle.std.proofs.lemmas.Option.{slice_get_within}
+use Rattle.std.proofs.lemmas.Option.{slice_get_within, same_Some}
 use Rattle.cca_base.specs.declared.model.Move.{Move}
 use Rattle.cca_base.specs.Relations.{AreExactly}
-use Rattle.cca_base.proofs.Members.{some_inj}
 use Rattle.reversibility.specs.Levels.{IsAmong}
 use Rattle.reversibility.proofs.Exactly.{some_no, some_yes}
 use Rattle.policy_tables.specs.Leaving.{LeavesMode}
@@ -26,7 +25,7 @@ loop-k-preserved c =
           (some_yes Q xs c.requires.rising k c.loop-k.leaving c.loop-k.invariant c.loop-k-test.true (c.get.result.now, at, w.if-get-from.true))
       | else-get-from w ↦ subst (AreExactly (λ i. IsAmong xs (k + 1) i × Q i)) (sym w.leaving-is)
           (some_no Q xs c.requires.rising k c.loop-k.leaving c.loop-k.invariant
-          (λ leaves. w.if-get-from.false (sym (ap (λ (z : Move). z.source) (some_inj leaves.0 c.get.result.now (sym leaves.1 ∙ at))) ∙ leaves.2)))
+          (λ leaves. w.if-get-from.false (sym (ap (λ (z : Move). z.source) (same_Some leaves.0 c.get.result.now (sym leaves.1 ∙ at))) ∙ leaves.2)))
     ]
 
 pub returns : goal.returns

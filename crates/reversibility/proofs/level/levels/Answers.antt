@@ -1,6 +1,6 @@
 use Rattle.std.proofs.Common.{◌≡◌, ◌<◌, ◌-◌, ◌∙◌, ℕ, List, Some, slice_get, length, sym, ap, subst, arith, length-append, ◌∷◌, [], inr}
 use Rattle.std.specs.Cmp.Lexicographic.{same_text}
-use Rattle.cca_base.proofs.Members.{some_inj}
+use Rattle.std.proofs.lemmas.Option.{same_Some}
 use Rattle.reversibility.specs.Levels.{Edges, MoveLeads, AreLevels, IsLevel, IsExpanded, AreMovesWithin}
 use Rattle.reversibility.proofs.Near.{levels_more, move_within}
 use Rattle.reversibility.proofs.level.levels.Goals as goal
@@ -16,10 +16,10 @@ returns-then-eq-clause-enough c =
     let level : List ℕ = c.get.result.now in
     let grown : IsExpanded edge level c.in_ok-next.next = subst (λ l. IsExpanded edge l c.in_ok-next.next) c.as_slice.ensures c.in_ok-next.ensures in
     let equal : c.as_slice-in-loop-k.result.now ≡ c.as_slice-in-loop-k-2.result.now = same_text c.as_slice-in-loop-k.result.now c.as_slice-in-loop-k-2.result.now (sym c.if-eq.true ∙ c.eq.ensures) in
-    let other : c.get-in-loop-k.result.now ≡ level = some_inj c.get-in-loop-k.result.now level (sym c.get-in-loop-k.ensures.value ∙ c.get.ensures.value) in
+    let other : c.get-in-loop-k.result.now ≡ level = same_Some c.get-in-loop-k.result.now level (sym c.get-in-loop-k.ensures.value ∙ c.get.ensures.value) in
     let same : c.in_ok-next.next ≡ level = sym c.as_slice-in-loop-k.ensures ∙ (equal ∙ (c.as_slice-in-loop-k-2.ensures ∙ other)) in
     let here : length c.loop-k.levels - 1 ≡ c.loop-k.k = omega (arith, c.loop-k.invariant.1) in
-    inr (λ last at. (let is_last : level ≡ last = some_inj level last (sym c.get.ensures.value ∙ subst (λ k. slice_get c.loop-k.levels k ≡ Some last) here at) in
+    inr (λ last at. (let is_last : level ≡ last = same_Some level last (sym c.get.ensures.value ∙ subst (λ k. slice_get c.loop-k.levels k ≡ Some last) here at) in
     subst (λ l. IsExpanded edge l l) is_last (subst (IsExpanded edge level) same grown)))
 
 pub loop-k-preserved : goal.loop-k-preserved
