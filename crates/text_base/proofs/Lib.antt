@@ -4,3 +4,9 @@ pub mod NumberTexts
 pub mod NamesRead
 pub mod TokenKinds
 pub mod LexemeLaws
+pub mod PieceBytes
+pub mod LongestTokens
+pub mod CommentBegins
+pub mod NothingLeftOut
+pub mod NoTokenInComment
+pub mod FirstBadByte

@@ -62,7 +62,8 @@ piece_fine line b bs at ts Comment w e ih h = comment_fine line at (position (λ
 piece_fine line b bs at ts (Run kind more) w e ih h = run_fine line b bs kind more at (tokens_from more (at + 1) bs) ts e w (ih more) h
 piece_fine line b bs at ts Bad w e ih h = absurd cc
 
-one_less : (line : List ℕ) (b : ℕ) (bs : List ℕ) (at : ℕ) → b ∷ bs ≡ drop at line → bs ≡ drop (at + 1) line
+-- what is behind the first byte
+pub one_less : (line : List ℕ) (b : ℕ) (bs : List ℕ) (at : ℕ) → b ∷ bs ≡ drop at line → bs ≡ drop (at + 1) line
 one_less line b bs at e = ap (drop 1) e ∙ drop-drop 1 at line
 
 fine : (line bs : List ℕ) (k at : ℕ) (ts : List Tok) → bs ≡ drop at line → tokens_from k at bs ≡ Ok ts → Fine line (at + k) ts

@@ -64,9 +64,8 @@ pair_is_symbol : (b : ℕ) (bs : List ℕ) (y : Piece) → IsRunOfKind (b ∷ bs
 pair_is_symbol b [] y q = q
 pair_is_symbol b (c ∷ bs) y q = choose (b ∷ c ∷ bs) (is_pair b (c ∷ bs)) (Run Symbol 1) y (λ e. pair_tests (nat_eq b 45) (nat_eq c 62) (nat_eq b 33) (nat_eq c 61) _ e) q
 
-one_is_symbol : (b : ℕ) → is_symbol b ≡ true → is_of_kind Symbol (b ∷ []) ≡ true
-one_is_symbol b e =
-    no_pair (nat_eq b 45) (nat_eq b 33) _ ∙ six_tests (nat_eq b 61) (nat_eq b 44) (nat_eq b 40) (nat_eq b 41) (nat_eq b 123) (nat_eq b 125) ∙ e
+pub one_symbol : (b : ℕ) → is_of_kind Symbol (b ∷ []) ≡ is_symbol b
+one_symbol b = no_pair (nat_eq b 45) (nat_eq b 33) _ ∙ six_tests (nat_eq b 61) (nat_eq b 44) (nat_eq b 40) (nat_eq b 41) (nat_eq b 123) (nat_eq b 125)
 
 piece_kind : (b : ℕ) (bs : List ℕ) → IsRunOfKind (b ∷ bs) (piece_of b bs)
 piece_kind b bs =
@@ -74,7 +73,7 @@ piece_kind b bs =
     choose all (is_blank b) Blank _ (λ _. tt) (choose all (nat_eq b 35) Comment _ (λ _. tt)
     (choose all (is_ascii_lowercase b) (Run Word (prefix_len is_word_byte bs)) _ (λ e. and_from (is_ascii_lowercase b) _ e (front_passes is_word_byte bs))
     (choose all (is_ascii_digit b) (Run Number (prefix_len is_ascii_digit bs)) _ (λ e. and_from (is_ascii_digit b) _ e (front_passes is_ascii_digit bs))
-    (pair_is_symbol b bs _ (choose all (is_symbol b) (Run Symbol 0) Bad (one_is_symbol b) tt)))))
+    (pair_is_symbol b bs _ (choose all (is_symbol b) (Run Symbol 0) Bad (λ e. one_symbol b ∙ e) tt)))))
 
 abbrev OfKinds : List Tok → Type 0
 OfKinds ts = AllByRecursion IsOfItsKind ts

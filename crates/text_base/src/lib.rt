@@ -12,5 +12,6 @@ pub use cursor::{is_lexeme, is_name_word, name_word_at, names_at, next_is};
 pub use name::{is_reserved, read_name};
 pub use number::read_number;
 pub use token::{
-    BadByte, Kind, Token, TokenFault, tokens, tokens_are_of_their_kinds, tokens_are_parts,
+    BadByte, Kind, Token, TokenFault, tokens, tokens_are_longest, tokens_are_of_their_kinds,
+    tokens_are_parts, tokens_cover,
 };

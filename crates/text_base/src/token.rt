@@ -1,8 +1,9 @@
 //! The tokens of a line, each as long as it can be.
 
-ghost use Rattle.std.specs.Prelude.{◌≡◌, ℕ, ◌+◌, ◌<◌, ◌≤◌, not, ◌∷◌, List, length, drop, position, map, MatchOption, None, Some, Ok};
+ghost use Rattle.std.specs.Prelude.{◌≡◌, ℕ, ◌+◌, ◌<◌, ◌≤◌, not, ◌∷◌, List, length, drop, position, map, MatchOption, None, Some, Ok, Err};
 ghost use Rattle.std.specs.List.{AllByRecursion};
 ghost use Rattle.text_base.specs.Bytes.{is_comment_byte};
+ghost use Rattle.text_base.specs.Coverage.{BeginsComment, BelongsToLine, StandsBefore, StopsAt, IsLongest};
 ghost use Rattle.text_base.specs.Tokens.{Tok, IsPartOf, IsOfItsKind, Rise, piece_of, StaysWithin, tokens_of, token_view, Gives};
 
 use crate::bytes::{digits_len, is_blank, is_comment_byte, is_symbol, word_len};
@@ -148,4 +149,17 @@ pub fn tokens_are_parts()
 /// Each token's bytes are of its kind: a word, one or more digits, or one of the eight symbols.
 pub fn tokens_are_of_their_kinds()
     ensures { (line : List ℕ) (ts : List Tok) → tokens_of line ≡ Ok ts → AllByRecursion IsOfItsKind ts }
+{}
+
+/// Nothing of a line is left out: each place is in a token, a blank or in the comment, or the line stops at the first byte
+/// that belongs to nothing, behind tokens that are as long as they can be. No token stands in the comment.
+pub fn tokens_cover()
+    ensures all { (line : List ℕ) (ts : List Tok) → tokens_of line ≡ Ok ts → (k : ℕ) → k < length line → BelongsToLine line ts k }
+    ensures comment { (line : List ℕ) (ts : List Tok) → tokens_of line ≡ Ok ts → (j : ℕ) → BeginsComment line ts j → AllByRecursion (StandsBefore j) ts }
+    ensures stops { (line : List ℕ) (at : ℕ) → tokens_of line ≡ Err at → StopsAt line at }
+{}
+
+/// Each token is as long as it can be.
+pub fn tokens_are_longest()
+    ensures { (line : List ℕ) (ts : List Tok) → tokens_of line ≡ Ok ts → AllByRecursion (IsLongest line) ts }
 {}
