@@ -1,26 +1,62 @@
 //! Copies of what the layers share, and the truth of a formula.
+
+use crate::parts::{list_of, pair};
 use cca_base::*;
+use std::alloc::Global;
 use std::test::*;
 
-#[test]
-fn lists_and_cubes_are_copied(rt: HostRuntime) -> Result<(), Fail> {
-    let alloc = rt.alloc();
-    let mut modes = List::new(alloc);
-    modes.push(1)?;
-    let copy = State { modes }.copy(alloc)?;
-    assert_eq!(rt; copy.modes.as_slice(), [1].as_slice());
+/// A copy of the state of these modes.
+fn copied_state(alloc: Global, modes: &[u8]) -> Option<State> {
+    let Some(modes) = list_of(alloc, modes) else {
+        return None;
+    };
+    let state = State { modes };
+    match state.copy(alloc) {
+        Ok(copy) => Some(copy),
+        Err(_) => None,
+    }
+}
+
+/// Whether a copy of the state of these modes has them.
+fn state_is_copied(alloc: Global, modes: &[u8]) -> bool {
+    match copied_state(alloc, modes) {
+        Some(copy) => copy.modes.as_slice() == modes,
+        None => false,
+    }
+}
+
+/// A copy of the cube of this pair.
+fn copied_cube(alloc: Global, pair: Pair) -> Option<Cube> {
     let mut cube = Cube::new(alloc);
-    cube.push(Pair { item: 3, value: 1 })?;
-    let copy = cube.copy(alloc)?;
-    assert_eq!(rt; copy.as_slice(), [Pair { item: 3, value: 1 }].as_slice());
-    Ok(())
+    let Ok(()) = cube.push(pair) else {
+        return None;
+    };
+    match cube.copy(alloc) {
+        Ok(copy) => Some(copy),
+        Err(_) => None,
+    }
+}
+
+/// Whether a copy of the cube of this pair has it.
+fn cube_is_copied(alloc: Global, pair: Pair) -> bool {
+    match copied_cube(alloc, pair) {
+        Some(copy) => copy.as_slice() == [pair].as_slice(),
+        None => false,
+    }
 }
 
 #[test]
-fn a_formula_is_true_by_cases(rt: HostRuntime) -> Result<(), Fail> {
-    let alloc = rt.alloc();
+fn lists_and_cubes_are_copied(rt: HostRuntime) {
+    assert!(rt; state_is_copied(rt.alloc(), &[1]));
+    assert!(rt; cube_is_copied(rt.alloc(), pair(3, 1)));
+}
+
+/// Whether a component is in the mode that it is in, and whether the denial of that is true.
+fn truths(alloc: Global) -> Option<(bool, bool)> {
     let mut modes = List::new(alloc);
-    modes.push(1)?;
+    let Ok(()) = modes.push(1) else {
+        return None;
+    };
     let state = State { modes };
     let world = World {
         values: List::new(alloc),
@@ -29,8 +65,14 @@ fn a_formula_is_true_by_cases(rt: HostRuntime) -> Result<(), Fail> {
         subject: Subject::Component(0),
         values: ValueSet::empty().with(1),
     };
-    assert!(rt; holds_at(&on, &state, &world));
-    let not_on = Formula::Not(Boxed::new(alloc, on)?);
-    assert!(rt; !holds_at(&not_on, &state, &world));
-    Ok(())
+    let first = holds_at(&on, &state, &world);
+    match Boxed::new(alloc, on) {
+        Ok(on) => Some((first, holds_at(&Formula::Not(on), &state, &world))),
+        Err(_) => None,
+    }
+}
+
+#[test]
+fn a_formula_is_true_by_cases(rt: HostRuntime) {
+    assert!(rt; truths(rt.alloc()) == Some((true, false)));
 }

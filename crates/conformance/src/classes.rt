@@ -2,60 +2,75 @@
 
 ghost use Rattle.std.specs.Prelude.{◌≡◌, ◌<◌};
 
-use crate::parts::{STICKING_VALVE, compiled_text, has_mode};
-use crate::tabled::{classes_around, state_of};
+use crate::parts::{STICKING_VALVE, has_mode, pair};
+use crate::tabled::{classes_of, state_of, tables_of};
 use cca_base::*;
 use policy_tables::{Cell, Tables};
 use reversibility::Classes;
-use std::alloc::Global;
+use std::alloc::{AllocError, Global};
 use std::marker::Brand;
-use std::process::Abort;
 use std::sync::ledger::{Blank, Ledger};
 use std::test::*;
 
-/// The classes of the model of this text around the state with these modes.
-fn classes_of(alloc: Global, text: &str, modes: &[u8]) -> Result<Classes, Fail> {
-    classes_around(alloc, compiled_text(alloc, text)?, modes)
+/// The set of these modes.
+fn set_of(modes: &[u8]) -> ValueSet {
+    let mut set = ValueSet::empty();
+    for mode in modes {
+        if (*mode as usize) < MAX_CHOICES {
+            set = set.with(*mode);
+        }
+    }
+    set
 }
 
-/// Asserts that the component's class has exactly these modes, and whether the component is mendable.
-fn assert_class(
-    rt: &impl Abort,
-    classes: &Classes,
+/// The set of the component's class, and whether the component is mendable.
+fn class_of(classes: &Classes, component: u16) -> Option<(ValueSet, bool)> {
+    if component as usize >= classes.compiled().model().components().len() {
+        return None;
+    }
+    Some((classes.class(component), classes.mendable(component)))
+}
+
+/// Whether the component's class has exactly these modes, and whether it is mendable as said.
+fn is_class(classes: &Classes, component: u16, modes: &[u8], mendable: bool) -> bool {
+    match class_of(classes, component) {
+        Some((set, answer)) => set == set_of(modes) && answer == mendable,
+        None => false,
+    }
+}
+
+/// Whether the component of the model has this class around the state of these modes.
+fn has_class(
+    alloc: Global,
+    (text, base): (&str, &[u8]),
     component: u16,
     modes: &[u8],
     mendable: bool,
-) -> Result<(), Fail> {
-    if component as usize >= classes.compiled().model().components().len() {
-        return Err(Fail::from("no such component"));
+) -> bool {
+    match classes_of(alloc, text, base) {
+        Some(classes) => is_class(&classes, component, modes, mendable),
+        None => false,
     }
-    let mut set = ValueSet::empty();
-    for mode in modes {
-        if *mode as usize >= MAX_CHOICES {
-            return Err(Fail::from("no such mode"));
-        }
-        set = set.with(*mode);
-    }
-    assert_eq!(rt; classes.class(component), set, "the class");
-    assert_eq!(rt; classes.mendable(component), mendable, "mendable");
-    Ok(())
 }
 
-/// Asserts whether the classes cover the state with these modes.
-fn assert_covers(
-    rt: &impl Abort,
-    alloc: Global,
-    classes: &Classes,
-    modes: &[u8],
-    covered: bool,
-) -> Result<(), Fail> {
-    let state = state_of(alloc, classes.compiled().model(), modes)?;
-    assert_eq!(rt; classes.covers(&state), covered, "covered");
-    Ok(())
+/// Whether the classes cover the state of these modes.
+fn is_covered(alloc: Global, classes: &Classes, modes: &[u8]) -> Option<bool> {
+    match state_of(alloc, classes.compiled().model(), modes) {
+        Some(state) => Some(classes.covers(&state)),
+        None => None,
+    }
+}
+
+/// Whether the model's classes around one state cover the other.
+fn covers(alloc: Global, (text, base): (&str, &[u8]), modes: &[u8]) -> Option<bool> {
+    match classes_of(alloc, text, base) {
+        Some(classes) => is_covered(alloc, &classes, modes),
+        None => None,
+    }
 }
 
 /// The cell for a component from one mode to another.
-fn cell_at<L: Ledger>(tables: &Tables, place: (u16, u8, u8), blank: Blank) -> Result<&Cell, Fail>
+fn cell_at<L: Ledger>(tables: &Tables, place: (u16, u8, u8), blank: Blank) -> Option<&Cell>
     requires name { blank.name ≡ L.name }
     requires parts { blank.parts ≡ L.parts }
     requires some { 0 < blank.parts }
@@ -66,116 +81,155 @@ fn cell_at<L: Ledger>(tables: &Tables, place: (u16, u8, u8), blank: Blank) -> Re
     if c as usize >= model.components().len()
         || !has_mode(model, c, from)
         || !has_mode(model, c, to)
+        || !classes.stands(c, from)
     {
-        return Err(Fail::from("no such mode"));
-    }
-    if !classes.stands(c, from) {
-        return Err(Fail::from("it does not stand there"));
+        return None;
     }
     let mut steps = Steps::<L>::of(blank);
-    Ok(tables.look_up(c, from, to, &mut steps))
+    Some(tables.look_up(c, from, to, &mut steps))
 }
 
 /// The same for a caller that counts no steps.
-fn cell_of(tables: &Tables, place: (u16, u8, u8)) -> Result<&Cell, Fail> {
+fn cell_of(tables: &Tables, place: (u16, u8, u8)) -> Option<&Cell> {
     cell_at::<Brand>(tables, place, Blank::new(1))
 }
 
-/// Asserts that the cell is this step.
-fn assert_step(
-    rt: &impl Abort,
-    tables: &Tables,
-    place: (u16, u8, u8),
-    (number, name, distance): (u16, u16, u8),
-    pairs: &[Pair],
-) -> Result<(), Fail> {
-    match cell_of(tables, place)? {
+/// A step: the number of its move, its command, how many moves are left, and what has to stand first.
+type Step<'a> = ((u16, u16, u8), &'a [Pair]);
+
+fn is_step(cell: &Cell, wanted: Step<'_>) -> bool {
+    match cell {
         Cell::Step {
             move_number,
             command,
             cube,
             left,
-        } => {
-            assert_eq!(rt; (*move_number, *command, *left), (number, name, distance));
-            assert_eq!(rt; cube.as_slice(), pairs);
-            Ok(())
-        }
-        _ => Err(Fail::from("no step")),
+        } => { (*move_number, *command, *left) == wanted.0 && cube.as_slice() == wanted.1 }
+        _ => false,
     }
 }
 
-#[test]
-fn a_stuck_valve_is_mended_first(rt: HostRuntime) -> Result<(), Fail> {
-    let alloc = rt.alloc();
-    let classes = classes_of(alloc, STICKING_VALVE, &[0, 2])?;
-    assert_class(&rt, &classes, 0, &[0, 1], false)?;
-    assert_class(&rt, &classes, 1, &[0, 1], true)?;
-    assert_covers(&rt, alloc, &classes, &[1, 0], true)?;
-    let tables = Tables::of(alloc, classes)?;
-    let on = Pair { item: 0, value: 1 };
-    assert_step(&rt, &tables, (1, 2, 1), (4, 4, 2), &[on])
+/// Whether the cell is this step.
+fn steps_at(tables: &Tables, place: (u16, u8, u8), wanted: Step<'_>) -> bool {
+    match cell_of(tables, place) {
+        Some(cell) => is_step(cell, wanted),
+        None => false,
+    }
 }
 
-/// The same without a way on for the driver.
-const UNPOWERED: &str =
-    "titan 1\ncomponent drv = off, on start off\ncomponent valve = closed, stuck start closed\nmove drv on -> off by drv_off when true\nrepair valve stuck -> closed by v_reset when drv = on\n";
+/// Whether the cell of the model's tables around the state of these modes is this step.
+fn steps(
+    alloc: Global,
+    (text, base): (&str, &[u8]),
+    place: (u16, u8, u8),
+    wanted: Step<'_>,
+) -> bool {
+    match tables_of(alloc, text, base) {
+        Some(tables) => steps_at(&tables, place, wanted),
+        None => false,
+    }
+}
+
+/// The sticking valve where it is stuck.
+const STUCK: (&str, &[u8]) = (STICKING_VALVE, &[0, 2]);
 
 #[test]
-fn without_an_open_repair_a_valve_stays_stuck(rt: HostRuntime) -> Result<(), Fail> {
-    let alloc = rt.alloc();
-    let classes = classes_of(alloc, UNPOWERED, &[0, 1])?;
-    assert_class(&rt, &classes, 0, &[0], false)?;
-    assert_class(&rt, &classes, 1, &[], false)?;
-    assert_covers(&rt, alloc, &classes, &[0, 1], true)?;
-    assert_covers(&rt, alloc, &classes, &[0, 0], false)
+fn a_stuck_valve_has_the_class_of_its_repair(rt: HostRuntime) {
+    assert!(rt; has_class(rt.alloc(), STUCK, 0, &[0, 1], false));
+    assert!(rt; has_class(rt.alloc(), STUCK, 1, &[0, 1], true));
+    assert!(rt; covers(rt.alloc(), STUCK, &[1, 0]) == Some(true));
+}
+
+#[test]
+fn a_stuck_valve_is_mended_first(rt: HostRuntime) {
+    assert!(rt; steps(rt.alloc(), STUCK, (1, 2, 1), ((4, 4, 2), &[pair(0, 1)])));
+}
+
+/// A stuck valve without a way on for the driver that its repair needs.
+const UNPOWERED: (&str, &[u8]) = (
+    "titan 1
+component drv = off, on start off
+component valve = closed, stuck start closed
+move drv on -> off by drv_off when true
+repair valve stuck -> closed by v_reset when drv = on",
+    &[0, 1],
+);
+
+#[test]
+fn without_an_open_repair_a_valve_stays_stuck(rt: HostRuntime) {
+    assert!(rt; has_class(rt.alloc(), UNPOWERED, 0, &[0], false));
+    assert!(rt; has_class(rt.alloc(), UNPOWERED, 1, &[], false));
+    assert!(rt; covers(rt.alloc(), UNPOWERED, &[0, 1]) == Some(true));
+    assert!(rt; covers(rt.alloc(), UNPOWERED, &[0, 0]) == Some(false));
 }
 
 /// A move without a way back.
-const ONE_WAY: &str =
-    "titan 1\ncomponent lamp = off, on start off\nmove lamp off -> on by lamp_on when true\n";
+const ONE_WAY: &str = "titan 1
+component lamp = off, on start off
+move lamp off -> on by lamp_on when true";
 
 #[test]
-fn a_one_way_move_parts_classes(rt: HostRuntime) -> Result<(), Fail> {
-    let alloc = rt.alloc();
-    let classes = classes_of(alloc, ONE_WAY, &[0])?;
-    assert_class(&rt, &classes, 0, &[0], false)?;
-    assert_covers(&rt, alloc, &classes, &[1], false)?;
-    let classes = classes_of(alloc, ONE_WAY, &[1])?;
-    assert_class(&rt, &classes, 0, &[1], false)
+fn a_one_way_move_parts_classes(rt: HostRuntime) {
+    assert!(rt; has_class(rt.alloc(), (ONE_WAY, &[0]), 0, &[0], false));
+    assert!(rt; covers(rt.alloc(), (ONE_WAY, &[0]), &[1]) == Some(false));
+    assert!(rt; has_class(rt.alloc(), (ONE_WAY, &[1]), 0, &[1], false));
 }
 
 /// From `a` to `d` by `b`, and as far by `c`, which comes first.
-const TWO_WAYS: &str =
-    "titan 1\ncomponent x = a, b, c, d start a\nmove x d -> a by k0 when true\nmove x a -> c by k1 when true\nmove x a -> b by k2 when true\nmove x b -> d by k3 when true\nmove x c -> d by k4 when true\n";
+const TWO_WAYS: (&str, &[u8]) = (
+    "titan 1
+component x = a, b, c, d start a
+move x d -> a by k0 when true
+move x a -> c by k1 when true
+move x a -> b by k2 when true
+move x b -> d by k3 when true
+move x c -> d by k4 when true",
+    &[0],
+);
 
 #[test]
-fn of_two_ways_of_one_length_the_first_is_taken(rt: HostRuntime) -> Result<(), Fail> {
-    let alloc = rt.alloc();
-    let tables = Tables::of(alloc, classes_of(alloc, TWO_WAYS, &[0])?)?;
-    assert_step(&rt, &tables, (0, 0, 3), (1, 1, 2), &[])?;
-    assert_step(&rt, &tables, (0, 1, 2), (3, 3, 3), &[])
+fn of_two_ways_of_one_length_the_first_is_taken(rt: HostRuntime) {
+    assert!(rt; steps(rt.alloc(), TWO_WAYS, (0, 0, 3), ((1, 1, 2), &[])));
+    assert!(rt; steps(rt.alloc(), TWO_WAYS, (0, 1, 2), ((3, 3, 3), &[])));
 }
 
-/// A component of as many modes as there may be, each of which leads to the next.
-fn ring(alloc: Global) -> Result<String, Fail> {
-    let mut text = String::from_str(alloc, "titan 1\ncomponent x = m0")?;
+/// Adds the names of the modes behind the first.
+fn push_modes(alloc: Global, text: &mut String) -> Result<(), AllocError> {
     for m in 1..MAX_CHOICES {
         text.push_str(&format!(in alloc; ", m{m}")?)?;
     }
-    text.push_str(" start m0\n")?;
+    Ok(())
+}
+
+/// Adds the moves, each from a mode to the next.
+fn push_ring(alloc: Global, text: &mut String) -> Result<(), AllocError> {
     for m in 0..MAX_CHOICES {
         let next = (m + 1) % MAX_CHOICES;
-        text.push_str(&format!(in alloc; "move x m{m} -> m{next} by k{m} when true\n")?)?;
+        text.push_str(&format!(in alloc; "\nmove x m{m} -> m{next} by k{m} when true")?)?;
     }
+    Ok(())
+}
+
+/// A component of as many modes as there may be, each of which leads to the next.
+fn ring(alloc: Global) -> Result<String, AllocError> {
+    let mut text = String::from_str(alloc, "titan 1\ncomponent x = m0")?;
+    push_modes(alloc, &mut text)?;
+    text.push_str(" start m0")?;
+    push_ring(alloc, &mut text)?;
     Ok(text)
 }
 
+/// Whether the cell of the ring's tables is this step, for which nothing has to stand first.
+fn ring_steps(alloc: Global, place: (u16, u8, u8), numbers: (u16, u16, u8)) -> bool {
+    match ring(alloc) {
+        Ok(text) => steps(alloc, (&text, &[0]), place, (numbers, &[])),
+        Err(_) => false,
+    }
+}
+
 #[test]
-fn a_ring_is_one_class(rt: HostRuntime) -> Result<(), Fail> {
-    let alloc = rt.alloc();
-    let text = ring(alloc)?;
-    let tables = Tables::of(alloc, classes_of(alloc, &text, &[0])?)?;
+fn a_ring_is_one_class(rt: HostRuntime) {
     let far = MAX_CHOICES as u8 - 1;
-    assert_step(&rt, &tables, (0, 1, 0), (1, 1, far), &[])?;
-    assert_step(&rt, &tables, (0, far, 0), (far as u16, far as u16, 1), &[])
+    assert!(rt; ring_steps(rt.alloc(), (0, 1, 0), (1, 1, far)));
+    assert!(rt; ring_steps(rt.alloc(), (0, far, 0), (far as u16, far as u16, 1)));
 }

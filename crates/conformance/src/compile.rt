@@ -1,7 +1,9 @@
 //! From rules and guards to ways, order and bounds: projection, prime implicants, ancestors, and goals in effects-first order.
-ghost use Rattle.std.specs.Prelude.{◌<◌, ◌≤◌, All, IfOk, length};
+
+ghost use Rattle.std.specs.Prelude.{◌≡◌, ◌<◌, ◌≤◌, All, IfSome, IsTrue, length};
 ghost use Rattle.cca_base.specs.declared.limits.TheConstants.{MAX_COMPONENTS};
 ghost use Rattle.cca_base.specs.Cube.{IsCube};
+ghost use Rattle.cca_base.specs.State.{HasWorlds};
 ghost use Rattle.causal_graph.specs.Needs.{AreRows};
 
 use crate::parts::*;
@@ -13,207 +15,349 @@ use elimination::project;
 use guard_compiler::{rules_of, ways};
 use prime_implicants::{Primes, primes};
 use std::alloc::Global;
-use std::process::Abort;
 use std::test::*;
 
-#[test]
-fn a_projection_keeps_what_some_value_meets(rt: HostRuntime) -> Result<(), Fail> {
-    let alloc = rt.alloc();
-    let given = clauses(
-        alloc,
-        &[2, 2],
-        &[&[(0, one(0)), (1, one(0))], &[(0, one(0)), (1, one(1))]],
-    )?;
+/// Rows of literals: each a subject's number with a set of values.
+type Literals<'a> = &'a [&'a [(u16, ValueSet)]];
+
+/// What is kept of clauses over two subjects of two values where the second is eliminated.
+fn projected(alloc: Global, rows: Literals<'_>) -> Option<Clauses> {
+    let Some(given) = clauses(alloc, &[2, 2], rows) else {
+        return None;
+    };
     if given.sizes.len() == 0 {
-        return Err(Fail::from("no subject"));
+        return None;
     }
-    let kept = project(alloc, &given, 1)?;
-    assert!(rt; all_true(&kept, &[0]));
-    assert!(rt; !all_true(&kept, &[1]));
-    Ok(())
+    match project(alloc, &given, 1) {
+        Ok(kept) => Some(kept),
+        Err(_) => None,
+    }
+}
+
+/// Whether the value meets what is kept.
+fn meets_kept(alloc: Global, rows: Literals<'_>, value: u8) -> Option<bool> {
+    match projected(alloc, rows) {
+        Some(kept) => Some(all_true(&kept, &[value])),
+        None => None,
+    }
+}
+
+#[test]
+fn a_projection_keeps_what_some_value_meets(rt: HostRuntime) {
+    let rows: [&[(u16, ValueSet)]; 2] = [&[(0, one(0)), (1, one(0))], &[(0, one(0)), (1, one(1))]];
+    assert!(rt; meets_kept(rt.alloc(), &rows, 0) == Some(true));
+    assert!(rt; meets_kept(rt.alloc(), &rows, 1) == Some(false));
 }
 
 /// Clauses over the model's components, met by the states that have a world.
-fn states_of(alloc: Global, model: &Model) -> Result<Clauses, Fail> {
+fn states_of(alloc: Global, model: &Model) -> Option<Clauses> {
     let components = model.components().len();
-    let clauses = clauses_of(alloc, model, None, None)?;
+    let Ok(clauses) = clauses_of(alloc, model, None, None) else {
+        return None;
+    };
     if components > clauses.sizes.len() || components > MAX_COMPONENTS {
-        return Err(Fail::from("too few subjects"));
+        return None;
     }
-    Ok(project(alloc, &clauses, components as u16)?)
+    match project(alloc, &clauses, components as u16) {
+        Ok(kept) => Some(kept),
+        Err(_) => None,
+    }
+}
+
+fn are_met(kept: &Clauses, states: &[[u8; 2]]) -> bool {
+    for state in states {
+        if !all_true(kept, state.as_slice()) {
+            return false;
+        }
+    }
+    true
+}
+
+fn meet_kept(alloc: Global, model: &Model, states: &[[u8; 2]]) -> bool {
+    match states_of(alloc, model) {
+        Some(kept) => are_met(&kept, states),
+        None => false,
+    }
+}
+
+/// Whether each of these states of the valve meets what is kept of its rules.
+fn valve_meets(alloc: Global, states: &[[u8; 2]]) -> bool {
+    match model_of(alloc, VALVE) {
+        Some(model) => meet_kept(alloc, &model, states),
+        None => false,
+    }
 }
 
 #[test]
-fn each_state_of_the_valve_meets_what_is_kept(rt: HostRuntime) -> Result<(), Fail> {
-    let model = valve_model(rt.alloc())?;
-    let kept = states_of(rt.alloc(), &model)?;
-    for drv in 0..2 {
-        for valve in 0..3 {
-            assert!(rt; all_true(&kept, &[drv, valve]), "{drv} {valve}");
-        }
-    }
-    Ok(())
+fn each_state_of_the_valve_meets_what_is_kept(rt: HostRuntime) {
+    let states = [[0, 0], [0, 1], [0, 2], [1, 0], [1, 1], [1, 2]];
+    assert!(rt; valve_meets(rt.alloc(), &states));
 }
 
 /// The cubes that the clauses over one subject of three values block minimally, if they are no more.
-fn primes_of(alloc: Global, rows: &[&[(u16, ValueSet)]], most: u32) -> Result<Primes, Fail> {
-    let given = clauses(alloc, &[3], rows)?;
-    Ok(primes(alloc, &given, most)?)
+fn primes_of(alloc: Global, rows: Literals<'_>, most: u32) -> Option<Primes> {
+    let Some(given) = clauses(alloc, &[3], rows) else {
+        return None;
+    };
+    match primes(alloc, &given, most) {
+        Ok(answer) => Some(answer),
+        Err(_) => None,
+    }
+}
+
+/// Whether the cubes are these.
+fn are_cubes(cubes: &[Cube], wanted: &[&[Pair]]) -> bool {
+    if cubes.len() != wanted.len() {
+        return false;
+    }
+    for i in 0..cubes.len() {
+        if cubes[i].as_slice() != wanted[i] {
+            return false;
+        }
+    }
+    true
+}
+
+/// Whether these are all the cubes, of which there are no more than may be.
+fn every_prime_is(alloc: Global, rows: Literals<'_>, wanted: &[&[Pair]]) -> bool {
+    match primes_of(alloc, rows, MAX_WAYS as u32) {
+        Some(Primes::Every(cubes)) => are_cubes(cubes.as_slice(), wanted),
+        _ => false,
+    }
+}
+
+/// Whether there are more cubes than so many.
+fn are_more(alloc: Global, rows: Literals<'_>, most: u32) -> bool {
+    match primes_of(alloc, rows, most) {
+        Some(Primes::More) => true,
+        _ => false,
+    }
 }
 
 #[test]
-fn the_one_cube_or_more_than_none(rt: HostRuntime) -> Result<(), Fail> {
-    let alloc = rt.alloc();
-    let clause: [&[(u16, ValueSet)]; 1] = [&[(0, one(0).union(one(1)))]];
-    match primes_of(alloc, &clause, MAX_WAYS as u32)? {
-        Primes::Every(cubes) => {
-            let [cube] = cubes.as_slice() else {
-                return Err(Fail::from("not one cube"));
-            };
-            assert_eq!(rt; cube.as_slice(), [Pair { item: 0, value: 2 }].as_slice());
-        }
-        Primes::More => assert!(rt; false, "more than one"),
+fn the_one_cube_or_more_than_none(rt: HostRuntime) {
+    let rows: [&[(u16, ValueSet)]; 1] = [&[(0, one(0).union(one(1)))]];
+    assert!(rt; every_prime_is(rt.alloc(), &rows, &[&[pair(0, 2)]]));
+    assert!(rt; are_more(rt.alloc(), &rows, 0));
+    assert!(rt; every_prime_is(rt.alloc(), &[], &[]));
+}
+
+/// Whether each state of the model has a world.
+fn has_worlds(alloc: Global, model: &Model) -> bool
+    ensures { IsTrue result → HasWorlds model.now }
+{
+    match rules_of(alloc, model) {
+        Ok(rules) => matches!(first_worldless(alloc, model, &rules), Ok(None)),
+        Err(_) => false,
     }
-    assert!(rt; matches!(primes_of(alloc, &clause, 0)?, Primes::More));
-    match primes_of(alloc, &[], MAX_WAYS as u32)? {
-        Primes::Every(cubes) => assert_eq!(rt; cubes.len(), 0),
-        Primes::More => assert!(rt; false, "more than none"),
-    }
-    Ok(())
 }
 
 /// The ways of the model's first move.
-fn first_ways(alloc: Global, model: &Model) -> Result<List<Cube>, Fail> {
-    let rules = rules_of(alloc, model)?;
-    if model.moves().len() == 0 || first_worldless(alloc, model, &rules)?.is_some() {
-        return Err(Fail::from("no move or no world"));
+fn first_ways(alloc: Global, model: &Model) -> Option<List<Cube>> {
+    if model.moves().len() == 0 || !has_worlds(alloc, model) {
+        return None;
     }
     match ways(alloc, model, 0) {
-        Ok(cubes) => Ok(cubes),
-        Err(_) => Err(Fail::from("refused")),
+        Ok(cubes) => Some(cubes),
+        Err(_) => None,
     }
 }
 
+fn are_ways(alloc: Global, model: &Model, wanted: &[&[Pair]]) -> bool {
+    match first_ways(alloc, model) {
+        Some(cubes) => are_cubes(cubes.as_slice(), wanted),
+        None => false,
+    }
+}
+
+/// Whether these are the ways of the first move of the model of this text.
+fn has_ways(alloc: Global, text: &str, wanted: &[&[Pair]]) -> bool {
+    match model_of(alloc, text) {
+        Some(model) => are_ways(alloc, &model, wanted),
+        None => false,
+    }
+}
+
+/// A move that one mode of `b` allows, whatever mode `a` is in.
+const CASES: &str = "titan 1
+component a = p, r start p
+component b = n, q start n
+component c = off, on start off
+move c off -> on by c_on when (a = p and b = q) or (a = r and b = q)";
+
 #[test]
-fn cases_over_all_modes_need_none_of_them(rt: HostRuntime) -> Result<(), Fail> {
-    let lines = [
-        "titan 1",
-        "component a = p, r start p",
-        "component b = n, q start n",
-        "component c = off, on start off",
-        "move c off -> on by c_on when (a = p and b = q) or (a = r and b = q)",
-    ];
-    let cubes = first_ways(rt.alloc(), &model_of(rt.alloc(), &lines)?)?;
-    let [cube] = cubes.as_slice() else {
-        return Err(Fail::from("not one cube"));
-    };
-    assert_eq!(rt; cube.as_slice(), [Pair { item: 1, value: 1 }].as_slice());
-    Ok(())
+fn cases_over_all_modes_need_none_of_them(rt: HostRuntime) {
+    assert!(rt; has_ways(rt.alloc(), CASES, &[&[pair(1, 1)]]));
 }
 
 /// The row, whose numbers are all less than `n`.
-fn row_of(alloc: Global, numbers: &[u16], n: usize) -> Result<List<u16>, Fail>
-    ensures { IfOk result (All (λ u. u < n)) }
+fn row_of(alloc: Global, numbers: &[u16], n: usize) -> Option<List<u16>>
+    ensures { IfSome result (All (λ u. u < n)) }
 {
     let mut row = List::new(alloc);
     for u in numbers {
         if *u as usize >= n {
-            return Err(Fail::from("a number of no row"));
+            return None;
         }
-        row.push(*u)?;
+        let Ok(()) = row.push(*u) else {
+            return None;
+        };
     }
-    Ok(row)
+    Some(row)
 }
 
 /// The rows, of which there are few, and whose numbers are all those of rows.
-fn rows_of(alloc: Global, lists: &[&[u16]]) -> Result<List<List<u16>>, Fail>
-    ensures few { IfOk result (λ rows. length rows ≤ MAX_COMPONENTS) }
-    ensures rows { IfOk result AreRows }
+fn rows_of(alloc: Global, lists: &[&[u16]]) -> Option<List<List<u16>>>
+    ensures few { IfSome result (λ rows. length rows ≤ MAX_COMPONENTS) }
+    ensures rows { IfSome result AreRows }
 {
     if lists.len() > MAX_COMPONENTS {
-        return Err(Fail::from("too many rows"));
+        return None;
     }
     let mut rows = List::new(alloc);
     for list in lists {
-        rows.push(row_of(alloc, list, lists.len())?)?;
+        let Some(row) = row_of(alloc, list, lists.len()) else {
+            return None;
+        };
+        let Ok(()) = rows.push(row) else {
+            return None;
+        };
     }
-    Ok(rows)
+    Some(rows)
+}
+
+/// The order of these rows' components, or a cycle.
+fn order_of(alloc: Global, lists: &[&[u16]]) -> Option<Order> {
+    let Some(rows) = rows_of(alloc, lists) else {
+        return None;
+    };
+    match order(alloc, &rows) {
+        Ok(answer) => Some(answer),
+        Err(_) => None,
+    }
+}
+
+/// Whether these rows have this cycle.
+fn has_cycle(alloc: Global, lists: &[&[u16]], cycle: &[u16]) -> bool {
+    match order_of(alloc, lists) {
+        Some(Order::Cycle(list)) => list.as_slice() == cycle,
+        _ => false,
+    }
 }
 
 #[test]
-fn what_needs_itself_is_a_cycle(rt: HostRuntime) -> Result<(), Fail> {
-    let rows = rows_of(rt.alloc(), &[&[0]])?;
-    match order(rt.alloc(), &rows)? {
-        Order::Cycle(list) => assert_eq!(rt; list.as_slice(), [0, 0].as_slice()),
-        Order::Effects(_) => assert!(rt; false, "an order"),
-    }
-    Ok(())
+fn what_needs_itself_is_a_cycle(rt: HostRuntime) {
+    assert!(rt; has_cycle(rt.alloc(), &[&[0]], &[0, 0]));
 }
 
-fn assert_ancestors(
-    rt: &impl Abort,
-    alloc: Global,
-    lists: &[&[u16]],
-    component: u16,
-    list: &[u16],
-) -> Result<(), Fail> {
-    let rows = rows_of(alloc, lists)?;
+/// The ancestors of the component in these rows.
+fn ancestors_of(alloc: Global, lists: &[&[u16]], component: u16) -> Option<List<u16>> {
+    let Some(rows) = rows_of(alloc, lists) else {
+        return None;
+    };
     if component as usize >= rows.len() {
-        return Err(Fail::from("no such row"));
+        return None;
     }
-    let found = ancestors(alloc, &rows, component)?;
-    assert_eq!(rt; found.as_slice(), list);
-    Ok(())
+    match ancestors(alloc, &rows, component) {
+        Ok(list) => Some(list),
+        Err(_) => None,
+    }
+}
+
+/// Whether the component has these ancestors in these rows.
+fn has_ancestors(alloc: Global, lists: &[&[u16]], component: u16, wanted: &[u16]) -> bool {
+    match ancestors_of(alloc, lists, component) {
+        Some(list) => list.as_slice() == wanted,
+        None => false,
+    }
 }
 
 #[test]
-fn ancestors_are_reached_by_needs(rt: HostRuntime) -> Result<(), Fail> {
-    let alloc = rt.alloc();
+fn ancestors_are_reached_by_needs(rt: HostRuntime) {
     // The valve's only ancestor is its driver.
-    assert_ancestors(&rt, alloc, &[&[], &[0]], 1, &[0])?;
+    assert!(rt; has_ancestors(rt.alloc(), &[&[], &[0]], 1, &[0]));
     let chain: [&[u16]; 4] = [&[1], &[2], &[], &[0]];
-    assert_ancestors(&rt, alloc, &chain, 3, &[0, 1, 2])?;
-    assert_ancestors(&rt, alloc, &chain, 2, &[])?;
-    assert_ancestors(&rt, alloc, &[&[1], &[0]], 0, &[0, 1])
+    assert!(rt; has_ancestors(rt.alloc(), &chain, 3, &[0, 1, 2]));
+    assert!(rt; has_ancestors(rt.alloc(), &chain, 2, &[]));
+    assert!(rt; has_ancestors(rt.alloc(), &[&[1], &[0]], 0, &[0, 1]));
 }
 
-/// What is compiled of a driver and the valve that it powers.
-fn compiled_valve(alloc: Global) -> Result<Compiled, Fail> {
-    let lines = [
-        "titan 1",
-        "component drv = off, on start off",
-        "component valve = closed, open, stuck start closed",
-        "move valve closed -> open by v_open when drv = on",
-    ];
-    compiled_of(alloc, &lines)
+/// A driver and the valve that it powers.
+const POWERED_VALVE: &str = "titan 1
+component drv = off, on start off
+component valve = closed, open, stuck start closed
+move valve closed -> open by v_open when drv = on";
+
+/// How many components the model has.
+fn component_count(compiled: &Compiled) -> usize
+    ensures { result ≡ length compiled.now.model.components }
+{
+    compiled.model().components().len()
 }
 
 /// Modes of different components of the model.
-pub fn pairs_of(alloc: Global, compiled: &Compiled, pairs: &[(u16, u8)]) -> Result<List<Pair>, Fail>
-    ensures once { IfOk result IsCube }
-    ensures within { IfOk result (All (λ p. p.item < length compiled.now.model.components)) }
+pub fn pairs_of(alloc: Global, compiled: &Compiled, pairs: Pairs<'_>) -> Option<List<Pair>>
+    ensures once { IfSome result IsCube }
+    ensures within { IfSome result (All (λ p. p.item < length compiled.now.model.components)) }
 {
+    let count = component_count(compiled);
     let mut list = List::new(alloc);
     for p in pairs {
-        if p.0 as usize >= compiled.model().components().len() || !lacks(list.as_slice(), p.0) {
-            return Err(Fail::from("no other component"));
+        if p.0 as usize >= count || !lacks(list.as_slice(), p.0) {
+            return None;
         }
-        list.push(Pair {
-            item: p.0,
-            value: p.1,
-        })?;
+        let Ok(()) = list.push(pair(p.0, p.1)) else {
+            return None;
+        };
     }
-    Ok(list)
+    Some(list)
+}
+
+/// The goal of these pairs, sorted.
+fn sorted(alloc: Global, compiled: &Compiled, pairs: Pairs<'_>) -> Option<Goal> {
+    let Some(pairs) = pairs_of(alloc, compiled, pairs) else {
+        return None;
+    };
+    match sort_goal(alloc, compiled, &pairs) {
+        Ok(goal) => Some(goal),
+        Err(_) => None,
+    }
+}
+
+/// The bound of the goal of these pairs.
+fn bound_of(alloc: Global, compiled: &Compiled, pairs: Pairs<'_>) -> Option<u64> {
+    match pairs_of(alloc, compiled, pairs) {
+        Some(pairs) => Some(compiled.bound_of_goal(&Goal { pairs })),
+        None => None,
+    }
+}
+
+fn sorts(alloc: Global, compiled: &Compiled, pairs: Pairs<'_>, wanted: &[Pair]) -> bool {
+    match sorted(alloc, compiled, pairs) {
+        Some(goal) => goal.pairs.as_slice() == wanted,
+        None => false,
+    }
+}
+
+/// Whether the goal of these pairs has this order on the powered valve.
+fn valve_sorts(alloc: Global, pairs: Pairs<'_>, wanted: &[Pair]) -> bool {
+    match compiled_of(alloc, POWERED_VALVE) {
+        Some(compiled) => sorts(alloc, &compiled, pairs, wanted),
+        None => false,
+    }
+}
+
+/// The bound of the goal of these pairs on the powered valve.
+fn valve_bound(alloc: Global, pairs: Pairs<'_>) -> Option<u64> {
+    match compiled_of(alloc, POWERED_VALVE) {
+        Some(compiled) => bound_of(alloc, &compiled, pairs),
+        None => None,
+    }
 }
 
 #[test]
-fn a_goal_is_sorted_effects_first_and_its_bounds_add_up(rt: HostRuntime) -> Result<(), Fail> {
-    let alloc = rt.alloc();
-    let compiled = compiled_valve(alloc)?;
-    let pairs = pairs_of(alloc, &compiled, &[(0, 0), (1, 1)])?;
-    let sorted = sort_goal(alloc, &compiled, &pairs)?;
-    let wanted = [Pair { item: 1, value: 1 }, Pair { item: 0, value: 0 }];
-    assert_eq!(rt; sorted.pairs.as_slice(), wanted.as_slice());
-    assert_eq!(rt; compiled.bound_of_goal(&Goal { pairs }), 5);
-    Ok(())
+fn a_goal_is_sorted_effects_first_and_its_bounds_add_up(rt: HostRuntime) {
+    let pairs = [(0, 0), (1, 1)];
+    assert!(rt; valve_sorts(rt.alloc(), &pairs, &[pair(1, 1), pair(0, 0)]));
+    assert!(rt; valve_bound(rt.alloc(), &pairs) == Some(5));
 }

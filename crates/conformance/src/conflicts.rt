@@ -1,76 +1,82 @@
 //! The pairs of a state that are to blame for what no world of it shows.
 use crate::parts::*;
-use crate::worlds::tied_model;
+use crate::worlds::first_state;
 use cca_base::*;
-use consistency::{conflict, find_world};
+use consistency::conflict;
 use std::alloc::Global;
-use std::process::Abort;
 use std::test::*;
 
-/// The conflict of the first state of these modes with what is seen.
+/// The conflict of the first state of these modes with what is seen; nothing where memory runs out.
 fn conflict_of(
     alloc: Global,
     model: &Model,
-    modes: &[(u16, u8)],
-    observed: &[(u16, u8)],
-) -> Result<Option<Cube>, Fail> {
-    let modes = modes_of(alloc, model, modes)?;
-    let nothing = seen(alloc, model, &[])?;
-    let observed = seen(alloc, model, observed)?;
-    match find_world(alloc, model, &modes, &nothing)? {
-        Some(found) => Ok(conflict(alloc, model, &found.state, &observed)?),
-        None => Err(Fail::from("no state")),
+    modes: Pairs<'_>,
+    observed: Pairs<'_>,
+) -> Option<Option<Cube>> {
+    let Some(state) = first_state(alloc, model, modes) else {
+        return None;
+    };
+    let Some(observed) = seen(alloc, model, observed) else {
+        return None;
+    };
+    match conflict(alloc, model, &state, &observed) {
+        Ok(answer) => Some(answer),
+        Err(_) => None,
     }
 }
 
-/// Asserts the pairs of the conflict of these modes with what is seen.
-fn assert_conflict(
-    rt: &impl Abort,
-    model: &Model,
-    alloc: Global,
-    question: (&[(u16, u8)], &[(u16, u8)]),
-    pairs: &[Pair],
-) -> Result<(), Fail> {
-    let cube = conflict_of(alloc, model, question.0, question.1)?.ok_or("a world agrees")?;
-    assert_eq!(rt; cube.as_slice(), pairs);
-    Ok(())
+/// The same of the model of this text.
+fn blame(alloc: Global, text: &str, modes: Pairs<'_>, observed: Pairs<'_>) -> Option<Option<Cube>> {
+    match model_of(alloc, text) {
+        Some(model) => conflict_of(alloc, &model, modes, observed),
+        None => None,
+    }
 }
 
-/// A component with its mode.
-fn pair(item: u16, value: u8) -> Pair {
-    Pair { item, value }
+/// Whether the conflict of the first state of these modes with what is seen has these pairs.
+fn are_to_blame(
+    alloc: Global,
+    text: &str,
+    modes: Pairs<'_>,
+    observed: Pairs<'_>,
+    pairs: &[Pair],
+) -> bool {
+    match blame(alloc, text, modes, observed) {
+        Some(Some(cube)) => cube.as_slice() == pairs,
+        _ => false,
+    }
+}
+
+/// Whether a world of the first state of these modes agrees with what is seen.
+fn is_shown(alloc: Global, text: &str, modes: Pairs<'_>, observed: Pairs<'_>) -> bool {
+    match blame(alloc, text, modes, observed) {
+        Some(None) => true,
+        _ => false,
+    }
 }
 
 #[test]
-fn the_open_valve_is_to_blame(rt: HostRuntime) -> Result<(), Fail> {
-    let alloc = rt.alloc();
-    let model = valve_model(alloc)?;
+fn the_open_valve_is_to_blame(rt: HostRuntime) {
     let modes = [(0, 1), (1, 1)];
-    assert_conflict(&rt, &model, alloc, (&modes, &[(0, 0)]), &[pair(1, 1)])?;
-    assert!(rt; conflict_of(alloc, &model, &modes, &[(0, 1)])?.is_none());
-    Ok(())
+    assert!(rt; are_to_blame(rt.alloc(), VALVE, &modes, &[(0, 0)], &[pair(1, 1)]));
+    assert!(rt; is_shown(rt.alloc(), VALVE, &modes, &[(0, 1)]));
 }
 
 /// Two components, each of which makes the variable `yes` where it is on: pairs are tried in component order.
+const TWO_CAUSES: &str = "titan 1
+component a = off, on start off
+component b = off, on start off
+var v = no, yes
+rule a = on implies v = yes
+rule b = on implies v = yes";
+
 #[test]
-fn the_later_of_two_causes_is_to_blame(rt: HostRuntime) -> Result<(), Fail> {
-    let lines = [
-        "titan 1",
-        "component a = off, on start off",
-        "component b = off, on start off",
-        "var v = no, yes",
-        "rule a = on implies v = yes",
-        "rule b = on implies v = yes",
-    ];
-    let model = model_of(rt.alloc(), &lines)?;
+fn the_later_of_two_causes_is_to_blame(rt: HostRuntime) {
     let modes = [(0, 1), (1, 1)];
-    assert_conflict(&rt, &model, rt.alloc(), (&modes, &[(0, 0)]), &[pair(1, 1)])
+    assert!(rt; are_to_blame(rt.alloc(), TWO_CAUSES, &modes, &[(0, 0)], &[pair(1, 1)]));
 }
 
 #[test]
-fn no_pair_is_to_blame_for_what_no_state_shows(rt: HostRuntime) -> Result<(), Fail> {
-    let model = tied_model(rt.alloc())?;
-    let modes = [(0, 0), (1, 1)];
-    let observed = [(0, 0), (1, 0)];
-    assert_conflict(&rt, &model, rt.alloc(), (&modes, &observed), &[])
+fn no_pair_is_to_blame_for_what_no_state_shows(rt: HostRuntime) {
+    assert!(rt; are_to_blame(rt.alloc(), TIED, &[(0, 0), (1, 1)], &[(0, 0), (1, 0)], &[]));
 }

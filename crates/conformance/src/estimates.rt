@@ -1,172 +1,262 @@
 //! Choices, searches by cost, and estimates by themselves.
 
-ghost use Rattle.std.specs.Prelude.{IfOk};
+ghost use Rattle.std.specs.Prelude.{IfSome};
 ghost use Rattle.cca_base.specs.Choices.{AreRows};
 
-use crate::parts::{STICKING_VALVE, compiled_of, compiled_text, seen};
+use crate::parts::{Pairs, STICKING_VALVE, compiled_of, pair, seen};
 use cca_base::*;
 use cost_search::Search;
 use mode_estimator::{Estimate, estimate};
-use std::alloc::Global;
-use std::process::Abort;
+use std::alloc::{AllocError, Global};
 use std::test::*;
 use successors::{Plant, choices};
 
-/// What the valve may become where it is to open and its driver is on.
-fn opening(alloc: Global) -> Result<Choices, Fail>
-    ensures { IfOk result (λ c. AreRows c.rows) }
+/// What the components may become where the valve is to open and the first command came before.
+fn next_choices(alloc: Global, compiled: &Compiled) -> Option<Choices>
+    ensures { IfSome result (λ c. AreRows c.rows) }
 {
-    let compiled = compiled_text(alloc, STICKING_VALVE)?;
-    let mut plant = Plant::open(alloc, &compiled)?;
-    plant.command(&compiled, 0);
-    Ok(choices(alloc, &compiled, plant.state(), Some(2))?)
-}
-
-/// Asserts what the search gives next: modes with their cost, or nothing.
-fn assert_next(
-    rt: &impl Abort,
-    states: &mut Search,
-    wanted: Option<(&[u8], u64)>,
-) -> Result<(), Fail> {
-    match (states.next()?, wanted) {
-        (Some(costed), Some(wanted)) => {
-            assert_eq!(rt; costed.state.modes.as_slice(), wanted.0);
-            assert_eq!(rt; costed.cost, wanted.1);
-            Ok(())
-        }
-        (None, None) => Ok(()),
-        _ => Err(Fail::from("a state too many or too few")),
-    }
-}
-
-/// Asserts the estimate from the start modes without a command: modes with their cost, or unexplained.
-fn assert_estimate(
-    rt: &impl Abort,
-    alloc: Global,
-    compiled: &Compiled,
-    observed: &[(u16, u8)],
-    wanted: Option<(&[u8], u64)>,
-) -> Result<(), Fail> {
-    let plant = Plant::open(alloc, compiled)?;
-    let observed = seen(alloc, compiled.model(), observed)?;
-    match (
-        estimate(alloc, compiled, plant.state(), None, &observed)?,
-        wanted,
-    ) {
-        (Estimate::Found { state, cost }, Some(wanted)) => {
-            assert_eq!(rt; state.modes.as_slice(), wanted.0);
-            assert_eq!(rt; cost, wanted.1);
-            Ok(())
-        }
-        (Estimate::Unexplained, None) => Ok(()),
-        _ => Err(Fail::from("explained or not")),
-    }
-}
-
-#[test]
-fn a_valve_opens_or_sticks(rt: HostRuntime) -> Result<(), Fail> {
-    let rows = opening(rt.alloc())?.rows;
-    let [driver, valve] = rows.as_slice() else {
-        return Err(Fail::from("not two rows"));
+    let Ok(mut plant) = Plant::open(alloc, compiled) else {
+        return None;
     };
-    assert_eq!(rt; driver.as_slice(), [Choice { mode: 1, cost: 0 }].as_slice());
-    let both = [Choice { mode: 1, cost: 0 }, Choice { mode: 2, cost: 4 }];
-    assert_eq!(rt; valve.as_slice(), both.as_slice());
-    Ok(())
+    plant.command(compiled, 0);
+    match choices(alloc, compiled, plant.state(), Some(2)) {
+        Ok(choices) => Some(choices),
+        Err(_) => None,
+    }
+}
+
+/// What the valve may become where it is to open and its driver is on.
+fn opening(alloc: Global) -> Option<Choices>
+    ensures { IfSome result (λ c. AreRows c.rows) }
+{
+    match compiled_of(alloc, STICKING_VALVE) {
+        Some(compiled) => next_choices(alloc, &compiled),
+        None => None,
+    }
+}
+
+fn is_choice(choice: &Choice, wanted: (u8, u64)) -> bool {
+    choice.mode == wanted.0 && choice.cost == wanted.1
+}
+
+fn is_row(row: &[Choice], wanted: &[(u8, u64)]) -> bool {
+    if row.len() != wanted.len() {
+        return false;
+    }
+    for i in 0..row.len() {
+        if !is_choice(&row[i], wanted[i]) {
+            return false;
+        }
+    }
+    true
+}
+
+fn are_rows(rows: &[List<Choice>], wanted: &[&[(u8, u64)]]) -> bool {
+    if rows.len() != wanted.len() {
+        return false;
+    }
+    for i in 0..rows.len() {
+        if !is_row(rows[i].as_slice(), wanted[i]) {
+            return false;
+        }
+    }
+    true
+}
+
+/// Whether the rows of what the components may become have these modes and costs.
+fn opens_by(alloc: Global, rows: &[&[(u8, u64)]]) -> bool {
+    match opening(alloc) {
+        Some(choices) => are_rows(choices.rows.as_slice(), rows),
+        None => false,
+    }
 }
 
 #[test]
-fn states_rise_by_cost(rt: HostRuntime) -> Result<(), Fail> {
-    let mut states = Search::of(rt.alloc(), opening(rt.alloc())?)?;
-    assert_next(&rt, &mut states, Some((&[1, 1], 0)))?;
-    assert_next(&rt, &mut states, Some((&[1, 2], 4)))?;
-    assert_next(&rt, &mut states, None)
+fn a_valve_opens_or_sticks(rt: HostRuntime) {
+    assert!(rt; opens_by(rt.alloc(), &[&[(1, 0)], &[(1, 0), (2, 4)]]));
+}
+
+/// The search through what the valve may become.
+fn opening_search(alloc: Global) -> Option<Search> {
+    let Some(choices) = opening(alloc) else {
+        return None;
+    };
+    match Search::of(alloc, choices) {
+        Ok(search) => Some(search),
+        Err(_) => None,
+    }
+}
+
+/// Whether the search gives these modes with this cost next.
+fn is_next(states: &mut Search, modes: &[u8], cost: u64) -> bool {
+    match states.next() {
+        Ok(Some(costed)) => costed.state.modes.as_slice() == modes && costed.cost == cost,
+        _ => false,
+    }
+}
+
+fn has_ended(states: &mut Search) -> bool {
+    match states.next() {
+        Ok(None) => true,
+        _ => false,
+    }
+}
+
+/// Whether the search gives exactly these modes with their costs, in this order.
+fn gives(states: &mut Search, rows: &[(&[u8], u64)]) -> bool {
+    for row in rows {
+        if !is_next(states, row.0, row.1) {
+            return false;
+        }
+    }
+    has_ended(states)
+}
+
+fn opening_gives(alloc: Global, rows: &[(&[u8], u64)]) -> bool {
+    match opening_search(alloc) {
+        Some(mut states) => gives(&mut states, rows),
+        None => false,
+    }
 }
 
 #[test]
-fn what_is_cut_is_not_given(rt: HostRuntime) -> Result<(), Fail> {
-    let mut states = Search::of(rt.alloc(), opening(rt.alloc())?)?;
-    let mut open = Cube::new(rt.alloc());
-    open.push(Pair { item: 1, value: 1 })?;
-    states.cut(open)?;
-    assert_next(&rt, &mut states, Some((&[1, 2], 4)))?;
-    assert_next(&rt, &mut states, None)
+fn states_rise_by_cost(rt: HostRuntime) {
+    assert!(rt; opening_gives(rt.alloc(), &[(&[1, 1], 0), (&[1, 2], 4)]));
+}
+
+/// Cuts off the states in which the component has the mode.
+fn cuts(alloc: Global, states: &mut Search, component: u16, mode: u8) -> bool {
+    let mut cube = Cube::new(alloc);
+    match cube.push(pair(component, mode)) {
+        Ok(()) => states.cut(cube).is_ok(),
+        Err(_) => false,
+    }
+}
+
+/// The same where the states are cut off in which the component has the mode.
+fn cut_gives(alloc: Global, (component, mode): (u16, u8), rows: &[(&[u8], u64)]) -> bool {
+    match opening_search(alloc) {
+        Some(mut states) => cuts(alloc, &mut states, component, mode) && gives(&mut states, rows),
+        None => false,
+    }
 }
 
 #[test]
-fn the_first_in_mode_order_breaks_a_tie(rt: HostRuntime) -> Result<(), Fail> {
-    let lines = [
-        "titan 1",
-        "component pump = on, dead start on",
-        "component pipe = fine, burst start fine",
-        "var flow = none, some sensed",
-        "rule flow = some iff pump = on and pipe = fine",
-        "fail pump on -> dead cost 5",
-        "fail pipe fine -> burst cost 5",
-    ];
-    let compiled = compiled_of(rt.alloc(), &lines)?;
-    assert_estimate(&rt, rt.alloc(), &compiled, &[(0, 0)], Some((&[0, 1], 5)))
+fn what_is_cut_is_not_given(rt: HostRuntime) {
+    assert!(rt; cut_gives(rt.alloc(), (1, 1), &[(&[1, 2], 4)]));
+}
+
+/// The estimate from the start modes without a command.
+fn estimated(alloc: Global, compiled: &Compiled, observed: Pairs<'_>) -> Option<Estimate> {
+    let Some(observed) = seen(alloc, compiled.model(), observed) else {
+        return None;
+    };
+    let Ok(plant) = Plant::open(alloc, compiled) else {
+        return None;
+    };
+    match estimate(alloc, compiled, plant.state(), None, &observed) {
+        Ok(answer) => Some(answer),
+        Err(_) => None,
+    }
+}
+
+/// The same of the model of this text.
+fn estimate_of(alloc: Global, text: &str, observed: Pairs<'_>) -> Option<Estimate> {
+    match compiled_of(alloc, text) {
+        Some(compiled) => estimated(alloc, &compiled, observed),
+        None => None,
+    }
+}
+
+/// Whether what is observed is explained by these modes with this cost.
+fn explains(alloc: Global, text: &str, observed: Pairs<'_>, modes: &[u8], cost: u64) -> bool {
+    match estimate_of(alloc, text, observed) {
+        Some(Estimate::Found { state, cost: found }) => {
+            state.modes.as_slice() == modes && found == cost
+        }
+        _ => false,
+    }
+}
+
+fn is_unexplained(alloc: Global, text: &str, observed: Pairs<'_>) -> bool {
+    match estimate_of(alloc, text, observed) {
+        Some(Estimate::Unexplained) => true,
+        _ => false,
+    }
+}
+
+/// A pump and a pipe, either of which stops the flow by a failure of one cost.
+const PIPE: &str = "titan 1
+component pump = on, dead start on
+component pipe = fine, burst start fine
+var flow = none, some sensed
+rule flow = some iff pump = on and pipe = fine
+fail pump on -> dead cost 5
+fail pipe fine -> burst cost 5";
+
+#[test]
+fn the_first_in_mode_order_breaks_a_tie(rt: HostRuntime) {
+    assert!(rt; explains(rt.alloc(), PIPE, &[(0, 0)], &[0, 1], 5));
+}
+
+/// Two failures that cost less together than the third.
+const THREE_FAILURES: &str = "titan 1
+component p = ok, bad start ok
+component q = ok, bad start ok
+component r = ok, bad start ok
+var out = good, poor sensed
+rule out = poor iff p = bad and q = bad or r = bad
+fail p ok -> bad cost 4
+fail q ok -> bad cost 6
+fail r ok -> bad cost 11";
+
+#[test]
+fn two_cheap_failures_cost_less_than_a_dear_one(rt: HostRuntime) {
+    assert!(rt; explains(rt.alloc(), THREE_FAILURES, &[(0, 1)], &[1, 1, 0], 10));
 }
 
 #[test]
-fn two_cheap_failures_cost_less_than_a_dear_one(rt: HostRuntime) -> Result<(), Fail> {
-    let lines = [
-        "titan 1",
-        "component p = ok, bad start ok",
-        "component q = ok, bad start ok",
-        "component r = ok, bad start ok",
-        "var out = good, poor sensed",
-        "rule out = poor iff p = bad and q = bad or r = bad",
-        "fail p ok -> bad cost 4",
-        "fail q ok -> bad cost 6",
-        "fail r ok -> bad cost 11",
-    ];
-    let compiled = compiled_of(rt.alloc(), &lines)?;
-    assert_estimate(
-        &rt,
-        rt.alloc(),
-        &compiled,
-        &[(0, 1)],
-        Some((&[1, 1, 0], 10)),
-    )
+fn no_failure_opens_the_valve(rt: HostRuntime) {
+    assert!(rt; is_unexplained(rt.alloc(), STICKING_VALVE, &[(0, 1)]));
 }
 
-#[test]
-fn no_failure_opens_the_valve(rt: HostRuntime) -> Result<(), Fail> {
-    let compiled = compiled_text(rt.alloc(), STICKING_VALVE)?;
-    assert_estimate(&rt, rt.alloc(), &compiled, &[(0, 1)], None)
+/// Adds a component with a variable that says whether it failed.
+fn push_component(alloc: Global, text: &mut String, i: u16) -> Result<(), AllocError> {
+    let own = format!(in alloc;
+        "\ncomponent q{i} = ok, bad start ok\nvar v{i} = good, poor sensed"
+    )?;
+    text.push_str(&own)?;
+    let fails = format!(in alloc; "\nrule v{i} = poor iff q{i} = bad\nfail q{i} ok -> bad cost 1")?;
+    text.push_str(&fails)
 }
 
 /// The text of so many components, each with a variable that says whether it failed.
-fn text_of_many(alloc: Global, count: u16) -> Result<String, Fail> {
-    let mut text = String::new(alloc);
-    text.push_str("titan 1")?;
+fn text_of_many(alloc: Global, count: u16) -> Result<String, AllocError> {
+    let mut text = String::from_str(alloc, "titan 1")?;
     for i in 0..count {
-        let own = format!(in alloc;
-            "\ncomponent q{i} = ok, bad start ok\nvar v{i} = good, poor sensed"
-        )?;
-        text.push_str(own.as_str())?;
-        let fails = format!(in alloc;
-            "\nrule v{i} = poor iff q{i} = bad\nfail q{i} ok -> bad cost 1"
-        )?;
-        text.push_str(fails.as_str())?;
+        push_component(alloc, &mut text, i)?;
     }
     Ok(text)
 }
 
-#[test]
-fn thirty_failures_come_at_once(rt: HostRuntime) -> Result<(), Fail> {
-    let text = text_of_many(rt.alloc(), 30)?;
-    let compiled = compiled_text(rt.alloc(), &text)?;
-    let mut observed = Vec::new(rt.alloc());
+/// That each of thirty variables says that its component failed.
+fn thirty_poor() -> [(u16, u8); 30] {
+    let mut observed = [(0, 1); 30];
     for v in 0..30 {
-        observed.push((v, 1))?;
+        observed[v] = (v as u16, 1);
     }
-    assert_estimate(
-        &rt,
-        rt.alloc(),
-        &compiled,
-        observed.as_slice(),
-        Some((&[1; 30], 30)),
-    )
+    observed
+}
+
+/// Whether thirty failures observed at once are explained by these modes with this cost.
+fn thirty_explain(alloc: Global, modes: &[u8], cost: u64) -> bool {
+    match text_of_many(alloc, 30) {
+        Ok(text) => explains(alloc, &text, &thirty_poor(), modes, cost),
+        Err(_) => false,
+    }
+}
+
+#[test]
+fn thirty_failures_come_at_once(rt: HostRuntime) {
+    assert!(rt; thirty_explain(rt.alloc(), &[1; 30], 30));
 }

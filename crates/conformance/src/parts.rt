@@ -1,6 +1,6 @@
 //! Models, states and clauses that the tests share.
 
-ghost use Rattle.std.specs.Prelude.{◌≡◌, ◌<◌, ◌≤◌, ◌↔◌, All, IfOk, IsTrue, length};
+ghost use Rattle.std.specs.Prelude.{◌≡◌, ◌<◌, ◌≤◌, ◌↔◌, All, IfSome, IsTrue, length};
 ghost use Rattle.cca_base.specs.declared.limits.TheConstants.{MAX_CHOICES};
 ghost use Rattle.cca_base.specs.Cube.{Lacks};
 ghost use Rattle.cca_base.specs.Formula.{is_within, subject_within};
@@ -13,46 +13,53 @@ use cca_base::*;
 use clause_form::{Clause, Clauses, Literal};
 use model_syntax::ModelReader;
 use std::alloc::Global;
-use std::test::*;
 
-/// The model of these lines.
-pub fn model_of(alloc: Global, lines: &[&str]) -> Result<Model, Fail>
-    ensures { IfOk result (λ m. IsComplete m) }
+/// Modes of components or values of variables, by their numbers.
+pub type Pairs<'a> = &'a [(u16, u8)];
+
+/// A component with its mode, or a variable with its value.
+pub fn pair(item: u16, value: u8) -> Pair
+    ensures { result ≡ record { item = item; value = value } }
 {
-    let mut reader = ModelReader::open(alloc)?;
-    let mut refused = false;
-    for line in lines {
-        refused = reader.line(line.as_bytes()).is_err() || refused;
+    Pair { item, value }
+}
+
+/// Takes the line, unless it is refused.
+fn takes(reader: &mut ModelReader, line: &str) -> bool {
+    reader.line(line.as_bytes()).is_ok()
+}
+
+/// The model of this text.
+pub fn model_of(alloc: Global, text: &str) -> Option<Model>
+    ensures { IfSome result (λ m. IsComplete m) }
+{
+    let Ok(mut reader) = ModelReader::open(alloc) else {
+        return None;
+    };
+    for line in text.lines() {
+        if !takes(&mut reader, line) {
+            return None;
+        }
     }
-    let model = reader.finish();
-    if refused {
-        return Err(Fail::from("a line is refused"));
-    }
-    Ok(model)
+    Some(reader.finish())
 }
 
 /// What is compiled of the model.
-pub fn accepted(alloc: Global, model: Model) -> Result<Compiled, Fail>
+fn accepted(alloc: Global, model: Model) -> Option<Compiled>
     requires { IsComplete model }
 {
     match accept(alloc, model) {
-        Ok(compiled) => Ok(compiled),
-        Err(_) => Err(Fail::from("not accepted")),
+        Ok(compiled) => Some(compiled),
+        Err(_) => None,
     }
-}
-
-/// What is compiled of the model of these lines.
-pub fn compiled_of(alloc: Global, lines: &[&str]) -> Result<Compiled, Fail> {
-    accepted(alloc, model_of(alloc, lines)?)
 }
 
 /// What is compiled of the model of this text.
-pub fn compiled_text(alloc: Global, text: &str) -> Result<Compiled, Fail> {
-    let mut lines = Vec::new(alloc);
-    for line in text.lines() {
-        lines.push(line)?;
+pub fn compiled_of(alloc: Global, text: &str) -> Option<Compiled> {
+    match model_of(alloc, text) {
+        Some(model) => accepted(alloc, model),
+        None => None,
     }
-    compiled_of(alloc, lines.as_slice())
 }
 
 /// A valve that sticks, with the driver that it needs.
@@ -70,18 +77,20 @@ fail valve closed -> stuck cost 4
 fail valve open -> stuck cost 6";
 
 /// A driver, a valve, and a flow that is there where the valve is open.
-pub fn valve_model(alloc: Global) -> Result<Model, Fail> {
-    model_of(
-        alloc,
-        &[
-            "titan 1",
-            "component drv = off, on start off",
-            "component valve = closed, open, stuck start closed",
-            "var flow = none, some sensed",
-            "rule flow = some iff valve = open",
-        ],
-    )
-}
+pub const VALVE: &str = "titan 1
+component drv = off, on start off
+component valve = closed, open, stuck start closed
+var flow = none, some sensed
+rule flow = some iff valve = open";
+
+/// Two components and two variables; `a=x b=x` has no world, and no world has neither `v=y` nor `w=z`.
+pub const TIED: &str = "titan 1
+component a = x, y start x
+component b = x, y start x
+var v = x, y, z
+var w = x, y, z
+rule a = y or b = y
+rule v = y or w = z";
 
 /// Whether the component has the mode.
 pub fn has_mode(model: &Model, component: u16, mode: u8) -> bool
@@ -106,37 +115,35 @@ pub fn lacks(pairs: &[Pair], component: u16) -> bool
 }
 
 /// These modes of the model's components.
-pub fn modes_of(alloc: Global, model: &Model, pairs: &[(u16, u8)]) -> Result<Cube, Fail>
-    ensures { IfOk result (All (λ p. HasMode model.now p.item p.value)) }
+pub fn modes_of(alloc: Global, model: &Model, pairs: Pairs<'_>) -> Option<Cube>
+    ensures { IfSome result (All (λ p. HasMode model.now p.item p.value)) }
 {
     let mut cube = Cube::new(alloc);
     for p in pairs {
         if !has_mode(model, p.0, p.1) || !lacks(cube.as_slice(), p.0) {
-            return Err(Fail::from("no such mode"));
+            return None;
         }
-        cube.push(Pair {
-            item: p.0,
-            value: p.1,
-        })?;
+        let Ok(()) = cube.push(pair(p.0, p.1)) else {
+            return None;
+        };
     }
-    Ok(cube)
+    Some(cube)
 }
 
 /// These values of the model's variables.
-pub fn seen(alloc: Global, model: &Model, pairs: &[(u16, u8)]) -> Result<Seen, Fail>
-    ensures { IfOk result (λ s. All (λ p. HasValue model.now p.item p.value) s.pairs) }
+pub fn seen(alloc: Global, model: &Model, pairs: Pairs<'_>) -> Option<Seen>
+    ensures { IfSome result (λ s. All (λ p. HasValue model.now p.item p.value) s.pairs) }
 {
     let mut list = List::new(alloc);
     for p in pairs {
         if !has_value(model, p.0, p.1) {
-            return Err(Fail::from("no such value"));
+            return None;
         }
-        list.push(Pair {
-            item: p.0,
-            value: p.1,
-        })?;
+        let Ok(()) = list.push(pair(p.0, p.1)) else {
+            return None;
+        };
     }
-    Ok(Seen { pairs: list })
+    Some(Seen { pairs: list })
 }
 
 fn is_in(model: &Model, subject: Subject) -> bool
@@ -149,13 +156,13 @@ fn is_in(model: &Model, subject: Subject) -> bool
 }
 
 /// That a subject of the model has the value.
-pub fn is(model: &Model, subject: Subject, value: u8) -> Result<Formula, Fail>
-    ensures { IfOk result (λ f. IsTrue (is_within (length model.now.components) (length model.now.variables) f)) }
+pub fn is(model: &Model, subject: Subject, value: u8) -> Option<Formula>
+    ensures { IfSome result (λ f. IsTrue (is_within (length model.now.components) (length model.now.variables) f)) }
 {
     if value as usize >= MAX_CHOICES || !is_in(model, subject) {
-        return Err(Fail::from("no such value"));
+        return None;
     }
-    Ok(Formula::Among {
+    Some(Formula::Among {
         subject,
         values: ValueSet::empty().with(value),
     })
@@ -179,36 +186,57 @@ fn all_inside(n: usize, clauses: &[Clause]) -> bool
     clauses.iter().all(|c| inside(n, c.literals.as_slice()))
 }
 
-fn clause(alloc: Global, row: &[(u16, ValueSet)]) -> Result<Clause, Fail> {
+fn clause(alloc: Global, row: &[(u16, ValueSet)]) -> Option<Clause> {
     let mut literals = List::new(alloc);
     for literal in row {
-        literals.push(Literal {
+        let Ok(()) = literals.push(Literal {
             subject: literal.0,
             values: literal.1,
-        })?;
+        }) else {
+            return None;
+        };
     }
-    Ok(Clause { literals })
+    Some(Clause { literals })
+}
+
+fn clause_list(alloc: Global, rows: &[&[(u16, ValueSet)]]) -> Option<List<Clause>> {
+    let mut list = List::new(alloc);
+    for row in rows {
+        let Some(clause) = clause(alloc, row) else {
+            return None;
+        };
+        let Ok(()) = list.push(clause) else {
+            return None;
+        };
+    }
+    Some(list)
+}
+
+/// The list of these numbers.
+pub fn list_of(alloc: Global, numbers: &[u8]) -> Option<List<u8>> {
+    let mut list = List::new(alloc);
+    for number in numbers {
+        let Ok(()) = list.push(*number) else {
+            return None;
+        };
+    }
+    Some(list)
 }
 
 /// Clauses over subjects of so many values.
-pub fn clauses(alloc: Global, sizes: &[u8], rows: &[&[(u16, ValueSet)]]) -> Result<Clauses, Fail>
-    ensures { IfOk result AreClauses }
+pub fn clauses(alloc: Global, sizes: &[u8], rows: &[&[(u16, ValueSet)]]) -> Option<Clauses>
+    ensures { IfSome result AreClauses }
 {
-    let mut counts = List::new(alloc);
-    for size in sizes {
-        counts.push(*size)?;
+    let Some(sizes) = list_of(alloc, sizes) else {
+        return None;
+    };
+    let Some(clauses) = clause_list(alloc, rows) else {
+        return None;
+    };
+    if few(sizes.as_slice()) && all_inside(sizes.len(), clauses.as_slice()) {
+        return Some(Clauses { sizes, clauses });
     }
-    let mut list = List::new(alloc);
-    for row in rows {
-        list.push(clause(alloc, row)?)?;
-    }
-    if few(counts.as_slice()) && all_inside(counts.len(), list.as_slice()) {
-        return Ok(Clauses {
-            sizes: counts,
-            clauses: list,
-        });
-    }
-    Err(Fail::from("a clause of no subject"))
+    None
 }
 
 fn is_met(clause: &Clause, values: &[u8]) -> bool {

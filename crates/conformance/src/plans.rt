@@ -1,8 +1,10 @@
 //! Whole plans, ways back, and the first commands of a plan that is too long to be written down.
 
 ghost use Rattle.std.specs.Prelude.{◌≡◌, ◌<◌};
+ghost use Rattle.planner_step.specs.Planning.{IsGoal};
+ghost use Rattle.reversibility.specs.ClassParts.{CoversState};
 
-use crate::parts::{STICKING_VALVE, compiled_of, compiled_text};
+use crate::parts::{Pairs, STICKING_VALVE};
 use crate::tabled::*;
 use cca_base::*;
 use plan_runner::{route_of, way_back, whole_plan};
@@ -10,84 +12,142 @@ use planner_step::{Answer, next_command};
 use policy_tables::Tables;
 use std::alloc::{AllocError, Global};
 use std::marker::Brand;
-use std::process::Abort;
 use std::sync::ledger::{Blank, Ledger};
 use std::test::*;
 
 /// The whole plan from the state of these modes to the goal of these pairs.
-fn planned(
-    alloc: Global,
-    tables: &Tables,
-    modes: &[u8],
-    pairs: &[(u16, u8)],
-) -> Result<Vec<u8>, Fail> {
-    let state = covered(alloc, tables, modes)?;
-    let goal = goal_of(alloc, tables, pairs)?;
+fn planned(alloc: Global, tables: &Tables, modes: &[u8], pairs: Pairs<'_>) -> Option<PlanEnd> {
+    let Some(state) = covered(alloc, tables, modes) else {
+        return None;
+    };
+    let Some(goal) = goal_of(alloc, tables, pairs) else {
+        return None;
+    };
     if !is_reached(tables, &state, &goal) {
-        return Err(Fail::from("unreachable"));
+        return None;
     }
-    plan_text(alloc, tables, whole_plan(alloc, tables, &state, &goal)?)
+    match whole_plan(alloc, tables, &state, &goal) {
+        Ok(plan) => Some(plan),
+        Err(_) => None,
+    }
 }
 
 /// The way back from the state of these modes to the other's.
-fn returned(alloc: Global, tables: &Tables, from: &[u8], to: &[u8]) -> Result<Vec<u8>, Fail> {
-    let from = covered(alloc, tables, from)?;
-    let to = covered(alloc, tables, to)?;
-    plan_text(alloc, tables, way_back(alloc, tables, &from, &to)?)
+fn returned(alloc: Global, tables: &Tables, from: &[u8], to: &[u8]) -> Option<PlanEnd> {
+    let Some(from) = covered(alloc, tables, from) else {
+        return None;
+    };
+    let Some(to) = covered(alloc, tables, to) else {
+        return None;
+    };
+    match way_back(alloc, tables, &from, &to) {
+        Ok(plan) => Some(plan),
+        Err(_) => None,
+    }
 }
 
 /// The whole plan from the state of these modes to the goal of these pairs, and the way back from its end.
-fn routed(
+fn routed(alloc: Global, tables: &Tables, modes: &[u8], pairs: Pairs<'_>) -> Option<Route> {
+    let Some(state) = covered(alloc, tables, modes) else {
+        return None;
+    };
+    let Some(goal) = goal_of(alloc, tables, pairs) else {
+        return None;
+    };
+    if !is_reached(tables, &state, &goal) {
+        return None;
+    }
+    match route_of(alloc, tables, &state, &goal) {
+        Ok(route) => Some(route),
+        Err(_) => None,
+    }
+}
+
+fn plans(alloc: Global, tables: &Tables, modes: &[u8], pairs: Pairs<'_>, names: &[&str]) -> bool {
+    match planned(alloc, tables, modes, pairs) {
+        Some(plan) => is_plan(tables, &plan, names),
+        None => false,
+    }
+}
+
+fn returns(alloc: Global, tables: &Tables, from: &[u8], to: &[u8], names: &[&str]) -> bool {
+    match returned(alloc, tables, from, to) {
+        Some(plan) => is_plan(tables, &plan, names),
+        None => false,
+    }
+}
+
+/// Whether the sticking valve's whole plan from its start to the goal has the commands of these names.
+fn valve_plans(alloc: Global, pairs: Pairs<'_>, names: &[&str]) -> bool {
+    match tables_of(alloc, STICKING_VALVE, &[0, 0]) {
+        Some(tables) => plans(alloc, &tables, &[0, 0], pairs, names),
+        None => false,
+    }
+}
+
+/// Whether the sticking valve's way back from the state of these modes to its start has the commands of these names.
+fn valve_returns(alloc: Global, from: &[u8], names: &[&str]) -> bool {
+    match tables_of(alloc, STICKING_VALVE, &[0, 0]) {
+        Some(tables) => returns(alloc, &tables, from, &[0, 0], names),
+        None => false,
+    }
+}
+
+#[test]
+fn a_valve_opens_and_its_driver_goes_off(rt: HostRuntime) {
+    assert!(rt;
+        valve_plans(
+            rt.alloc(),
+            &[(0, 0), (1, 1)],
+            &["drv_on", "v_open", "drv_off"]
+        )
+    );
+}
+
+#[test]
+fn a_valve_closes_and_its_driver_goes_off(rt: HostRuntime) {
+    assert!(rt; valve_returns(rt.alloc(), &[0, 1], &["drv_on", "v_close", "drv_off"]));
+}
+
+/// A model in which b's way back asks for a mode of c that only a repair leads to.
+const MENDING: &str = "titan 1
+component c = m, ok, z start m
+component b = x, y start x
+repair c m -> ok by c_reset when true
+move c ok -> z by c_z when true
+move c z -> ok by c_ok when true
+move b x -> y by b_go when true
+move b y -> x by b_back when c = z";
+
+fn is_route(tables: &Tables, route: &Route, plan: &[&str], back: &[&str]) -> bool {
+    is_plan(tables, &route.plan, plan) && is_plan(tables, &route.back, back)
+}
+
+fn routes(
     alloc: Global,
     tables: &Tables,
-    modes: &[u8],
-    pairs: &[(u16, u8)],
-) -> Result<(Vec<u8>, Vec<u8>), Fail> {
-    let state = covered(alloc, tables, modes)?;
-    let goal = goal_of(alloc, tables, pairs)?;
-    if !is_reached(tables, &state, &goal) {
-        return Err(Fail::from("unreachable"));
+    question: (&[u8], Pairs<'_>),
+    plan: &[&str],
+    back: &[&str],
+) -> bool {
+    match routed(alloc, tables, question.0, question.1) {
+        Some(route) => is_route(tables, &route, plan, back),
+        None => false,
     }
-    let route = route_of(alloc, tables, &state, &goal)?;
-    let plan = plan_text(alloc, tables, route.plan)?;
-    let back = plan_text(alloc, tables, route.back)?;
-    Ok((plan, back))
 }
 
-/// Tables around the start of a model in which b's way back asks for a mode of c that only a repair leads to.
-fn mending_tables(alloc: Global) -> Result<Tables, Fail> {
-    let lines = [
-        "titan 1",
-        "component c = m, ok, z start m",
-        "component b = x, y start x",
-        "repair c m -> ok by c_reset when true",
-        "move c ok -> z by c_z when true",
-        "move c z -> ok by c_ok when true",
-        "move b x -> y by b_go when true",
-        "move b y -> x by b_back when c = z",
-    ];
-    tables_around(alloc, compiled_of(alloc, &lines)?, &[0, 0])
+/// Whether the plan from the start of the mending model to the goal, and the way back, have the commands of these names.
+fn mending_routes(alloc: Global, pairs: Pairs<'_>, plan: &[&str], back: &[&str]) -> bool {
+    match tables_of(alloc, MENDING, &[0, 0]) {
+        Some(tables) => routes(alloc, &tables, (&[0, 0], pairs), plan, back),
+        None => false,
+    }
 }
 
 #[test]
-fn a_valve_opens_and_its_driver_goes_off(rt: HostRuntime) -> Result<(), Fail> {
-    let alloc = rt.alloc();
-    let tables = tables_around(alloc, compiled_text(alloc, STICKING_VALVE)?, &[0, 0])?;
-    let plan = planned(alloc, &tables, &[0, 0], &[(0, 0), (1, 1)])?;
-    assert_eq!(rt; plan.as_slice(), b"drv_on v_open drv_off ".as_slice());
-    let back = returned(alloc, &tables, &[0, 1], &[0, 0])?;
-    assert_eq!(rt; back.as_slice(), b"drv_on v_close drv_off ".as_slice());
-    Ok(())
-}
-
-#[test]
-fn a_way_back_mends_what_it_needs(rt: HostRuntime) -> Result<(), Fail> {
-    let alloc = rt.alloc();
-    let tables = mending_tables(alloc)?;
-    let (plan, back) = routed(alloc, &tables, &[0, 0], &[(1, 1)])?;
-    assert_eq!(rt; plan.as_slice(), b"b_go ".as_slice());
-    assert_eq!(rt; back.as_slice(), b"c_reset c_z b_back c_ok ".as_slice());
-    Ok(())
+fn a_way_back_mends_what_it_needs(rt: HostRuntime) {
+    let back = ["c_reset", "c_z", "b_back", "c_ok"];
+    assert!(rt; mending_routes(rt.alloc(), &[(1, 1)], &["b_go"], &back));
 }
 
 /// The guard of a lamp's moves: the lamp before it is on, and all those before are off.
@@ -124,53 +184,100 @@ fn forty_lamps(alloc: Global) -> Result<String, AllocError> {
     Ok(text)
 }
 
-/// What is sent for the last of forty lamps where the first three stand so, and all others are off.
-fn sent_by<L: Ledger>(
-    alloc: Global,
-    tables: &Tables,
-    lamps: [u8; 3],
-    blank: Blank,
-) -> Result<Vec<u8>, Fail>
+/// The tables of forty lamps around the state in which all are off.
+fn lamp_tables(alloc: Global) -> Option<Tables> {
+    match forty_lamps(alloc) {
+        Ok(text) => tables_of(alloc, &text, &[0; 40]),
+        Err(_) => None,
+    }
+}
+
+fn answer_by<L: Ledger>(tables: &Tables, state: &State, goal: &Goal, blank: Blank) -> Answer
     requires name { blank.name ≡ L.name }
     requires parts { blank.parts ≡ L.parts }
     requires some { 0 < blank.parts }
+    requires covers { CoversState tables.now.classes state.now.modes }
+    requires goal { IsGoal tables.now.classes.compiled goal.now.pairs }
 {
+    let mut steps = Steps::<L>::of(blank);
+    next_command(tables, state, goal, &mut steps)
+}
+
+/// What is answered for the goal of these pairs in the state of these modes.
+fn answered(alloc: Global, tables: &Tables, modes: &[u8], pairs: Pairs<'_>) -> Option<Answer> {
+    let Some(state) = covered(alloc, tables, modes) else {
+        return None;
+    };
+    match goal_of(alloc, tables, pairs) {
+        Some(goal) => Some(answer_by::<Brand>(tables, &state, &goal, Blank::new(1))),
+        None => None,
+    }
+}
+
+/// The modes of forty lamps of which the first three stand so, and all others are off.
+fn lamp_modes(lamps: [u8; 3]) -> [u8; 40] {
     let mut modes = [0u8; 40];
     modes[0] = lamps[0];
     modes[1] = lamps[1];
     modes[2] = lamps[2];
-    let state = covered(alloc, tables, modes.as_slice())?;
-    let goal = goal_of(alloc, tables, &[(39, 1)])?;
-    let mut text = Vec::new(alloc);
-    let mut steps = Steps::<L>::of(blank);
-    if let Answer::Send(command) = next_command(tables, &state, &goal, &mut steps) {
-        push_command(tables.classes().compiled().model(), &mut text, command)?;
-    }
-    Ok(text)
+    modes
 }
 
-fn sent(alloc: Global, tables: &Tables, lamps: [u8; 3]) -> Result<Vec<u8>, Fail> {
-    sent_by::<Brand>(alloc, tables, lamps, Blank::new(1))
+/// Whether the command of this name is sent for the last of forty lamps where the first three stand so.
+fn sends(alloc: Global, tables: &Tables, lamps: [u8; 3], name: &str) -> bool {
+    match answered(alloc, tables, lamp_modes(lamps).as_slice(), &[(39, 1)]) {
+        Some(Answer::Send(command)) => {
+            is_command(tables.classes().compiled().model(), command, name)
+        }
+        _ => false,
+    }
+}
+
+fn sends_each(alloc: Global, tables: &Tables, rows: &[([u8; 3], &str)]) -> bool {
+    for row in rows {
+        if !sends(alloc, tables, row.0, row.1) {
+            return false;
+        }
+    }
+    true
+}
+
+/// Whether each row's command is sent for the last of forty lamps where the first three stand as the row says.
+fn lamps_send(alloc: Global, rows: &[([u8; 3], &str)]) -> bool {
+    match lamp_tables(alloc) {
+        Some(tables) => sends_each(alloc, &tables, rows),
+        None => false,
+    }
 }
 
 #[test]
-fn no_plan_is_searched(rt: HostRuntime) -> Result<(), Fail> {
-    let alloc = rt.alloc();
-    let off = [0u8; 40];
-    let text = forty_lamps(alloc)?;
-    let tables = tables_around(alloc, compiled_text(alloc, &text)?, off.as_slice())?;
+fn no_plan_is_searched(rt: HostRuntime) {
     let rows = [
-        ([0u8, 0, 0], "c1_on "),
-        ([1, 0, 0], "c2_on "),
-        ([1, 1, 0], "c1_off "),
-        ([0, 1, 0], "c3_on "),
-        ([0, 1, 1], "c1_on "),
+        ([0, 0, 0], "c1_on"),
+        ([1, 0, 0], "c2_on"),
+        ([1, 1, 0], "c1_off"),
+        ([0, 1, 0], "c3_on"),
+        ([0, 1, 1], "c1_on"),
     ];
-    for row in rows {
-        let text = sent(alloc, &tables, row.0)?;
-        assert_eq!(rt; text.as_slice(), row.1.as_bytes());
+    assert!(rt; lamps_send(rt.alloc(), &rows));
+}
+
+fn is_long(alloc: Global, tables: &Tables) -> bool {
+    match planned(alloc, tables, &[0; 40], &[(39, 1)]) {
+        Some(PlanEnd::Long) => true,
+        _ => false,
     }
-    let plan = planned(alloc, &tables, off.as_slice(), &[(39, 1)])?;
-    assert_eq!(rt; plan.as_slice(), b"long".as_slice());
-    Ok(())
+}
+
+/// Whether the plan that turns on the last of forty lamps is too long to be written down.
+fn lamps_take_long(alloc: Global) -> bool {
+    match lamp_tables(alloc) {
+        Some(tables) => is_long(alloc, &tables),
+        None => false,
+    }
+}
+
+#[test]
+fn a_plan_of_forty_lamps_is_long(rt: HostRuntime) {
+    assert!(rt; lamps_take_long(rt.alloc()));
 }

@@ -1,13 +1,13 @@
 //! Tables of models, with states that they cover and goals for them.
 
-ghost use Rattle.std.specs.Prelude.{◌≡◌, ◌<◌, ◌≤◌, ◌+◌, false, All, IfOk, IsTrue, length};
+ghost use Rattle.std.specs.Prelude.{◌≡◌, ◌<◌, ◌≤◌, ◌+◌, false, All, IfSome, IsTrue, length};
 ghost use Rattle.cca_base.specs.Model.{HasMode, is_broken};
 ghost use Rattle.cca_base.specs.State.{IsState};
 ghost use Rattle.planner_step.specs.Planning.{AreReached, IsGoal};
 ghost use Rattle.reversibility.specs.ClassParts.{CoversState};
 
 use crate::compile::pairs_of;
-use crate::parts::has_mode;
+use crate::parts::{Pairs, compiled_of, has_mode, list_of};
 use causal_graph::sort_goal;
 use cca_base::*;
 use planner_step::{Answer, next_command};
@@ -17,7 +17,6 @@ use std::alloc::Global;
 use std::marker::Brand;
 use std::rc::Rc;
 use std::sync::ledger::{Blank, Ledger};
-use std::test::*;
 
 fn is_state(model: &Model, modes: &[u8]) -> bool
     ensures { IsTrue result → IsState model.now modes.now }
@@ -35,41 +34,74 @@ fn is_state(model: &Model, modes: &[u8]) -> bool
 }
 
 /// The state of these modes.
-pub fn state_of(alloc: Global, model: &Model, modes: &[u8]) -> Result<State, Fail>
-    ensures { IfOk result (λ s. IsState model.now s.modes) }
+pub fn state_of(alloc: Global, model: &Model, modes: &[u8]) -> Option<State>
+    ensures { IfSome result (λ s. IsState model.now s.modes) }
 {
-    let mut list = List::new(alloc);
-    for mode in modes {
-        list.push(*mode)?;
-    }
+    let Some(list) = list_of(alloc, modes) else {
+        return None;
+    };
     if !is_state(model, list.as_slice()) {
-        return Err(Fail::from("no state of the model"));
+        return None;
     }
-    Ok(State { modes: list })
+    Some(State { modes: list })
 }
 
 /// The classes of the compiled model around the state of these modes.
-pub fn classes_around(alloc: Global, compiled: Compiled, modes: &[u8]) -> Result<Classes, Fail> {
-    let state = state_of(alloc, compiled.model(), modes)?;
-    let compiled = Rc::new(alloc, compiled)?;
-    Ok(Classes::of(alloc, &compiled, &state)?)
+fn classes_around(alloc: Global, compiled: &Rc<Compiled>, modes: &[u8]) -> Option<Classes> {
+    let Some(state) = state_of(alloc, compiled.model(), modes) else {
+        return None;
+    };
+    match Classes::of(alloc, compiled, &state) {
+        Ok(classes) => Some(classes),
+        Err(_) => None,
+    }
 }
 
-/// The tables of the compiled model around the state of these modes.
-pub fn tables_around(alloc: Global, compiled: Compiled, modes: &[u8]) -> Result<Tables, Fail> {
-    Ok(Tables::of(alloc, classes_around(alloc, compiled, modes)?)?)
+fn shared(alloc: Global, compiled: Compiled) -> Option<Rc<Compiled>> {
+    match Rc::new(alloc, compiled) {
+        Ok(compiled) => Some(compiled),
+        Err(_) => None,
+    }
+}
+
+/// The classes of the model of this text around the state of these modes.
+pub fn classes_of(alloc: Global, text: &str, modes: &[u8]) -> Option<Classes> {
+    let Some(compiled) = compiled_of(alloc, text) else {
+        return None;
+    };
+    match shared(alloc, compiled) {
+        Some(compiled) => classes_around(alloc, &compiled, modes),
+        None => None,
+    }
+}
+
+fn made(alloc: Global, classes: Classes) -> Option<Tables> {
+    match Tables::of(alloc, classes) {
+        Ok(tables) => Some(tables),
+        Err(_) => None,
+    }
+}
+
+/// The tables of the model of this text around the state of these modes.
+pub fn tables_of(alloc: Global, text: &str, modes: &[u8]) -> Option<Tables> {
+    match classes_of(alloc, text, modes) {
+        Some(classes) => made(alloc, classes),
+        None => None,
+    }
 }
 
 /// The state of these modes, which the tables cover.
-pub fn covered(alloc: Global, tables: &Tables, modes: &[u8]) -> Result<State, Fail>
-    ensures { IfOk result (λ s. CoversState tables.now.classes s.modes) }
+pub fn covered(alloc: Global, tables: &Tables, modes: &[u8]) -> Option<State>
+    ensures { IfSome result (λ s. CoversState tables.now.classes s.modes) }
 {
     let classes = tables.classes();
-    let state = state_of(alloc, classes.compiled().model(), modes)?;
+    let Some(state) = state_of(alloc, classes.compiled().model(), modes) else {
+        return None;
+    };
     if !classes.covers(&state) {
-        return Err(Fail::from("not covered"));
+        return None;
     }
-    Ok(state)
+    Some(state)
 }
 
 fn are_sound(model: &Model, pairs: &[Pair]) -> bool
@@ -80,16 +112,20 @@ fn are_sound(model: &Model, pairs: &[Pair]) -> bool
 }
 
 /// The sorted goal of these pairs.
-pub fn goal_of(alloc: Global, tables: &Tables, pairs: &[(u16, u8)]) -> Result<Goal, Fail>
-    ensures { IfOk result (λ g. IsGoal tables.now.classes.compiled g.pairs) }
+pub fn goal_of(alloc: Global, tables: &Tables, pairs: Pairs<'_>) -> Option<Goal>
+    ensures { IfSome result (λ g. IsGoal tables.now.classes.compiled g.pairs) }
 {
     let compiled = tables.classes().compiled();
-    let list = pairs_of(alloc, compiled, pairs)?;
-    let goal = sort_goal(alloc, compiled, &list)?;
+    let Some(list) = pairs_of(alloc, compiled, pairs) else {
+        return None;
+    };
+    let Ok(goal) = sort_goal(alloc, compiled, &list) else {
+        return None;
+    };
     if !are_sound(compiled.model(), goal.pairs.as_slice()) {
-        return Err(Fail::from("no such mode, or a broken one"));
+        return None;
     }
-    Ok(goal)
+    Some(goal)
 }
 
 fn is_reached_by<L: Ledger>(tables: &Tables, state: &State, goal: &Goal, blank: Blank) -> bool
@@ -116,26 +152,32 @@ pub fn is_reached(tables: &Tables, state: &State, goal: &Goal) -> bool
     is_reached_by::<Brand>(tables, state, goal, Blank::new(1))
 }
 
-/// Adds the name of the command, with a blank behind it.
-pub fn push_command(model: &Model, text: &mut Vec<u8>, command: u16) -> Result<(), Fail> {
+/// Whether the command has this name.
+pub fn is_command(model: &Model, command: u16, name: &str) -> bool {
     let commands = model.commands();
-    if command as usize >= commands.len() {
-        return Err(Fail::from("no such command"));
-    }
-    text.extend_from_slice(commands.get(command as usize).bytes())?;
-    text.push(b' ')?;
-    Ok(())
+    (command as usize) < commands.len() && commands.get(command as usize).bytes() == name.as_bytes()
 }
 
-/// The names of the plan's commands, each with a blank behind it, or that it is long.
-pub fn plan_text(alloc: Global, tables: &Tables, plan: PlanEnd) -> Result<Vec<u8>, Fail> {
-    let PlanEnd::Plan(commands) = plan else {
-        return Ok(Vec::from_slice(alloc, b"long".as_slice())?);
-    };
-    let model = tables.classes().compiled().model();
-    let mut text = Vec::new(alloc);
-    for command in commands.as_slice() {
-        push_command(model, &mut text, *command)?;
+/// Whether the commands have these names.
+fn are_commands(model: &Model, commands: &[u16], names: &[&str]) -> bool {
+    if commands.len() != names.len() {
+        return false;
     }
-    Ok(text)
+    for i in 0..names.len() {
+        if !is_command(model, commands[i], names[i]) {
+            return false;
+        }
+    }
+    true
+}
+
+/// Whether the plan has the commands of these names.
+pub fn is_plan(tables: &Tables, plan: &PlanEnd, names: &[&str]) -> bool {
+    match plan {
+        PlanEnd::Plan(commands) => {
+            let model = tables.classes().compiled().model();
+            are_commands(model, commands.as_slice(), names)
+        }
+        PlanEnd::Long => false,
+    }
 }

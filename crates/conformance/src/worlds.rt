@@ -1,157 +1,205 @@
 //! Worlds and counterexamples: the first of each, or none.
+
+ghost use Rattle.std.specs.Prelude.{◌≡◌, IfSome};
+ghost use Rattle.cca_base.specs.State.{HasWorld, IsState};
+
 use crate::parts::*;
 use cca_base::*;
-use clause_form::clauses_of;
+use clause_form::{Clauses, clauses_of};
 use consistency::{Found, find_counter, find_world};
 use std::alloc::Global;
-use std::process::Abort;
 use std::test::*;
 
-/// The first state and world of these modes, with what is seen.
+/// The first state and world of these modes, with what is seen; nothing where memory runs out.
 fn world_of(
     alloc: Global,
     model: &Model,
-    modes: &[(u16, u8)],
-    observed: &[(u16, u8)],
-) -> Result<Option<Found>, Fail> {
-    let modes = modes_of(alloc, model, modes)?;
-    let observed = seen(alloc, model, observed)?;
-    Ok(find_world(alloc, model, &modes, &observed)?)
+    modes: Pairs<'_>,
+    observed: Pairs<'_>,
+) -> Option<Option<Found>> {
+    let Some(modes) = modes_of(alloc, model, modes) else {
+        return None;
+    };
+    let Some(observed) = seen(alloc, model, observed) else {
+        return None;
+    };
+    match find_world(alloc, model, &modes, &observed) {
+        Ok(answer) => Some(answer),
+        Err(_) => None,
+    }
+}
+
+/// The first state of these modes that has a world.
+pub fn first_state(alloc: Global, model: &Model, modes: Pairs<'_>) -> Option<State>
+    ensures state { IfSome result (λ s. IsState model.now s.modes) }
+    ensures world { IfSome result (λ s. HasWorld model.now s.modes) }
+{
+    let Some(modes) = modes_of(alloc, model, modes) else {
+        return None;
+    };
+    let Some(nothing) = seen(alloc, model, &[]) else {
+        return None;
+    };
+    match find_world(alloc, model, &modes, &nothing) {
+        Ok(Some(found)) => Some(found.state),
+        _ => None,
+    }
 }
 
 /// The first state of these modes, with a world of it, in which the subject has another value.
-fn counter(
+fn counter_of(
     alloc: Global,
     model: &Model,
-    modes: &[(u16, u8)],
+    modes: Pairs<'_>,
     subject: Subject,
     value: u8,
-) -> Result<Option<Found>, Fail> {
-    let modes = modes_of(alloc, model, modes)?;
-    let formula = is(model, subject, value)?;
-    Ok(find_counter(alloc, model, &modes, &formula)?)
+) -> Option<Option<Found>> {
+    let Some(modes) = modes_of(alloc, model, modes) else {
+        return None;
+    };
+    let Some(formula) = is(model, subject, value) else {
+        return None;
+    };
+    match find_counter(alloc, model, &modes, &formula) {
+        Ok(answer) => Some(answer),
+        Err(_) => None,
+    }
 }
-
-/// Modes of components and values of variables, by their numbers.
-type Pairs<'a> = &'a [(u16, u8)];
 
 /// The numbers of a state's modes and of a world's values.
 type Answer<'a> = (&'a [u8], &'a [u8]);
 
-fn assert_found(
-    rt: &impl Abort,
-    found: Option<Found>,
-    answer: Option<Answer<'_>>,
-) -> Result<(), Fail> {
-    match (found, answer) {
-        (Some(found), Some((modes, values))) => {
-            assert_eq!(rt; found.state.modes.as_slice(), modes, "its state");
-            assert_eq!(rt; found.world.values.as_slice(), values, "its world");
-            Ok(())
-        }
-        (None, None) => Ok(()),
-        _ => Err(Fail::from("found or not")),
+fn is_found(found: &Found, answer: Answer<'_>) -> bool {
+    found.state.modes.as_slice() == answer.0 && found.world.values.as_slice() == answer.1
+}
+
+/// Whether that state and world are found, or none.
+fn is_answer(found: Option<Option<Found>>, answer: Option<Answer<'_>>) -> bool {
+    match found {
+        Some(Some(found)) => match answer {
+            Some(answer) => is_found(&found, answer),
+            None => false,
+        },
+        Some(None) => answer.is_none(),
+        None => false,
     }
 }
 
-/// Asserts the first state and world of some modes, with what is seen, or that there is none.
-fn assert_worlds(
-    rt: &impl Abort,
-    alloc: Global,
-    model: &Model,
-    rows: &[(Pairs<'_>, Pairs<'_>, Option<Answer<'_>>)],
-) -> Result<(), Fail> {
+/// Modes, what is seen, and the first state and world of them, if any.
+type Row<'a> = (Pairs<'a>, Pairs<'a>, Option<Answer<'a>>);
+
+fn are_answers(alloc: Global, model: &Model, rows: &[Row<'_>]) -> bool {
     for row in rows {
-        assert_found(rt, world_of(alloc, model, row.0, row.1)?, row.2)?;
+        if !is_answer(world_of(alloc, model, row.0, row.1), row.2) {
+            return false;
+        }
     }
-    Ok(())
+    true
+}
+
+/// Whether the first states and worlds of the model of this text are as the rows say.
+fn has_worlds(alloc: Global, text: &str, rows: &[Row<'_>]) -> bool {
+    match model_of(alloc, text) {
+        Some(model) => are_answers(alloc, &model, rows),
+        None => false,
+    }
+}
+
+/// The clauses of the model's rules.
+fn rule_clauses(alloc: Global, model: &Model) -> Option<Clauses> {
+    match clauses_of(alloc, model, None, None) {
+        Ok(clauses) => Some(clauses),
+        Err(_) => None,
+    }
+}
+
+fn are_met(alloc: Global, model: &Model, values: &[u8]) -> Option<bool> {
+    match rule_clauses(alloc, model) {
+        Some(clauses) => Some(all_true(&clauses, values)),
+        None => None,
+    }
+}
+
+/// Whether these values of the model's subjects make each clause of its rules true.
+fn rules_hold(alloc: Global, text: &str, values: &[u8]) -> Option<bool> {
+    match model_of(alloc, text) {
+        Some(model) => are_met(alloc, &model, values),
+        None => None,
+    }
 }
 
 #[test]
-fn clauses_say_what_rules_say(rt: HostRuntime) -> Result<(), Fail> {
-    let alloc = rt.alloc();
-    let model = valve_model(alloc)?;
-    let clauses = clauses_of(alloc, &model, None, None)?;
-    assert!(rt; all_true(&clauses, &[0, 1, 1]));
-    assert!(rt; !all_true(&clauses, &[0, 1, 0]));
-    Ok(())
+fn clauses_say_what_rules_say(rt: HostRuntime) {
+    assert!(rt; rules_hold(rt.alloc(), VALVE, &[0, 1, 1]) == Some(true));
+    assert!(rt; rules_hold(rt.alloc(), VALVE, &[0, 1, 0]) == Some(false));
 }
 
 #[test]
-fn worlds_of_the_valve(rt: HostRuntime) -> Result<(), Fail> {
-    let model = valve_model(rt.alloc())?;
-    let rows: [(Pairs<'_>, Pairs<'_>, Option<Answer<'_>>); 5] = [
+fn worlds_of_the_valve(rt: HostRuntime) {
+    let rows: [Row<'_>; 5] = [
         (&[(1, 1)], &[], Some((&[0, 1], &[1]))),
         (&[], &[], Some((&[0, 0], &[0]))),
         (&[], &[(0, 1)], Some((&[0, 1], &[1]))),
         (&[(1, 0)], &[(0, 1)], None),
         (&[], &[(0, 1), (0, 0)], None),
     ];
-    assert_worlds(&rt, rt.alloc(), &model, &rows)
+    assert!(rt; has_worlds(rt.alloc(), VALVE, &rows));
+}
+
+/// Whether the first state of these modes in which the subject has another value, with a world, is the answer.
+fn has_counter(
+    alloc: Global,
+    modes: Pairs<'_>,
+    subject: Subject,
+    value: u8,
+    answer: Option<Answer<'_>>,
+) -> bool {
+    match model_of(alloc, VALVE) {
+        Some(model) => is_answer(counter_of(alloc, &model, modes, subject, value), answer),
+        None => false,
+    }
 }
 
 #[test]
-fn counterexamples_of_the_valve(rt: HostRuntime) -> Result<(), Fail> {
-    let model = valve_model(rt.alloc())?;
-    let found = counter(rt.alloc(), &model, &[(0, 1)], Subject::Component(1), 1)?;
-    assert_found(&rt, found, Some((&[1, 0], &[0])))?;
-    let none = counter(rt.alloc(), &model, &[(1, 1)], Subject::Variable(0), 1)?;
-    assert_found(&rt, none, None)
-}
-
-/// Two components and two variables; `a=x b=x` has no world, and no world has neither `v=y` nor `w=z`.
-pub fn tied_model(alloc: Global) -> Result<Model, Fail> {
-    model_of(
-        alloc,
-        &[
-            "titan 1",
-            "component a = x, y start x",
-            "component b = x, y start x",
-            "var v = x, y, z",
-            "var w = x, y, z",
-            "rule a = y or b = y",
-            "rule v = y or w = z",
-        ],
-    )
+fn counterexamples_of_the_valve(rt: HostRuntime) {
+    let other: Option<Answer<'_>> = Some((&[1, 0], &[0]));
+    assert!(rt; has_counter(rt.alloc(), &[(0, 1)], Subject::Component(1), 1, other));
+    assert!(rt; has_counter(rt.alloc(), &[(1, 1)], Subject::Variable(0), 1, None));
 }
 
 #[test]
-fn ties_are_broken_in_both_orders(rt: HostRuntime) -> Result<(), Fail> {
-    let model = tied_model(rt.alloc())?;
-    let rows: [(Pairs<'_>, Pairs<'_>, Option<Answer<'_>>); 4] = [
+fn ties_are_broken_in_both_orders(rt: HostRuntime) {
+    let rows: [Row<'_>; 4] = [
         (&[], &[], Some((&[0, 1], &[0, 2]))),
         (&[], &[(1, 1)], Some((&[0, 1], &[1, 1]))),
         (&[(1, 0)], &[], Some((&[1, 0], &[0, 2]))),
         (&[(0, 0), (1, 0)], &[], None),
     ];
-    assert_worlds(&rt, rt.alloc(), &model, &rows)
+    assert!(rt; has_worlds(rt.alloc(), TIED, &rows));
 }
 
-/// Asserts the first state and world of these modes, with the same values seen, of the model of these lines.
-fn assert_world_of(
-    rt: &impl Abort,
-    alloc: Global,
-    lines: &[&str],
-    pairs: Pairs<'_>,
-    answer: Answer<'_>,
-) -> Result<(), Fail> {
-    let model = model_of(alloc, lines)?;
-    assert_found(rt, world_of(alloc, &model, pairs, pairs)?, Some(answer))
+/// A model without variables.
+const NO_VARIABLES: &str = "titan 1
+component a = x, y start x
+rule a = y";
+
+#[test]
+fn worlds_of_a_model_without_variables(rt: HostRuntime) {
+    assert!(rt; has_worlds(rt.alloc(), NO_VARIABLES, &[(&[], &[], Some((&[1], &[])))]));
+}
+
+/// A model without rules.
+const NO_RULES: &str = "titan 1
+component a = x, y start x
+var v = x, y";
+
+#[test]
+fn worlds_of_a_model_without_rules(rt: HostRuntime) {
+    let row: Row<'_> = (&[(0, 1)], &[(0, 1)], Some((&[1], &[1])));
+    assert!(rt; has_worlds(rt.alloc(), NO_RULES, &[row]));
 }
 
 #[test]
-fn worlds_of_a_model_without_variables(rt: HostRuntime) -> Result<(), Fail> {
-    let lines = ["titan 1", "component a = x, y start x", "rule a = y"];
-    assert_world_of(&rt, rt.alloc(), &lines, &[], (&[1], &[]))
-}
-
-#[test]
-fn worlds_of_a_model_without_rules(rt: HostRuntime) -> Result<(), Fail> {
-    let lines = ["titan 1", "component a = x, y start x", "var v = x, y"];
-    assert_world_of(&rt, rt.alloc(), &lines, &[(0, 1)], (&[1], &[1]))
-}
-
-#[test]
-fn worlds_of_a_model_without_anything(rt: HostRuntime) -> Result<(), Fail> {
-    assert_world_of(&rt, rt.alloc(), &["titan 1"], &[], (&[], &[]))
+fn worlds_of_a_model_without_anything(rt: HostRuntime) {
+    assert!(rt; has_worlds(rt.alloc(), "titan 1", &[(&[], &[], Some((&[], &[])))]));
 }
