@@ -1,5 +1,5 @@
-//! Calls of single layers that no run of the program shows, with enough memory. This crate has no code of its own: a caller
-//! gets its tests alone. What goes from a text to a text is a row of the crate `rows`.
+//! Calls of single layers that no run of the program shows, with enough memory, as tests; and a caller of the top call that meets no
+//! fault. What goes from a text to a text is a row of the crate `rows`.
 #![tactic(auto)]
 
 #[cfg(test)]
@@ -14,10 +14,12 @@ mod compile;
 mod conflicts;
 #[cfg(test)]
 mod estimates;
+mod limits;
 #[cfg(test)]
 mod parts;
 #[cfg(test)]
 mod plans;
+mod steady;
 #[cfg(test)]
 mod tabled;
 #[cfg(test)]
@@ -26,3 +28,6 @@ mod text;
 mod wire;
 #[cfg(test)]
 mod worlds;
+
+pub use limits::line_limits;
+pub use steady::run_steady;

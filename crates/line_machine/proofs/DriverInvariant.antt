@@ -12,18 +12,18 @@ use Rattle.line_machine.specs.declared.buffer.Found.TheVariants.{Line, Long, Las
 use Rattle.line_machine.specs.Sent.{Sent, SentFront}
 use Rattle.line_machine.specs.SentCut.{SentCut}
 use Rattle.line_machine.specs.Runs.{length_code, TransitionByCode, Transition, MayPrint, Runs, IsSure, Ends, MayEnd, Nothing, ByLine, ByEnd, IsText}
-use Rattle.line_machine.specs.Driven.{Prints, BySure, ByLines, ByText, HasRoomFor, OutputBy, Driven}
+use Rattle.line_machine.specs.Driven.{Prints, BySure, ByLines, ByText, HasRoomFor, OutputBy}
 use Rattle.line_machine.specs.declared.send.Cut.{Cut}
 use Rattle.line_machine.specs.declared.send.Cut.TheVariants.{ReadFault, WriteFault, Memory}
 use Rattle.line_machine.specs.declared.machine.End.{End}
 use Rattle.line_machine.specs.declared.machine.End.TheVariants.{Refused}
 use Rattle.line_machine.specs.declared.machine.Machine.{Ghosts}
 use Rattle.line_machine.proofs.SureTextBegins.{stays_decided}
-use Rattle.line_machine.proofs.SentPieces.{append_known-nil, less_none, write_on, less_on, room_on}
+use Rattle.line_machine.proofs.SentPieces.{write_on, less_on, room_on}
 use Rattle.line_machine.specs.Call.{Call, bytes_of, Notes, AllCame}
 use Rattle.line_machine.specs.Calls.{InTurn, DrivenInTurn}
-use Rattle.line_machine.proofs.Calls.{prepend_twice, prepend_nothing, notes_none, notes_twice, bytes_of-append, all_came-append, alive}
-use Rattle.line_machine.proofs.BetweenLines.{IsAt, at_first, line_taken, next_at, waits, long_taken, so_far, last_run, last_closed}
+use Rattle.line_machine.proofs.Calls.{prepend_twice, notes_twice, bytes_of-append, all_came-append, alive}
+use Rattle.line_machine.proofs.BetweenLines.{IsAt, line_taken, next_at, waits, long_taken, so_far, last_run, last_closed}
 
 -- what was found, by its kind
 module _ (limit : ℕ) (held : List ℕ) (left : Option (List ℕ)) (f : Found) (h : IsFound f limit held left) where
@@ -88,33 +88,21 @@ module _ {S : Type 0} (m : Ghosts S) (first : S) (left0 out0 : Option (List ℕ)
     pub turns : InTurn m first out0 [] asked
     pub live : AllCame asked ⊎ over
 
-  pub starts : (calls0 : Option (List Call)) → IsDriving calls0 ⊥ 0 first [] left0 out0 space0 calls0
-  starts calls0 = record { given = []; text = []; at = at_first m first; moved = prepend_nothing left0; written = sym (append_known-nil out0); less = less_none space0; asked = []; noted = notes_none calls0; bytes = refl; turns = tt; live = inl tt }
-
-module _ {S : Type 0} {m : Ghosts S} {first : S} {left0 out0 : Option (List ℕ)} where
+module _ {S : Type 0} {m : Ghosts S} {first : S} (out0 : Option (List ℕ)) where
   -- a prefix of a text that may be printed behind what was printed
-  front_on : (c : Cut) (P : List ℕ → Type 0) (taken a : List ℕ) (left out out' : Option (List ℕ)) → left0 ≡ prepend_known taken left → out ≡ append_known out0 a → ((x : List ℕ) → P x → Prints m first taken left (a ++ x))
-      → SentFront P out out' → (SentFront (Prints m first taken left) out0 out' → OutputBy m first taken left out0 out' (Err c)) → Driven m first left0 left out0 out' (Err c)
-  front_on c P taken a left out out' moved e then h says = record {
-    taken = taken;
-    moved = moved;
-    says = says (record { text = a ++ h.text; rest = h.rest; is = subst (Prints m first taken left) (sym (append_assoc a h.text h.rest)) (then (h.text ++ h.rest) h.is); written = write_on out0 out out' a h.text e h.written });
-  }
+  front_on : (P : List ℕ → Type 0) (taken a : List ℕ) (left out out' : Option (List ℕ)) → out ≡ append_known out0 a → ((x : List ℕ) → P x → Prints m first taken left (a ++ x))
+      → SentFront P out out' → SentFront (Prints m first taken left) out0 out'
+  front_on P taken a left out out' e then h =
+      record { text = a ++ h.text; rest = h.rest; is = subst (Prints m first taken left) (sym (append_assoc a h.text h.rest)) (then (h.text ++ h.rest) h.is); written = write_on out0 out out' a h.text e h.written }
 
-  -- a text that may be printed behind what was printed, and was cut short
-  cut_on : (c : Cut) (P : List ℕ → Type 0) (taken a : List ℕ) (left out out' : Option (List ℕ)) → left0 ≡ prepend_known taken left → out ≡ append_known out0 a → Prints m first taken left a → ((x : List ℕ) → P x → Prints m first taken left (a ++ x))
-      → SentCut c P out out' → Driven m first left0 left out0 out' (Err c)
-  cut_on ReadFault P taken a left out out' moved e now then h = absurd h
-  cut_on WriteFault P taken a left out out' moved e now then h = record {
-    taken = taken;
-    moved = moved;
-    says = record { text = a ++ h.text; rest = h.rest; is = subst (Prints m first taken left) (sym (append_assoc a h.text h.rest)) (then (h.text ++ h.rest) h.is); written = write_on out0 out out' a h.text e h.written };
-  }
-  cut_on Memory P taken a left out out' moved e now then h = record {
-    taken = taken;
-    moved = moved;
-    says = record { text = a; rest = []; is = subst (Prints m first taken left) (sym (append-nil a)) now; written = h ∙ e };
-  }
+  -- what is said of a text that may be printed behind what was printed, and was cut short
+  cut_says : (c : Cut) (P : List ℕ → Type 0) (taken a : List ℕ) (left out out' : Option (List ℕ)) → out ≡ append_known out0 a → Prints m first taken left a → ((x : List ℕ) → P x → Prints m first taken left (a ++ x))
+      → SentCut c P out out' → OutputBy m first taken left out0 out' (Err c)
+  cut_says ReadFault P taken a left out out' e now then h = absurd h
+  cut_says WriteFault P taken a left out out' e now then h =
+      record { text = a ++ h.text; rest = h.rest; is = subst (Prints m first taken left) (sym (append_assoc a h.text h.rest)) (then (h.text ++ h.rest) h.is); written = write_on out0 out out' a h.text e h.written }
+  cut_says Memory P taken a left out out' e now then h =
+      record { text = a; rest = []; is = subst (Prints m first taken left) (sym (append-nil a)) now; written = h ∙ e }
 
 module _ {S : Type 0} {m : Ghosts S} {first : S} {left0 out0 : Option (List ℕ)} {space0 : Option ℕ} where
   pub came : {calls0 calls calls' : Option (List Call)} {over : Type 0} {limit n : ℕ} {s : S} {held held' : List ℕ} {left left' out : Option (List ℕ)} {space : Option ℕ} → IsDriving m first left0 out0 space0 calls0 ⊥ n s held left out space calls
@@ -140,8 +128,12 @@ module _ {S : Type 0} {m : Ghosts S} {first : S} {left0 out0 : Option (List ℕ)
   goes_on_line {calls0} {calls} {n} {k} {s} {held} {left} {out} {space} f e d = subst (λ v. IsDriving m first left0 out0 space0 calls0 (IsOver (Ok v)) n s held left out space calls) e d
 
   -- the driver asked in turn, however it ends
-  pub in_turn : {calls0 calls : Option (List Call)} {over : Type 0} {n : ℕ} {s : S} {held : List ℕ} {left out out' : Option (List ℕ)} {space : Option ℕ} (r : Result End Cut) → IsDriving m first left0 out0 space0 calls0 over n s held left out space calls → Driven m first left0 left out0 out' r → DrivenInTurn m first left0 left out0 out' calls0 calls r
-  in_turn {calls0} {calls} {over} {n} {s} {held} {left} r d e = record { driven = e; order = record { asked = d.asked; noted = d.noted; moved = d.moved ∙ ap (λ (l : List ℕ). prepend_known l left) (sym d.bytes); turns = d.turns } }
+  pub in_turn : {calls0 calls : Option (List Call)} {over : Type 0} {n : ℕ} {s : S} {held : List ℕ} {left out out' : Option (List ℕ)} {space : Option ℕ} (r : Result End Cut) (d : IsDriving m first left0 out0 space0 calls0 over n s held left out space calls) → OutputBy m first (d.given ++ held) left out0 out' r → DrivenInTurn m first left0 left out0 out' calls0 calls r
+  in_turn {calls0} {calls} {over} {n} {s} {held} {left} r d says = record {
+    driven = record { taken = d.given ++ held; moved = d.moved; says = says };
+    order = record { asked = d.asked; noted = d.noted; moved = d.moved ∙ ap (λ (l : List ℕ). prepend_known l left) (sym d.bytes); turns = d.turns };
+    came = sym d.bytes;
+  }
 
   module _ {calls0 calls : Option (List Call)} {over : Type 0} {n : ℕ} {s : S} {held : List ℕ} {left out : Option (List ℕ)} {space : Option ℕ} (d : IsDriving m first left0 out0 space0 calls0 over n s held left out space calls) where
     now_prints : Prints m first (d.given ++ held) left d.text
@@ -158,18 +150,14 @@ module _ {S : Type 0} {m : Ghosts S} {first : S} {left0 out0 : Option (List ℕ)
       pub line_room : HasRoomFor m first left0 space0 → (x : List ℕ) → MayPrint m s (n + 1) l x → HasRoom space (length x)
       line_room room x h = room_on space0 space d.text x d.less (room (d.given ++ held) (d.text ++ x) left d.moved (line_prints x h))
 
-      pub line_cut : (c : Cut) {out' : Option (List ℕ)} → SentCut c (MayPrint m s (n + 1) l) out out' → Driven m first left0 left out0 out' (Err c)
-      line_cut c {out'} h = cut_on c (MayPrint m s (n + 1) l) (d.given ++ held) d.text left out out' d.moved d.written now_prints line_prints h
+      pub line_cut : (c : Cut) (out' : Option (List ℕ)) → SentCut c (MayPrint m s (n + 1) l) out out' → OutputBy m first (d.given ++ held) left out0 out' (Err c)
+      line_cut c out' h = cut_says out0 c (MayPrint m s (n + 1) l) (d.given ++ held) d.text left out out' d.written now_prints line_prints h
 
-      pub line_stops : (e : End) {out' : Option (List ℕ)} {space' : Option ℕ} → Sent (Transition m s (n + 1) l (Stops e)) out out' space space' → Driven m first left0 left out0 out' (Ok e)
+      pub line_stops : (e : End) {out' : Option (List ℕ)} {space' : Option ℕ} → Sent (Transition m s (n + 1) l (Stops e)) out out' space space' → OutputBy m first (d.given ++ held) left out0 out' (Ok e)
       line_stops e {out'} {space'} h = record {
-        taken = d.given ++ held;
-        moved = d.moved;
-        says = record {
-          text = d.text ++ h.text;
-          written = write_on out0 out out' d.text h.text d.written h.written;
-          whole = inr (subst (λ (b : List ℕ). IsSure m first b (Stops e) (d.text ++ h.text)) rest_joined (stays_decided m first (d.given ++ take (k + 1) held) (drop (k + 1) held) (d.text ++ h.text) e (line_taken m first d.given held n s d.text d.at k (Stops e) h.text line (subst (λ y. Transition m s (n + 1) y (Stops e) h.text) is h.is))));
-        };
+        text = d.text ++ h.text;
+        written = write_on out0 out out' d.text h.text d.written h.written;
+        whole = inr (subst (λ (b : List ℕ). IsSure m first b (Stops e) (d.text ++ h.text)) rest_joined (stays_decided m first (d.given ++ take (k + 1) held) (drop (k + 1) held) (d.text ++ h.text) e (line_taken m first d.given held n s d.text d.at k (Stops e) h.text line (subst (λ y. Transition m s (n + 1) y (Stops e) h.text) is h.is))));
       }
 
       pub line_goes_on : (t : S) {out' : Option (List ℕ)} {space' : Option ℕ} → Sent (Transition m s (n + 1) l (GoesOn t)) out out' space space' → IsDriving m first left0 out0 space0 calls0 over (n + 1) t (drop (k + 1) held) left out' space' calls
@@ -190,7 +178,7 @@ module _ {S : Type 0} {m : Ghosts S} {first : S} {left0 out0 : Option (List ℕ)
       said_as : (t : S) {out' : Option (List ℕ)} {space' : Option ℕ} (o w : Option End) → o ≡ w → Sent (Transition m s (n + 1) l (next_of t o)) out out' space space' → Sent (Transition m s (n + 1) l (next_of t w)) out out' space space'
       said_as t {out'} {space'} o w e h = subst (λ v. Sent (Transition m s (n + 1) l (next_of t v)) out out' space space') e h
 
-      pub line_ends : (t : S) {out' : Option (List ℕ)} {space' : Option ℕ} (o : Option End) (e : End) → o ≡ Some e → Sent (Transition m s (n + 1) l (next_of t o)) out out' space space' → Driven m first left0 left out0 out' (Ok e)
+      pub line_ends : (t : S) {out' : Option (List ℕ)} {space' : Option ℕ} (o : Option End) (e : End) → o ≡ Some e → Sent (Transition m s (n + 1) l (next_of t o)) out out' space space' → OutputBy m first (d.given ++ held) left out0 out' (Ok e)
       line_ends t o e is_some h = line_stops e (said_as t o (Some e) is_some h)
 
       pub line_next : (t : S) {out' : Option (List ℕ)} {space' : Option ℕ} (o : Option End) → o ≡ None → Sent (Transition m s (n + 1) l (next_of t o)) out out' space space' → IsDriving m first left0 out0 space0 calls0 over (n + 1) t (drop (k + 1) held) left out' space' calls
@@ -210,22 +198,18 @@ module _ {S : Type 0} {m : Ghosts S} {first : S} {left0 out0 : Option (List ℕ)
       pub long_room : HasRoomFor m first left0 space0 → HasRoom space (length (m.refusal s (n + 1) code))
       long_room room = room_on space0 space d.text (m.refusal s (n + 1) code) d.less (room (d.given ++ held) (d.text ++ m.refusal s (n + 1) code) left d.moved (long_prints _ refl))
 
-      pub long_cut : (c : Cut) {out' : Option (List ℕ)} → SentCut c (λ x. x ≡ m.refusal s (n + 1) code) out out' → Driven m first left0 left out0 out' (Err c)
-      long_cut c {out'} h = cut_on c (λ x. x ≡ m.refusal s (n + 1) code) (d.given ++ held) d.text left out out' d.moved d.written now_prints long_prints h
+      pub long_cut : (c : Cut) (out' : Option (List ℕ)) → SentCut c (λ x. x ≡ m.refusal s (n + 1) code) out out' → OutputBy m first (d.given ++ held) left out0 out' (Err c)
+      long_cut c out' h = cut_says out0 c (λ x. x ≡ m.refusal s (n + 1) code) (d.given ++ held) d.text left out out' d.written now_prints long_prints h
 
-      pub long_refused : {out' : Option (List ℕ)} {space' : Option ℕ} → Sent (λ x. x ≡ m.refusal s (n + 1) code) out out' space space' → Driven m first left0 left out0 out' (Ok Refused)
-      long_refused {out'} {space'} h = record {
-        taken = d.given ++ held;
-        moved = d.moved;
-        says = record { text = d.text ++ h.text; written = write_on out0 out out' d.text h.text d.written h.written; whole = inr (long_sure h.text h.is) };
-      }
+      pub long_refused : {out' : Option (List ℕ)} {space' : Option ℕ} → Sent (λ x. x ≡ m.refusal s (n + 1) code) out out' space space' → OutputBy m first (d.given ++ held) left out0 out' (Ok Refused)
+      long_refused {out'} {space'} h = record { text = d.text ++ h.text; written = write_on out0 out out' d.text h.text d.written h.written; whole = inr (long_sure h.text h.is) }
 
     -- ---- no bytes come
-    pub starved : HasNoLf held → (0 < length held → length_code (m.limit_of s) (n + 1) (length held) ≡ None) → Driven m first left0 left out0 out (Err ReadFault)
-    starved clean h = record { taken = d.given ++ held; moved = d.moved; says = record { state = s; text = d.text; sure = waits m first d.given held n s d.text d.at clean h; written = d.written } }
+    pub starved : HasNoLf held → (0 < length held → length_code (m.limit_of s) (n + 1) (length held) ≡ None) → OutputBy m first (d.given ++ held) left out0 out (Err ReadFault)
+    starved clean h = record { state = s; text = d.text; sure = waits m first d.given held n s d.text d.at clean h; written = d.written }
 
-    pub no_memory : Driven m first left0 left out0 out (Err Memory)
-    no_memory = record { taken = d.given ++ held; moved = d.moved; says = record { text = d.text; rest = []; is = subst (Prints m first (d.given ++ held) left) (sym (append-nil d.text)) now_prints; written = d.written } }
+    pub no_memory : OutputBy m first (d.given ++ held) left out0 out (Err Memory)
+    no_memory = record { text = d.text; rest = []; is = subst (Prints m first (d.given ++ held) left) (sym (append-nil d.text)) now_prints; written = d.written }
 
     -- ---- the last bytes
     module _ (clean : HasNoLf held) (end : IsAtEnd left) {l : List ℕ} (is : l ≡ held) where
@@ -240,15 +224,12 @@ module _ {S : Type 0} {m : Ghosts S} {first : S} {left0 out0 : Option (List ℕ)
       pub last_room : HasRoomFor m first left0 space0 → (x : List ℕ) → MayEnd m s n l x → HasRoom space (length x)
       last_room room x h = room_on space0 space d.text x d.less (room (d.given ++ held) (d.text ++ x) left d.moved (last_prints x h))
 
-      last_cut : (c : Cut) {out' : Option (List ℕ)} → (c ≡ ReadFault → ⊥) → SentFront (MayEnd m s n l) out out' → Driven m first left0 left out0 out' (Err c)
+      last_cut : (c : Cut) {out' : Option (List ℕ)} → (c ≡ ReadFault → ⊥) → SentFront (MayEnd m s n l) out out' → OutputBy m first (d.given ++ held) left out0 out' (Err c)
       last_cut ReadFault {out'} other h = absurd (other refl)
-      last_cut WriteFault {out'} other h = front_on WriteFault (MayEnd m s n l) (d.given ++ held) d.text left out out' d.moved d.written last_prints h (λ f. f)
-      last_cut Memory {out'} other h = front_on Memory (MayEnd m s n l) (d.given ++ held) d.text left out out' d.moved d.written last_prints h (λ f. f)
+      last_cut WriteFault {out'} other h = front_on out0 (MayEnd m s n l) (d.given ++ held) d.text left out out' d.written last_prints h
+      last_cut Memory {out'} other h = front_on out0 (MayEnd m s n l) (d.given ++ held) d.text left out out' d.written last_prints h
 
-      pub last_ends : (r : Result End Cut) {out' : Option (List ℕ)} (space' : Option ℕ) → IfOk r (λ e. Sent (Ends m s n l e) out out' space space') → IfErr r (λ c. c ≡ ReadFault → ⊥) → OnErr r (SentFront (MayEnd m s n l) out out') → Driven m first left0 left out0 out' r
-      last_ends (Ok e) {out'} space' h other front = record {
-        taken = d.given ++ held;
-        moved = d.moved;
-        says = record { text = d.text ++ h.text; written = write_on out0 out out' d.text h.text d.written h.written; whole = inl (last_text e h.text h.is, end) };
-      }
-      last_ends (Err c) {out'} space' h other front = last_cut c other front
+      pub last_ends : (r : Result End Cut) (out' : Option (List ℕ)) (space' : Option ℕ) → IfOk r (λ e. Sent (Ends m s n l e) out out' space space') → IfErr r (λ c. c ≡ ReadFault → ⊥) → OnErr r (SentFront (MayEnd m s n l) out out') → OutputBy m first (d.given ++ held) left out0 out' r
+      last_ends (Ok e) out' space' h other front =
+          record { text = d.text ++ h.text; written = write_on out0 out out' d.text h.text d.written h.written; whole = inl (last_text e h.text h.is, end) }
+      last_ends (Err c) out' space' h other front = last_cut c other front

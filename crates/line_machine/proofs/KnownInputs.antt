@@ -30,7 +30,8 @@ told : (input a b : List ℕ) → Some input ≡ Some (a ++ b) → a ++ b ≡ in
 told input a b e = cc
 
 module _ {S : Type 0} (m : Ghosts S) (first : S) (fixed : IsFixed m) (out out' : Option (List ℕ)) where
-  prints_begins : (taken left input : List ℕ) (e : End) (x y : List ℕ) → taken ++ left ≡ input → Prints m first taken (Some left) x → IsText m first input e y → IsPrefix x y
+  -- what may be printed is a front of each text of the input
+  pub prints_begins : (taken left input : List ℕ) (e : End) (x y : List ℕ) → taken ++ left ≡ input → Prints m first taken (Some left) x → IsText m first input e y → IsPrefix x y
   prints_begins taken left input e x y is (BySure some more t parts sure) q =
       let whole : some ++ (more ++ left) ≡ input = sym (append_assoc some more left) ∙ ap (λ (l : List ℕ). l ++ left) parts ∙ is in
       sure_begins_text m first fixed some (more ++ left) x y t e sure (subst (λ b. IsText m first b e y) (sym whole) q)

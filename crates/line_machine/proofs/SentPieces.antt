@@ -1,9 +1,9 @@
 -- A text that is sent in pieces.
 use Rattle.std.proofs.Common.{◌≡◌, ℕ, ◌+◌, ◌-◌, ◌≤◌, List, [], ◌++◌, length, take, drop, Option, Some, None, refl, sym, ap, ◌∙◌, append_assoc, append-nil, arith, length-append}
 use Rattle.std.specs.Io.KnownBytes.{append_known}
-use Rattle.std.proofs.lemmas.List.{take-append-drop, take_all, nil_from_length}
+use Rattle.std.proofs.lemmas.List.{take-append-drop, take_all}
 use Rattle.titan_wire.specs.Wire.{HasRoom, less_space}
-use Rattle.line_machine.specs.Sent.{Sent, SentFront}
+use Rattle.line_machine.specs.Sent.{SentFront}
 
 pub append_known-append : (o : Option (List ℕ)) (a b : List ℕ) → append_known (append_known o a) b ≡ append_known o (a ++ b)
 append_known-append None a b = refl
@@ -48,9 +48,6 @@ pub record IsSending (text rest : List ℕ) (out now : Option (List ℕ)) (first
   pub written : now ≡ append_known out front
   pub less : space ≡ less_space first (length front)
 
-pub begins : (text : List ℕ) (out : Option (List ℕ)) (first : Option ℕ) → IsSending text text out out first first
-begins text out first = record { front = []; parts = refl; written = sym (append_known-nil out); less = less_none first }
-
 module _ {text rest : List ℕ} {out now : Option (List ℕ)} {first space : Option ℕ} (s : IsSending text rest out now first space) (piece after : List ℕ) (parts : piece ++ after ≡ rest) where
   whole : (s.front ++ piece) ++ after ≡ text
   whole = append_assoc s.front piece after ∙ ap (λ (l : List ℕ). s.front ++ l) parts ∙ s.parts
@@ -73,6 +70,3 @@ module _ {text rest : List ℕ} {out now : Option (List ℕ)} {first space : Opt
     is = append_assoc s.front (take k piece) (drop k piece ++ after) ∙ ap (λ (l : List ℕ). s.front ++ l) (sym (append_assoc (take k piece) (drop k piece) after) ∙ ap (λ (l : List ℕ). l ++ after) (take-append-drop k piece) ∙ parts) ∙ s.parts;
     written = e ∙ ap (λ (o : Option (List ℕ)). append_known o (take k piece)) s.written ∙ append_known-append out s.front (take k piece);
   }
-
-pub all_sent : {text rest : List ℕ} {out now : Option (List ℕ)} {first space : Option ℕ} → IsSending text rest out now first space → length rest ≡ 0 → Sent (λ x. x ≡ text) out now first space
-all_sent {text} {rest} s e = record { text = s.front; is = sym (append-nil s.front) ∙ ap (λ (l : List ℕ). s.front ++ l) (sym (nil_from_length rest e)) ∙ s.parts; written = s.written; less = s.less }

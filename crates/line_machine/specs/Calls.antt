@@ -19,7 +19,8 @@ pub record AsksInTurn {S : Type 0} (m : Ghosts S) (first : S) (left left' out : 
   pub moved : left ≡ prepend_known (bytes_of asked) left'
   pub turns : InTurn m first out [] asked
 
--- what the driver did, and that it asked in turn
+-- what the driver did, that it asked in turn, and that what came is what it took
 pub record DrivenInTurn {S : Type 0} (m : Ghosts S) (first : S) (left left' out out' : Option (List ℕ)) (calls calls' : Option (List Call)) (result : Result End Cut) : Type 0 where
   pub driven : Driven m first left left' out out' result
   pub order : AsksInTurn m first left left' out calls calls'
+  pub came : driven.taken ≡ bytes_of order.asked

@@ -3,17 +3,17 @@ ghost use Rattle.std.specs.Prelude.{◌≡◌, ◌+◌, ◌<◌, ◌≤◌, ℕ,
 ghost use Rattle.titan_wire.specs.Wire.{Rose};
 ghost use Rattle.line_machine.specs.Runs.{length_code, IsText};
 ghost use Rattle.line_machine.specs.declared.machine.End.{End};
-ghost use Rattle.line_machine.specs.Calls.{AsksInTurn, DrivenInTurn};
+ghost use Rattle.line_machine.specs.Calls.{DrivenInTurn};
 ghost use Rattle.line_machine.specs.Driven.{HasRoomFor};
 ghost use Rattle.line_machine.specs.KnownInput.{Streamed, OutputFor};
 
 use crate::buffer::{FillStop, Found, LineBuffer};
-use crate::intake::{Intake, Unwatched};
+use crate::intake::Intake;
 use crate::line::{refuse, take_last, take_line};
 use crate::machine::{End, LONG_LINE, MAX_LINES, Machine, TOO_MANY_LINES};
 use crate::send::Cut;
 use std::alloc::Global;
-use titan_wire::{Sink, Source};
+use titan_wire::Sink;
 
 /// The most bytes of the line behind so many lines, and the code that it has with more.
 #[tactic(auto, using(crate::proofs::LengthCodes::long_code, crate::proofs::LengthCodes::short_code, crate::proofs::LengthCodes::many_code))]
@@ -30,14 +30,15 @@ fn next_limit<M: Machine>(machine: &M, count: u64) -> (usize, u8)
     }
 }
 
-/// The loop of `drive_by`.
+/// The loop of `drive`.
 fn drive_lines<M: Machine, S, K: Sink, I: Intake<S, K>>(
     alloc: Global,
     machine: &mut M,
     source: &mut S,
     sink: &mut K,
 ) -> Result<End, Cut>
-    requires { HasRoomFor M.Machine machine.old (I.left source.old) (K.space sink.old) }
+    requires room { HasRoomFor M.Machine machine.old (I.left source.old) (K.space sink.old) }
+    requires first { M.awaits machine.old 1 }
     ensures driven { DrivenInTurn M.Machine machine.old (I.left source.old) (I.left source.new)
         (K.written sink.old) (K.written sink.new) (I.calls source.old) (I.calls source.new) result }
     ensures read { IsErrOf result Cut.ReadFault → Rose (I.faults source.old) (I.faults source.new) }
@@ -77,23 +78,25 @@ fn drive_lines<M: Machine, S, K: Sink, I: Intake<S, K>>(
 }
 
 /// Hands the lines of a source to the machine, one after the other, and what it says of each to the sink before the next one is
-/// read. The source is asked by an intake, so that the order of reads and writes can be said.
-pub fn drive_by<M: Machine, S, K: Sink, I: Intake<S, K>>(
+/// read. The source is asked by an intake, so that the order of reads and writes can be said; `Unwatched` asks any source by itself.
+pub fn drive<M: Machine, S, K: Sink, I: Intake<S, K>>(
     alloc: Global,
     machine: &mut M,
     source: &mut S,
     sink: &mut K,
 ) -> Result<End, Cut>
-    requires { HasRoomFor M.Machine machine.old (I.left source.old) (K.space sink.old) }
+    requires room { HasRoomFor M.Machine machine.old (I.left source.old) (K.space sink.old) }
+    requires first { M.awaits machine.old 1 }
 
-    // Over every source: the bytes that were taken, what the machine says of them, and what of it was written.
+    // Over every source: some bytes, those that were taken where they are known, what the machine says of them, and what of it was
+    // written.
     ensures streamed { Streamed M.Machine machine.old (I.left source.old) (I.left source.new)
         (K.written sink.old) (K.written sink.new) result }
 
-    // At each call of the source all that the bytes taken decide had been written, and that is no end. After a call that brings
-    // nothing there is no other.
-    ensures order { AsksInTurn M.Machine machine.old (I.left source.old) (I.left source.new)
-        (K.written sink.old) (I.calls source.old) (I.calls source.new) }
+    // Where the intake notes its calls, those bytes are what they brought. At each call all that the bytes so far decide had been
+    // written, and that is no end; after a call that brings nothing there is no other.
+    ensures order { DrivenInTurn M.Machine machine.old (I.left source.old) (I.left source.new)
+        (K.written sink.old) (K.written sink.new) (I.calls source.old) (I.calls source.new) result }
 
     // Over a source whose bytes are known: the whole text of the input, or a prefix of it.
     ensures text { IfSome (I.left source.old) (λ input. OutputFor M.Machine machine.old input
@@ -112,36 +115,4 @@ pub fn drive_by<M: Machine, S, K: Sink, I: Intake<S, K>>(
         ¬ (Rose (K.faults sink.old) (K.faults sink.new)) → IfErr result (λ c. c ≡ Cut.Memory) }
 {
     drive_lines::<M, S, K, I>(alloc, machine, source, sink)
-}
-
-/// `drive_by` over a source by itself.
-pub fn drive<M: Machine, S: Source, K: Sink>(
-    alloc: Global,
-    machine: &mut M,
-    source: &mut S,
-    sink: &mut K,
-) -> Result<End, Cut>
-    requires { HasRoomFor M.Machine machine.old (S.left source.old) (K.space sink.old) }
-
-    // Over every source: the bytes that were taken, what the machine says of them, and what of it was written.
-    ensures streamed { Streamed M.Machine machine.old (S.left source.old) (S.left source.new)
-        (K.written sink.old) (K.written sink.new) result }
-
-    // Over a source whose bytes are known: the whole text of the input, or a prefix of it.
-    ensures text { IfSome (S.left source.old) (λ input. OutputFor M.Machine machine.old input
-        (K.written sink.old) (K.written sink.new) result) }
-
-    // An answer without a fault is the end of each text of the input.
-    ensures ends { IfSome (S.left source.old) (λ input. (e : End) (text : List ℕ) →
-        IsText M.Machine machine.old input e text → IfOk result (λ f. f ≡ e)) }
-
-    // Each fault has its cause.
-    ensures read { IsErrOf result Cut.ReadFault → Rose (S.faults source.old) (S.faults source.new) }
-    ensures write { IsErrOf result Cut.WriteFault → Rose (K.faults sink.old) (K.faults sink.new) }
-
-    // Where no fault rose, it comes to the end, or memory ran out.
-    ensures complete { ¬ (Rose (S.faults source.old) (S.faults source.new)) →
-        ¬ (Rose (K.faults sink.old) (K.faults sink.new)) → IfErr result (λ c. c ≡ Cut.Memory) }
-{
-    drive_by::<M, S, K, Unwatched>(alloc, machine, source, sink)
 }

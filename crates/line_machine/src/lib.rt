@@ -11,7 +11,7 @@ mod line;
 mod machine;
 mod send;
 
-pub use driver::{drive, drive_by};
+pub use driver::drive;
 pub use intake::{Intake, Unwatched};
 pub use laws::sure_text_laws;
 pub use machine::{End, LONG_LINE, MAX_LINES, Machine, Said, TOO_MANY_LINES};

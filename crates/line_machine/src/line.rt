@@ -1,5 +1,5 @@
 //! One turn of the driver: a line, the refusal of a line, or the end of the input, with what is printed for it.
-ghost use Rattle.std.specs.Prelude.{◌≡◌, ◌≢◌, ◌≤◌, ◌<◌, ◌^◌, ℕ, List, length, option_map, IfOk, IfErr, IfNone, OnErr, IsErrOf};
+ghost use Rattle.std.specs.Prelude.{◌≡◌, ◌≢◌, ◌≤◌, ◌<◌, ◌+◌, ◌^◌, ℕ, List, length, None, option_map, IfOk, IfErr, IfNone, OnErr, IsErrOf};
 ghost use Rattle.titan_wire.specs.Wire.{Rose, HasRoom};
 ghost use Rattle.line_machine.specs.Next.{Next, next_of};
 ghost use Rattle.line_machine.specs.Sent.{Sent, SentFront};
@@ -55,11 +55,13 @@ pub fn take_line<M: Machine, K: Sink>(
     line: &[u8],
     sink: &mut K,
 ) -> Result<Option<End>, Cut>
-    requires { (text : List ℕ) → MayPrint M.Machine machine.old number line.now text →
+    requires room { (text : List ℕ) → MayPrint M.Machine machine.old number line.now text →
         HasRoom (K.space sink.old) (length text) }
+    requires turn { M.awaits machine.old number }
     ensures ok { IfOk result (λ end. Sent (Transition M.Machine machine.old number line.now
         (next_of machine.new end)) (K.written sink.old) (K.written sink.new) (K.space sink.old)
         (K.space sink.new)) }
+    ensures turn { IfOk result (λ end. end ≡ None → M.awaits machine.new (number + 1)) }
     ensures cut { IfErr result (λ c. SentCut c (MayPrint M.Machine machine.old number line.now)
         (K.written sink.old) (K.written sink.new)) }
     ensures later { K.faults sink.old ≤ K.faults sink.new }
@@ -115,6 +117,7 @@ pub fn take_last<M: Machine, K: Sink>(
     sink: &mut K,
 ) -> Result<End, Cut>
     requires few { count ≤ MAX_LINES }
+    requires turn { M.awaits machine.old (count + 1) }
     requires room { (text : List ℕ) → MayEnd M.Machine machine.old count tail.now text →
         HasRoom (K.space sink.old) (length text) }
     ensures ok { IfOk result (λ e. Sent (Ends M.Machine machine.old count tail.now e)

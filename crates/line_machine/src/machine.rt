@@ -1,5 +1,5 @@
 //! A form of words as a transducer over lines: a state machine that prints at each step (a Mealy machine).
-ghost use Rattle.std.specs.Prelude.{◌≡◌, ◌≤◌, ℕ, List, length, IfOk};
+ghost use Rattle.std.specs.Prelude.{◌≡◌, ◌≤◌, ◌+◌, ℕ, List, length, None, IfOk};
 ghost use Rattle.line_machine.specs.Next.{Next, next_of};
 
 use std::alloc::{AllocError, Global};
@@ -7,7 +7,7 @@ use std::alloc::{AllocError, Global};
 /// How a program ends that meets no fault.
 #[derive(Clone, Copy, Debug, PartialEq, Eq)]
 pub enum End {
-    /// The input was read to its end.
+    /// The form of words came to its end, and the whole text went out.
     Ended,
     /// A printed trace was found wrong.
     Rejected,
@@ -47,6 +47,10 @@ pub trait Machine {
     /// In this state, behind so many lines, the end of the input ends the program so, and prints this.
     ghost closes: { Self → ℕ → End → List ℕ → Type 0 };
 
+    /// In this state the line of this number may come next. A machine that counts something a line tells here that so few lines
+    /// can't bring it past its greatest number.
+    ghost awaits: { Self → ℕ → Type 0 };
+
     /// The most bytes of the next line.
     fn limit(&self) -> usize
         ensures { result ≡ limit_of self.now };
@@ -59,8 +63,10 @@ pub trait Machine {
     fn step(&mut self, alloc: Global, number: u64, line: &[u8]) -> Result<Said, AllocError>
         requires few { number ≤ MAX_LINES }
         requires short { length line.now ≤ limit_of self.old }
-        ensures { IfOk result (λ said. steps self.old number line.now (next_of self.new said.end)
-            said.text.items) };
+        requires turn { awaits self.old number }
+        ensures steps { IfOk result (λ said. steps self.old number line.now (next_of self.new said.end)
+            said.text.items) }
+        ensures turn { IfOk result (λ said. said.end ≡ None → awaits self.new (number + 1)) };
 
     /// Takes the end of the input, behind `count` lines, and answers what is printed and how the program ends.
     fn close(&mut self, alloc: Global, count: u64) -> Result<(Vec<u8>, End), AllocError>

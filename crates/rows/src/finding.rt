@@ -15,6 +15,8 @@ pub enum Finding {
     NoFile,
     /// The program ended so, and it must not.
     Ended(Status),
+    /// A tick's line didn't go out right behind that tick.
+    OutOfTurn,
     /// The text differs from this byte on, counted from 0.
     Differs(usize),
 }
@@ -26,6 +28,7 @@ impl fmt::Display for Finding {
             Finding::NoRow => write!(f, "can't be read as a row"),
             Finding::NoFile => write!(f, "has a file that can't be read"),
             Finding::Ended(status) => write!(f, "ends with status {}", status.number()),
+            Finding::OutOfTurn => write!(f, "prints a tick out of turn"),
             Finding::Differs(at) => write!(f, "differs at byte {at}"),
         }
     }

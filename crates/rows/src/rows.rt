@@ -1,7 +1,8 @@
 //! The rows of `rows.txt`: an input, and how the program must end and what it must write.
 use crate::finding::{Finding, compared};
+use crate::in_turn::in_turn;
 use crate::prefixes::prefixes;
-use crate::run::{Ends, run};
+use crate::run::{Ends, run, run_endless};
 use crate::table::cell;
 use crate::tally::Tally;
 use std::alloc::{AllocError, Global};
@@ -9,13 +10,26 @@ use std::rt::Files;
 use std::{fs, io};
 use titan_top::Status;
 
+/// How a row is run.
+#[derive(Clone, Copy, Debug, PartialEq, Eq)]
+enum Kind {
+    /// Over its input.
+    Whole,
+    /// Over each prefix of its input.
+    Prefixes,
+    /// Over its byte, which comes without end.
+    Endless,
+    /// Over its input, a line a call, to see the order of reads and writes.
+    InTurn,
+}
+
 /// What a row says beside its name and its words.
 #[derive(Drop)]
 struct Row {
     status: Status,
     input: String,
     output: String,
-    prefixes: bool,
+    kind: Kind,
     fill: usize,
     byte: u8,
     ends: Ends,
@@ -36,16 +50,26 @@ impl Row {
         true
     }
 
+    /// Takes a field without a value, if there is one of this name.
+    fn set_kind(&mut self, name: &str) -> bool {
+        match name {
+            "prefixes" => self.kind = Kind::Prefixes,
+            "endless" => self.kind = Kind::Endless,
+            "in_turn" => self.kind = Kind::InTurn,
+            _ => return false,
+        }
+        true
+    }
+
     /// Takes a field, if there is such a one.
     fn set(&mut self, alloc: Global, field: &str) -> Result<bool, AllocError> {
         match field.split_once('=') {
-            None if field == "prefixes" => self.prefixes = true,
+            None => return Ok(self.set_kind(field)),
             Some(("input", name)) => self.input = String::from_str(alloc, name)?,
             Some(("output", name)) => self.output = String::from_str(alloc, name)?,
             Some((name, value)) => {
                 return Ok(value.parse::<u32>().is_ok_and(|n| self.set_number(name, n)));
             }
-            None => return Ok(false),
         }
         Ok(true)
     }
@@ -73,7 +97,7 @@ fn row_of(alloc: Global, name: &str, rest: &str) -> Result<Option<Row>, AllocErr
         status,
         input: String::from_str(alloc, name)?,
         output: String::from_str(alloc, name)?,
-        prefixes: false,
+        kind: Kind::Whole,
         fill: 0,
         byte: 0,
         ends: Ends::STEADY,
@@ -109,11 +133,13 @@ fn words_finding(
     words: &str,
     input: &[u8],
     wanted: &[u8],
-) -> Result<Finding, AllocError> {
-    if row.prefixes {
-        return prefixes(alloc, words, input, row.ends, wanted);
-    }
-    let (ended, text) = run(alloc, words, input, row.ends)?;
+) -> io::Result<Finding> {
+    let (ended, text) = match row.kind {
+        Kind::Whole => run(alloc, words, input, row.ends)?,
+        Kind::Prefixes => return Ok(prefixes(alloc, words, input, row.ends, wanted)?),
+        Kind::Endless => run_endless(alloc, words, row.byte)?,
+        Kind::InTurn => return in_turn(alloc, words, input, row.status),
+    };
     Ok(compared(ended, &text, row.status, wanted))
 }
 

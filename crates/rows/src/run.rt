@@ -1,4 +1,5 @@
 //! Runs the top call over memory.
+use crate::endless::EndlessSource;
 use crate::pieces::PieceSource;
 use std::alloc::{AllocError, Global};
 use titan_top::{Status, titan};
@@ -28,7 +29,7 @@ impl Ends {
 }
 
 /// The words, which stand between blanks.
-fn words_of(alloc: Global, words: &str) -> Result<Vec<String>, AllocError> {
+pub fn words_of(alloc: Global, words: &str) -> Result<Vec<String>, AllocError> {
     let mut list = Vec::new(alloc);
     for word in words.split_whitespace() {
         list.push(String::from_str(alloc, word)?)?;
@@ -49,6 +50,15 @@ pub fn run(
     let memory = MemorySource::new(Vec::from_slice(alloc, input)?, takes);
     let mut source = PieceSource::new(memory, ends.pieces);
     let mut sink = MemorySink::new(alloc, ends.room, puts)?;
+    let status = titan(alloc, &words, &mut source, &mut sink);
+    Ok((status, Vec::from_slice(alloc, sink.bytes())?))
+}
+
+/// The same for an input that is this byte, over and over.
+pub fn run_endless(alloc: Global, words: &str, byte: u8) -> Result<(Status, Vec<u8>), AllocError> {
+    let words = words_of(alloc, words)?;
+    let mut source = EndlessSource::new(byte);
+    let mut sink = MemorySink::new(alloc, Ends::STEADY.room, Vec::new(alloc))?;
     let status = titan(alloc, &words, &mut source, &mut sink);
     Ok((status, Vec::from_slice(alloc, sink.bytes())?))
 }

@@ -6,6 +6,7 @@ use Rattle.std.proofs.lemmas.List.{get_or-map}
 use Rattle.std.proofs.lemmas.List.Elements.{All-weaker}
 use Rattle.std.proofs.lemmas.List.Folds.{list_any_none}
 use Rattle.std.proofs.lemmas.List.Quantifiers.{position-Some}
+use Rattle.model_syntax.proofs.ListGrammar.{bind_some}
 use Rattle.cca_base.specs.declared.limits.TheConstants.{MAX_CHOICES}
 use Rattle.cca_base.specs.declared.model.Component.{Component}
 use Rattle.cca_base.specs.declared.model.Move.{Move}
@@ -14,7 +15,6 @@ use Rattle.cca_base.specs.Model.{WellFormed, HasMode, mode_counts, is_broken, is
 use Rattle.cca_base.proofs.Within.{mode_within}
 use Rattle.cca_base.proofs.StateLaws.{mode_is_small}
 use Rattle.formula_syntax.specs.Lookups.{place_of}
-use Rattle.titan_top.proofs.ListGrammar.{bind_some}
 use Rattle.titan_top.specs.Lookup.{mode_number}
 
 -- the number of a component, and of its mode

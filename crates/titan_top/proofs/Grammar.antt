@@ -5,13 +5,15 @@ use Rattle.std.specs.Str.{bytes_eq}
 use Rattle.std.proofs.lemmas.Slice.Eq.{bytes_eq-Decides}
 use Rattle.std.proofs.lemmas.Bool.{and_parts}
 use Rattle.std.proofs.lemmas.Option.{same_Some}
+use Rattle.model_syntax.proofs.ListGrammar.{bind_some, then, after}
+use Rattle.model_syntax.specs.Items.{ended}
 use Rattle.list_laws.proofs.Tests.{cond_either, cond_found, either}
 use Rattle.text_base.specs.declared.token.Kind.{Kind}
 use Rattle.text_base.specs.declared.token.Kind.TheVariants.{Word}
 use Rattle.text_base.specs.Lexemes.{Lexeme, word, same_kind, is_lexeme}
 use Rattle.text_base.proofs.LexemeLaws.{lexeme_is, kind_is}
-use Rattle.titan_top.specs.Items.{NamedPair, Item, Goal, Tick, Unbuilt, ended, pairs_at, goal_at, unbuilt_words, is_unbuilt, item_of, pairs_spelled, goal_spelled, spelling, ArePairWords, IsSpelled}
-use Rattle.titan_top.proofs.ListGrammar.{bind_some, then, after, reads_pairs, pairs_read}
+use Rattle.titan_top.specs.Items.{NamedPair, Item, Goal, Tick, Unbuilt, pairs_at, goal_at, unbuilt_words, is_unbuilt, item_of, pairs_spelled, goal_spelled, spelling, ArePairWords, IsSpelled}
+use Rattle.titan_top.proofs.ListGrammar.{reads_pairs, pairs_read}
 
 ended_read : (x y : Item) (ls : List Lexeme) → ended x ls ≡ Some y → (ls ≡ []) × (x ≡ y)
 ended_read x y [] e = (refl, same_Some x y e)

@@ -1,16 +1,13 @@
 -- What a line is taken for, both ways: from its tokens, and back from what was taken.
 use Rattle.std.proofs.Common.{◌≡◌, ℕ, ◌<◌, List, [], ◌∷◌, length, map, Option, Some, None, Result, Ok, Err, refl, sym, ap, ◌∙◌, arith}
-use Rattle.std.specs.Prelude.{nat_lt}
 use Rattle.std.specs.Option.{option_map}
-use Rattle.list_laws.proofs.Tests.{cond_either}
 use Rattle.text_base.specs.declared.token.Token.{Token}
 use Rattle.text_base.specs.Tokens.{Tok, token_view}
 use Rattle.text_base.specs.Lexemes.{Lexeme, lexeme, lexeme_of}
 use Rattle.titan_top.specs.declared.item.Item.{Item as ItemOfCode}
-use Rattle.titan_top.specs.declared.line.TheConstants.{MAX_LINE}
-use Rattle.cca_base.specs.declared.codes.TheConstants.{MALFORMED, UNSUPPORTED}
+use Rattle.cca_base.specs.declared.codes.TheConstants.{MALFORMED}
 use Rattle.titan_top.specs.Items.{Item, item_of, shown_item}
-use Rattle.titan_top.specs.LineForms.{by_item, by_tokens, by_line, line_tokens, not_taken, if_short}
+use Rattle.titan_top.specs.LineForms.{by_item, by_tokens, by_line, line_tokens}
 
 lexemes : (ts : List Token) → map lexeme (map token_view ts) ≡ map lexeme_of ts
 lexemes [] = refl
@@ -54,12 +51,5 @@ module _ {X : Type 0} (nothing : X) (says : Item → Result X ℕ) (x : X) where
   tokens_said (Ok []) h = Nothing (ok_is nothing x h)
   tokens_said (Ok (t ∷ ts)) h = item_said (map lexeme (t ∷ ts)) (item_of (map lexeme (t ∷ ts))) refl h
 
-  never_taken : (said : Result X ℕ) → not_taken said ≡ Ok x → ⊥
-  never_taken (Ok y) h = err_ok UNSUPPORTED x h
-  never_taken (Err code) h = err_ok code x h
-
-  pub line_said : (line : List ℕ) → if_short line (by_line nothing says line) ≡ Ok x → IsSaid nothing says x
-  line_said line h =
-      cond_either (nat_lt MAX_LINE (length line)) (not_taken (by_line nothing says line)) (by_line nothing says line) (Ok x) h
-      (λ long k. absurd (never_taken (by_line nothing says line) k))
-      (λ short k. tokens_said (line_tokens line) k)
+  pub line_said : (line : List ℕ) → by_line nothing says line ≡ Ok x → IsSaid nothing says x
+  line_said line h = tokens_said (line_tokens line) h

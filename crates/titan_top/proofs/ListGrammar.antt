@@ -2,22 +2,13 @@
 use Rattle.std.proofs.Common.{◌≡◌, ◌<◌, true, cond, ◌&&◌, List, [], ◌∷◌, ◌++◌, length, Option, Some, None, refl, sym, ap, subst, ◌∙◌, arith}
 use Rattle.std.proofs.lemmas.Bool.{and_parts, and_from}
 use Rattle.std.proofs.lemmas.Option.{same_Some}
+use Rattle.model_syntax.proofs.ListGrammar.{after}
+use Rattle.model_syntax.specs.Items.{AreNameWords}
 use Rattle.list_laws.proofs.Tests.{cond_either, cond_found}
 use Rattle.text_base.specs.Lexemes.{Lexeme, word, comma, is_lexeme, is_name_word, next_is}
 use Rattle.text_base.proofs.LexemeLaws.{lexeme_is, name_word_is, may_be_name}
-use Rattle.titan_top.specs.Items.{NamedPair, ◌>>=◌, with_pair, is_pair, pair_of_words, pairs_at, pair_spelled, pairs_spelled, goal_spelled, AreNameWords, ArePairWords}
+use Rattle.titan_top.specs.Items.{NamedPair, with_pair, is_pair, pair_of_words, pairs_at, pair_spelled, pairs_spelled, goal_spelled, ArePairWords}
 use Rattle.titan_top.proofs.PairsRead.{last_pair, next_pair, equals_sign}
-
-pub after : (l : Lexeme) {x y : List Lexeme} → x ≡ y → l ∷ x ≡ l ∷ y
-after l e = ap (λ (x : List Lexeme). l ∷ x) e
-
--- the first step found something, and so did the rest
-pub bind_some : {A B : Type 0} (r : Option A) (f : A → Option B) (y : B) → (r >>= f) ≡ Some y → (x : A) × (r ≡ Some x) × (f x ≡ Some y)
-bind_some (Some x) f y e = (x, refl, e)
-bind_some None f y e = absurd cc
-
-pub then : {A B : Type 0} {r s : Option A} → r ≡ s → (f : A → Option B) → (r >>= f) ≡ (s >>= f)
-then e f = ap (λ o. o >>= f) e
 
 may_be_pair : (p : NamedPair) → AreNameWords (p.name ∷ p.value ∷ []) → is_pair (word p.name) equals_sign (word p.value) ≡ true
 may_be_pair p h = and_from (is_name_word (word p.name)) (is_name_word (word p.value)) (may_be_name p.name h.0) (may_be_name p.value h.1.0)

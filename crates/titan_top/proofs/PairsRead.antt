@@ -2,11 +2,12 @@
 use Rattle.std.proofs.Common.{◌≡◌, ℕ, suc, ◌+◌, ◌-◌, ◌≤◌, Bool, true, false, cond, ◌&&◌, codes, List, [], ◌∷◌, ◌++◌, length, drop, take, map, Option, Some, None, refl, sym, ap, ◌∙◌, append_assoc, arith, length-drop}
 use Rattle.std.proofs.lemmas.List.{take_rest, drop-drop, drop-map, length-map}
 use Rattle.std.proofs.lemmas.Option.{cond_some}
+use Rattle.formula_syntax.specs.Chain.{◌>>=◌}
 use Rattle.list_laws.proofs.Tests.{if_none}
 use Rattle.text_base.specs.declared.token.Token.{Token}
 use Rattle.text_base.specs.Lexemes.{Lexeme, lexeme_of, symbol, is_lexeme, is_name_word, next_is, name_word_at, comma}
 use Rattle.text_base.proofs.NamesRead.{comma_found}
-use Rattle.titan_top.specs.Items.{NamedPair, ◌>>=◌, pair_at, with_pair, is_pair, pair_of_words, pairs_at}
+use Rattle.titan_top.specs.Items.{NamedPair, pair_at, with_pair, is_pair, pair_of_words, pairs_at}
 
 -- what was read before, put before what is still read
 abbrev pub with_pairs : List NamedPair → Option (List NamedPair × List Lexeme) → Option (List NamedPair × List Lexeme)

@@ -5,6 +5,8 @@ use Rattle.std.proofs.lemmas.Bool.{and_parts, or_parts, not-true, eqb-false}
 use Rattle.std.proofs.lemmas.List.Elements.{All-nil, All-cons, All-weaker}
 use Rattle.std.proofs.lemmas.List.Kept.{AllPairs-cons}
 use Rattle.std.proofs.lemmas.Option.{same_Some}
+use Rattle.model_syntax.proofs.ListGrammar.{bind_some}
+use Rattle.formula_syntax.specs.Chain.{◌>>=◌}
 use Rattle.list_laws.proofs.Tests.{cond_either}
 use Rattle.cca_base.specs.declared.cube.Pair.{Pair}
 use Rattle.cca_base.specs.declared.events.Event.{Event}
@@ -16,11 +18,11 @@ use Rattle.text_base.specs.Lexemes.{Lexeme}
 use Rattle.plain_laws.specs.Plain.{IsPlain}
 use Rattle.plain_laws.specs.PlainTrace.{IsPlainEvent}
 use Rattle.cca_base.specs.declared.codes.TheConstants.{NAME_UNKNOWN, UNSUPPORTED}
-use Rattle.titan_top.specs.Items.{Item, Goal, Tick, Unbuilt, NamedPair, item_of, ◌>>=◌}
+use Rattle.titan_top.specs.Items.{Item, Goal, Tick, Unbuilt, NamedPair, item_of}
 use Rattle.titan_top.specs.Lookup.{component_number, mode_number}
 use Rattle.titan_top.specs.EventLines.{pair_of, pairs_of, is_named_again, no_component_twice, goal_from, event_item, event_line}
-use Rattle.titan_top.specs.Document.{Document, after_event_line, script_lines}
-use Rattle.titan_top.proofs.ListGrammar.{bind_some}
+use Rattle.titan_top.specs.Document.{Document, after_event_line, line_says, script_lines}
+use Rattle.titan_top.specs.Limits.{line_code, unless_long}
 use Rattle.titan_top.proofs.Grammar.{item_written}
 use Rattle.titan_top.proofs.LineItems.{ok_is, err_ok, IsSaid, Nothing, ByItem, line_said}
 use Rattle.titan_top.proofs.FoundNames.{none_broken, mode_found}
@@ -92,12 +94,17 @@ event_line_read m l e r h = event_said m r e (line_said None (event_item m) (Som
 
 -- ---- scripts
 
+-- a line that says something is not too long
+pub said_short : {X : Type 0} (o : Option ℕ) (v : Result X ℕ) (x : X) → unless_long o v ≡ Ok x → v ≡ Ok x
+said_short (Some code) v x h = absurd (err_ok code x h)
+said_short None v x h = h
+
 -- the script is of the model that was read
 pub script_model : (m : PlantModel) (n : ℕ) (ls : List (List ℕ)) → (script_lines m n ls).model ≡ m
 unfolding script_lines
 script_model m n [] = refl
 script_model m n (l ∷ ls) =
-    elim (event_line m l) as (λ v. (after_event_line v m (n + 1) (script_lines m (n + 1) ls)).model ≡ m) [
+    elim (line_says m (n + 1) l) as (λ v. (after_event_line v m (n + 1) (script_lines m (n + 1) ls)).model ≡ m) [
       | Err code ↦ refl
       | Ok None ↦ script_model m (n + 1) ls
       | Ok (Some e) ↦ script_model m (n + 1) ls
@@ -112,4 +119,4 @@ step_events m n (Ok (Some e)) rest plain all = All-cons (IsPlainEvent m) e rest.
 pub script_events : (m : PlantModel) (n : ℕ) (ls : List (List ℕ)) → IsPlain m → All (IsPlainEvent m) (script_lines m n ls).events
 unfolding script_lines
 script_events m n [] r = All-nil (IsPlainEvent m)
-script_events m n (l ∷ ls) r = step_events m (n + 1) (event_line m l) (script_lines m (n + 1) ls) (λ e f. event_line_read m l e r f) (script_events m (n + 1) ls r)
+script_events m n (l ∷ ls) r = step_events m (n + 1) (line_says m (n + 1) l) (script_lines m (n + 1) ls) (λ e f. event_line_read m l e r (said_short (line_code (n + 1) l) (event_line m l) (Some e) f)) (script_events m (n + 1) ls r)

@@ -1,5 +1,5 @@
 -- The lines of a model's printed text.
-use Rattle.std.proofs.Common.{◌≡◌, ◌≢◌, ℕ, inl, inr, Bool, true, false, cond, List, [], ◌∷◌, ◌++◌, map, All, refl, sym, ap, subst, ◌∙◌, eqb}
+use Rattle.std.proofs.Common.{◌≡◌, ◌≢◌, ℕ, inl, inr, true, false, List, [], ◌∷◌, ◌++◌, map, All, refl, sym, ap, subst, ◌∙◌, append_assoc, eqb}
 use Rattle.std.proofs.lemmas.Bool.{cases_Bool, eqb-true}
 use Rattle.std.proofs.lemmas.List.Elements.{All-head, All-tail}
 use Rattle.cca_base.specs.PlantModel.{PlantModel}
@@ -9,7 +9,8 @@ use Rattle.model_syntax.specs.Printing.{joined, lines_said, printed_lines, print
 use Rattle.model_syntax.specs.RoundTrip.{ReadsTo}
 use Rattle.model_syntax.proofs.PrintedModel.{model_read, lines_whole}
 use Rattle.titan_top.specs.Laws.{PrintedTextsReadBack}
-use Rattle.titan_top.specs.Lines.{lines_of, onto_first}
+use Rattle.line_machine.specs.Lines.{lines_in, all_lines, HasNoLf}
+use Rattle.line_machine.proofs.JoinedLines.{lines-append, one_line}
 use Rattle.titan_top.specs.Document.{nothing_read}
 
 -- no line's end is in the line
@@ -19,19 +20,23 @@ IsWhole line = All (λ b. b ≢ 10) line
 not_end : (b : ℕ) → b ≢ 10 → eqb b 10 ≡ false
 not_end b h = elim (cases_Bool (eqb b 10)) [ inl e ↦ absurd (h (eqb-true b 10 e)) | inr e ↦ e ]
 
-first_line : (line rest : List ℕ) → IsWhole line → lines_of (line ++ 10 ∷ rest) ≡ line ∷ lines_of rest
-first_line [] rest h = refl
-first_line (b ∷ line) rest h =
-    ap (λ (t : Bool). cond t ([] ∷ lines_of (line ++ 10 ∷ rest)) (onto_first b (lines_of (line ++ 10 ∷ rest)))) (not_end b (All-head (λ (x : ℕ). x ≢ 10) b line h))
-    ∙ ap (onto_first b) (first_line line rest (All-tail (λ (x : ℕ). x ≢ 10) b line h))
+clean : (line : List ℕ) → IsWhole line → HasNoLf line
+clean [] h = tt
+clean (b ∷ line) h = (not_end b (All-head (λ (x : ℕ). x ≢ 10) b line h), clean line (All-tail (λ (x : ℕ). x ≢ 10) b line h))
 
-lines_again : (lines : List (List Lexeme)) → All IsWhole (map joined lines) → lines_of (printed_lines lines) ≡ map joined lines
+first_line : (line rest : List ℕ) → IsWhole line → all_lines (lines_in (line ++ 10 ∷ rest)) ≡ line ∷ all_lines (lines_in rest)
+first_line line rest h =
+    ap (λ (bytes : List ℕ). all_lines (lines_in bytes)) (sym (append_assoc line (10 ∷ []) rest))
+    ∙ ap all_lines (lines-append [] (line ++ 10 ∷ []) rest)
+    ∙ rw (one_line line (clean line h)) refl
+
+lines_again : (lines : List (List Lexeme)) → All IsWhole (map joined lines) → all_lines (lines_in (printed_lines lines)) ≡ map joined lines
 lines_again [] h = refl
 lines_again (l ∷ lines) h =
     first_line (joined l) (printed_lines lines) (All-head IsWhole (joined l) (map joined lines) h)
     ∙ ap (λ (ls : List (List ℕ)). joined l ∷ ls) (lines_again lines (All-tail IsWhole (joined l) (map joined lines) h))
 
-printed_again : (m : PlantModel) → WellFormed m → lines_of (printed_model m) ≡ map joined (lines_said m)
+printed_again : (m : PlantModel) → WellFormed m → all_lines (lines_in (printed_model m)) ≡ map joined (lines_said m)
 unfolding printed_model
 printed_again m w = lines_again (lines_said m) (lines_whole m w)
 

@@ -1,9 +1,10 @@
 -- Pairs that are read one after the other.
 use Rattle.std.proofs.Common.{◌≡◌, ℕ, ◌+◌, ◌<◌, List, [], ◌∷◌, ◌++◌, length, map, drop, get_or, Option, Some, None, refl, sym, ap, ◌∙◌, append_assoc, add-one, drop-cons}
+use Rattle.formula_syntax.specs.Chain.{◌>>=◌}
 use Rattle.cca_base.specs.declared.cube.Pair.{Pair}
 use Rattle.cca_base.specs.PlantModel.{PlantModel}
 use Rattle.titan_top.specs.declared.item.NamedPair.{NamedPair as NamedPairOfCode}
-use Rattle.titan_top.specs.Items.{NamedPair, ◌>>=◌, shown_pair}
+use Rattle.titan_top.specs.Items.{NamedPair, shown_pair}
 use Rattle.titan_top.specs.EventLines.{pair_of, pairs_of}
 
 -- what was read before, and what is still read

@@ -1,5 +1,5 @@
 -- What is printed of a run is the trace of its events.
-use Rattle.std.proofs.Common.{◌≡◌, ℕ, ◌+◌, Bool, true, false, cond, All, ◌⊎◌, inl, inr, List, [], ◌∷◌, Option, Some, None, refl, sym, subst, arith}
+use Rattle.std.proofs.Common.{◌≡◌, ℕ, ◌+◌, All, ◌⊎◌, inl, inr, List, [], ◌∷◌, Option, Some, None, refl, sym, subst, arith}
 use Rattle.std.specs.Global.{Global}
 use Rattle.std.specs.Prelude.{IfSome, String}
 use Rattle.cca_base.specs.declared.events.Refusal.{Refusal}
@@ -19,33 +19,32 @@ use Rattle.cca_base.specs.declared.codes.TheConstants.{UNSUPPORTED}
 use Rattle.titan_top.specs.declared.words.Form.{Form}
 use Rattle.titan_top.specs.declared.words.Form.TheVariants.{Run}
 use Rattle.titan_top.specs.Headline.{IsTraceOf, IsTraceOfScript, IsRefusedBefore}
-use Rattle.titan_top.specs.Lines.{lines_of}
-use Rattle.titan_top.specs.Document.{Document, ModelText, Scripted, Stopped, is_short, not_led, ShortLineLeads, After, ReadsModel, EndsModel, SaysByAcceptance, SaysByEnd, nothing_read, refused_at, script_lines}
+use Rattle.line_machine.specs.Lines.{lines_in, all_lines}
+use Rattle.titan_top.specs.Limits.{line_code}
+use Rattle.titan_top.specs.Document.{Document, ModelText, Scripted, Stopped, LeadsByCode, LeadsAt, After, ReadsModel, EndsModel, SaysByAcceptance, SaysByEnd, nothing_read, refused_at, script_lines}
 use Rattle.titan_top.specs.Output.{Outcome, printed_from, printed, IsOutcomeFor, IsOutcomeOf, IsOutcome}
 use Rattle.titan_top.specs.Acceptance.{Acceptance, AcceptedAs, RefusedFor}
 use Rattle.cca_base.specs.Refusals.{bare}
 use Rattle.titan_top.specs.Words.{form_of, texts}
-use Rattle.titan_top.proofs.Ends.{printed_refused}
+use Rattle.titan_top.proofs.PrintedDocuments.{printed_refused}
 use Rattle.titan_top.proofs.PlainEvents.{script_model, script_events}
 
 -- a model that came to its script is good
 abbrev IsGoodEnd : ModelText → Type 0
-IsGoodEnd (Scripted m n short ls) = IsGood m
+IsGoodEnd (Scripted m n ls) = IsGood m
 IsGoodEnd (Stopped m line r) = Unit {0}
 
-taken_leads : (led : LineOutcome) (short : Bool) (t : ModelSoFar) → Reads t ≡ cond short led (not_led led) → led ≡ Reads t
-taken_leads led true t e = sym e
-taken_leads (Reads u) false t e = absurd cc
-taken_leads (Refuses code) false t e = absurd cc
-taken_leads Finishes false t e = absurd cc
+-- a line that is read is not too long
+read_leads : (o : Option ℕ) (s t : ModelSoFar) (l : List ℕ) → LeadsByCode o s l (Reads t) → LineLeads s l (Reads t)
+read_leads (Some code) s t l e = absurd cc
+read_leads None s t l h = h
 
-line_good : (s t : ModelSoFar) (l : List ℕ) → IsGood s.model → ShortLineLeads s l (Reads t) → IsGood t.model
-line_good s t l good (led, h, e) =
-    lines_keep_models_good s t l good (subst (LineLeads s l) (taken_leads led (is_short l) t e) h)
+line_good : (s t : ModelSoFar) (n : ℕ) (l : List ℕ) → IsGood s.model → LeadsAt s n l (Reads t) → IsGood t.model
+line_good s t n l good h = lines_keep_models_good s t l good (read_leads (line_code n l) s t l h)
 
-step_good : (o : LineOutcome) (s : ModelSoFar) (n : ℕ) (l : List ℕ) (ls : List (List ℕ)) (end : ModelText) → IsGood s.model → ShortLineLeads s l o → ((t : ModelSoFar) → IsGood t.model → ReadsModel t (n + 1) ls end → IsGoodEnd end)
-    → After o (λ t. ReadsModel t (n + 1) ls end) (end ≡ Scripted s.model (n + 1) (is_short l) ls) (λ code. end ≡ Stopped s.model (n + 1) (bare code)) → IsGoodEnd end
-step_good (Reads t) s n l ls end good leads on h = on t (line_good s t l good leads) h
+step_good : (o : LineOutcome) (s : ModelSoFar) (n : ℕ) (l : List ℕ) (ls : List (List ℕ)) (end : ModelText) → IsGood s.model → LeadsAt s (n + 1) l o → ((t : ModelSoFar) → IsGood t.model → ReadsModel t (n + 1) ls end → IsGoodEnd end)
+    → After o (λ t. ReadsModel t (n + 1) ls end) (end ≡ Scripted s.model (n + 1) ls) (λ code. end ≡ Stopped s.model (n + 1) (bare code)) → IsGoodEnd end
+step_good (Reads t) s n l ls end good leads on h = on t (line_good s t (n + 1) l good leads) h
 step_good (Refuses code) s n l ls end good leads on h = subst IsGoodEnd (sym h) tt
 step_good Finishes s n l ls end good leads on h = subst IsGoodEnd (sym h) good
 
@@ -57,8 +56,7 @@ nothing_good : IsGood empty_model
 nothing_good = record { well_formed = empty_well_formed; complete = λ command h. absurd (omega arith) }
 
 model_good : (input : List ℕ) (end : ModelText) → EndsModel input end → IsGoodEnd end
-model_good input end (inl (long, e)) = subst IsGoodEnd (sym e) tt
-model_good input end (inr (short, h)) = lines_good nothing_read 0 (lines_of input) end nothing_good h
+model_good input end h = lines_good nothing_read 0 (all_lines (lines_in input)) end nothing_good h
 
 -- what is printed of a script is its trace
 script_traced : (m : PlantModel) (n : ℕ) (ls : List (List ℕ)) → IsGood m → IsPlain m → IsTraceOfScript (script_lines m n ls) (printed (script_lines m n ls))
@@ -93,7 +91,7 @@ verdict_traced (AcceptedAs b) m n ls r good (inr (other, e)) = inl (refused_is m
 
 says_traced : (end : ModelText) (r : Document) → IsGoodEnd end → SaysByEnd end r → IsRefusedBefore r (printed r) ⊎ IsTraceOfScript r (printed r)
 says_traced (Stopped m line rf) r good e = inl (refused_is m line rf r e)
-says_traced (Scripted m n short ls) r good (v, is, h) = verdict_traced v m n ls r good h
+says_traced (Scripted m n ls) r good (v, is, h) = verdict_traced v m n ls r good h
 
 traced : (input : List ℕ) (o : Outcome) → IsOutcomeFor Run input o → IsTraceOf input o
 traced input o (end, ends, (r, says, e)) =

@@ -1,13 +1,14 @@
 -- What the lines of a script say.
 use Rattle.std.specs.Prelude.{ℕ, Bool, true, not, List, [], ◌∷◌, Option, Some, None, Result, Ok, Err, if◌then◌else◌, ◌==◌, ◌&&◌}
 use Rattle.std.specs.List.{list_any}
+use Rattle.formula_syntax.specs.Chain.{◌>>=◌}
 use Rattle.cca_base.specs.declared.cube.Pair.{Pair}
 use Rattle.cca_base.specs.declared.events.Event.{Event}
 use Rattle.cca_base.specs.declared.events.Event.TheVariants as event
 use Rattle.cca_base.specs.PlantModel.{PlantModel}
 use Rattle.cca_base.specs.declared.codes.TheConstants.{NAME_UNKNOWN, UNSUPPORTED}
-use Rattle.titan_top.specs.Items.{Item, Goal, Tick, Unbuilt, NamedPair, ◌>>=◌}
-use Rattle.titan_top.specs.LineForms.{by_line, if_short}
+use Rattle.titan_top.specs.Items.{Item, Goal, Tick, Unbuilt, NamedPair}
+use Rattle.titan_top.specs.LineForms.{by_line}
 use Rattle.titan_top.specs.Lookup.{component_number, mode_number}
 
 -- the pair of these words
@@ -41,4 +42,4 @@ event_item m (Unbuilt first rest) = Err UNSUPPORTED
 
 -- what a line says of a script: an event, or none where it has no tokens; or the code of its refusal
 unfoldable pub event_line : PlantModel → List ℕ → Result (Option Event) ℕ
-event_line m l = if_short l (by_line None (event_item m) l)
+event_line m l = by_line None (event_item m) l

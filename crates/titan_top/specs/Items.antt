@@ -1,9 +1,10 @@
 -- The forms of event lines.
 use Rattle.std.specs.List.{list_any}
 use Rattle.std.specs.Str.{bytes_eq}
-use Rattle.cca_base.specs.Names.{is_reserved}
+use Rattle.formula_syntax.specs.Chain.{◌>>=◌}
+use Rattle.model_syntax.specs.Items.{ended, AreNameWords}
 use Rattle.text_base.specs.declared.token.Kind.TheVariants.{Word}
-use Rattle.std.specs.Prelude.{◌<◌, length, ◌≡◌, ℕ, Bool, true, false, List, [], ◌∷◌, ◌++◌, Option, Some, None, codes, map, if◌then◌else◌, ◌&&◌}
+use Rattle.std.specs.Prelude.{◌<◌, length, ◌≡◌, ℕ, Bool, true, List, [], ◌∷◌, ◌++◌, Option, Some, None, codes, map, if◌then◌else◌, ◌&&◌}
 use Rattle.text_base.specs.Lexemes.{Lexeme, lexeme_of, same_kind, word, symbol, is_lexeme, is_name_word, next_is, name_word_at, comma}
 use Rattle.titan_top.specs.declared.item.Item.{Item as ItemOfCode}
 use Rattle.titan_top.specs.declared.item.Item.TheVariants as code
@@ -19,17 +20,6 @@ pub data Item : Type 0 where
   Goal : (pairs : List NamedPair) → Item
   Tick : Item
   Unbuilt : (first : List ℕ) → (rest : List Lexeme) → Item
-
--- reading goes on where something was read
-infixl 10 ◌>>=◌
-abbrev pub ◌>>=◌ : {A B : Type 0} → Option A → (A → Option B) → Option B
-(Some x) >>= f = f x
-None >>= f = None
-
--- nothing may follow
-abbrev pub ended : {A : Type 0} → A → List Lexeme → Option A
-ended x [] = Some x
-ended x (l ∷ ls) = None
 
 -- a pair, put before what was read behind it
 abbrev pub with_pair : NamedPair → Option (List NamedPair × List Lexeme) → Option (List NamedPair × List Lexeme)
@@ -103,11 +93,6 @@ abbrev pub spelling : Item → List Lexeme
 spelling (Goal pairs) = word (codes "goal") ∷ goal_spelled pairs
 spelling Tick = word (codes "tick") ∷ []
 spelling (Unbuilt first rest) = word first ∷ rest
-
--- some words, each of which may stand in place of a name
-abbrev pub AreNameWords : List (List ℕ) → Type 0
-AreNameWords [] = Unit {0}
-AreNameWords (name ∷ names) = (is_reserved name ≡ false) × AreNameWords names
 
 -- pairs of words, each of which may stand in place of a name
 abbrev pub ArePairWords : List NamedPair → Type 0

@@ -1,9 +1,8 @@
--- What a line is taken for, by its tokens and its length.
-use Rattle.std.specs.Prelude.{ℕ, List, [], ◌∷◌, length, map, Option, Some, None, Result, Ok, Err, if◌then◌else◌, nat_lt}
+-- What a line is taken for, by its tokens.
+use Rattle.std.specs.Prelude.{ℕ, List, [], ◌∷◌, map, Option, Some, None, Result, Ok, Err}
 use Rattle.text_base.specs.Tokens.{Tok, tokens_of}
 use Rattle.text_base.specs.Lexemes.{lexeme}
-use Rattle.titan_top.specs.declared.line.TheConstants.{MAX_LINE}
-use Rattle.cca_base.specs.declared.codes.TheConstants.{MALFORMED, UNSUPPORTED}
+use Rattle.cca_base.specs.declared.codes.TheConstants.{MALFORMED}
 use Rattle.titan_top.specs.Items.{Item, item_of}
 
 -- a line of no form is malformed
@@ -26,15 +25,6 @@ by_tokens nothing says (Err code) = Err code
 by_tokens nothing says (Ok []) = Ok nothing
 by_tokens nothing says (Ok (t ∷ ts)) = by_item says (item_of (map lexeme (t ∷ ts)))
 
--- what a line says, however long it is
+-- what a line says
 abbrev pub by_line : {X : Type 0} → X → (Item → Result X ℕ) → List ℕ → Result X ℕ
 by_line nothing says line = by_tokens nothing says (line_tokens line)
-
--- what would be taken is refused
-abbrev pub not_taken : {X : Type 0} → Result X ℕ → Result X ℕ
-not_taken (Ok x) = Err UNSUPPORTED
-not_taken (Err code) = Err code
-
--- a line that is too long is refused, unless it is refused for another reason
-abbrev pub if_short : {X : Type 0} → List ℕ → Result X ℕ → Result X ℕ
-if_short line said = if nat_lt MAX_LINE (length line) then not_taken said else said

@@ -1,9 +1,9 @@
 -- Names that are looked up.
 use Rattle.std.specs.Prelude.{ℕ, List, Option, position, slice_get}
 use Rattle.std.specs.Str.{bytes_eq}
+use Rattle.formula_syntax.specs.Chain.{◌>>=◌}
 use Rattle.cca_base.specs.PlantModel.{PlantModel}
 use Rattle.formula_syntax.specs.Lookups.{place_of}
-use Rattle.titan_top.specs.Items.{◌>>=◌}
 
 -- the component of this name
 abbrev pub component_number : PlantModel → List ℕ → Option ℕ

@@ -10,6 +10,8 @@ use Rattle.cca_base.specs.Accepted.{CompiledModel}
 use Rattle.trace_text.specs.Compiled.{show_text}
 use Rattle.titan_top.specs.Acceptance.{Acceptance, AcceptedAs, RefusedFor, IsAcceptanceOf}
 use Rattle.titan_top.specs.Document.{Document, DocumentEnd, Complete, RefusedAt, ModelText, Scripted, Stopped, EndsModel, SaysByEnd, IsDocument}
+use Rattle.line_machine.specs.declared.machine.End.{End}
+use Rattle.titan_top.specs.Statuses.{end_status}
 use Rattle.titan_top.specs.Words.{form_of, texts}
 use Rattle.titan_top.specs.declared.status.Status.{Status}
 use Rattle.titan_top.specs.declared.status.Status.TheVariants.{Ended, Rejected, Usage, Refused, ReadFault, WriteFault, Memory}
@@ -20,6 +22,10 @@ use Rattle.titan_top.specs.declared.words.Form.TheVariants.{Run, Show}
 pub record Outcome : Type 0 where
   pub text : List ℕ
   pub status : Status
+
+-- the outcome of a machine's end
+abbrev pub outcome_of : End → List ℕ → Outcome
+outcome_of e text = record { text = text; status = end_status e }
 
 -- the outcome of a refusal
 abbrev pub refusal : PlantModel → ℕ → Refusal → Outcome
@@ -58,14 +64,14 @@ AreNoForm words = form_of (texts words) ≡ None
 abbrev pub shown_model : CompiledModel → Outcome
 shown_model b = record { text = show_text b; status = Ended }
 
--- what is shown of a model whose script stands behind n lines
+-- what is shown of a model whose script stands at line n
 abbrev pub shown_acceptance : PlantModel → ℕ → Acceptance → Outcome
 shown_acceptance m n (AcceptedAs b) = shown_model b
 shown_acceptance m n (RefusedFor r) = refusal m n r
 
 -- what is shown, by how the model ends
 abbrev pub IsShown : ModelText → Outcome → Type 0
-IsShown (Scripted m n short ls) o = (v : Acceptance) × IsAcceptanceOf m short v × (o ≡ shown_acceptance m n v)
+IsShown (Scripted m n ls) o = (v : Acceptance) × IsAcceptanceOf m v × (o ≡ shown_acceptance m n v)
 IsShown (Stopped m line r) o = o ≡ refusal m line r
 
 -- the outcome for a form of words, by how the model ends
@@ -88,12 +94,12 @@ IsOutcome words input o = IsOutcomeOf (form_of (texts words)) input o
 
 -- the model came to its script, and is accepted
 abbrev pub IsAcceptedEnd : ModelText → Type 0
-IsAcceptedEnd (Scripted m n short ls) = (b : CompiledModel) × IsAcceptanceOf m short (AcceptedAs b)
+IsAcceptedEnd (Scripted m n ls) = (b : CompiledModel) × IsAcceptanceOf m (AcceptedAs b)
 IsAcceptedEnd (Stopped m line r) = ⊥
 
 -- a line of the model is refused, or the model itself at its script
 abbrev pub IsRefusedEnd : ModelText → ℕ → Refusal → Type 0
-IsRefusedEnd (Scripted m n short ls) line r = (line ≡ n) × IsAcceptanceOf m short (RefusedFor r)
+IsRefusedEnd (Scripted m n ls) line r = (line ≡ n) × IsAcceptanceOf m (RefusedFor r)
 IsRefusedEnd (Stopped m n s) line r = (line ≡ n) × (r ≡ s)
 
 -- nothing that the form reads is refused: `run` reads the whole input, and `show` its model
@@ -108,7 +114,7 @@ SomeRefused None input = ⊥
 SomeRefused (Some Run) input = (r : Document) × IsDocument input r × ((line : ℕ) × (refusal : Refusal) × (r.ending ≡ RefusedAt line refusal))
 SomeRefused (Some Show) input = (end : ModelText) × EndsModel input end × ((line : ℕ) × (refusal : Refusal) × IsRefusedEnd end line refusal)
 
--- a status that comes from a fault or from want of memory
+-- a status that comes from a fault or from running out of memory
 abbrev pub IsCut : Status → Type 0
 IsCut ReadFault = Unit {0}
 IsCut WriteFault = Unit {0}

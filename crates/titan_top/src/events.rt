@@ -5,11 +5,10 @@ ghost use Rattle.std.specs.Option.{option_map};
 ghost use Rattle.cca_base.specs.Model.{HasMode};
 ghost use Rattle.titan_top.specs.Items.{shown_item, shown_pair};
 ghost use Rattle.titan_top.specs.EventLines.{pair_of, pairs_of, is_named_again, no_component_twice, goal_from, event_item, event_line};
-ghost use Rattle.titan_top.specs.LineForms.{by_line};
 ghost use Rattle.titan_top.specs.Results.{AnswersAs};
 
 use crate::item::{Item, NamedPair, item_of};
-use crate::line::{MAX_LINE, line_tokens};
+use crate::line::line_tokens;
 use crate::names::{component_number, mode_number};
 use cca_base::codes::{MALFORMED, NAME_UNKNOWN, UNSUPPORTED};
 use cca_base::{Event, List, Model, Pair, Stop};
@@ -86,9 +85,10 @@ fn event_item(alloc: Global, model: &Model, item: &Item) -> Result<Option<Event>
     }
 }
 
-/// What one line says, however long it is.
-fn taken_line(alloc: Global, model: &Model, line: &[u8]) -> Result<Option<Event>, Stop>
-    ensures { AnswersAs (λ event. event) result (by_line None (event_item model.now) line.now) }
+/// Reads one line of a script, without its LF. None comes for a line without tokens.
+#[tactic(auto, unfolding(crate::specs::EventLines::event_line))]
+pub fn read_event(alloc: Global, model: &Model, line: &[u8]) -> Result<Option<Event>, Stop>
+    ensures { AnswersAs (λ event. event) result (event_line model.now line.now) }
 {
     let tokens = line_tokens(alloc, line)?;
     if tokens.is_empty() {
@@ -98,16 +98,4 @@ fn taken_line(alloc: Global, model: &Model, line: &[u8]) -> Result<Option<Event>
         Some(item) => event_item(alloc, model, &item),
         None => Err(Stop::refused(MALFORMED)),
     }
-}
-
-/// Reads one line of a script, without its LF. None comes for a line without tokens.
-#[tactic(auto, unfolding(crate::specs::EventLines::event_line))]
-pub fn read_event(alloc: Global, model: &Model, line: &[u8]) -> Result<Option<Event>, Stop>
-    ensures { AnswersAs (λ event. event) result (event_line model.now line.now) }
-{
-    let event = taken_line(alloc, model, line)?;
-    if line.len() > MAX_LINE {
-        return Err(Stop::refused(UNSUPPORTED));
-    }
-    Ok(event)
 }

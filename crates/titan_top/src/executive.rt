@@ -1,6 +1,6 @@
 //! The executive of models without variables.
 
-ghost use Rattle.std.specs.Prelude.{◌≡◌, ◌==◌, ◌+◌, ◌<◌, ◌≤◌, ◌^◌, find, IfOk, OnOk, option_to_list};
+ghost use Rattle.std.specs.Prelude.{◌≡◌, ◌==◌, ◌+◌, ◌<◌, ◌≤◌, ◌^◌, find, IfOk, OnOk, OnErr, option_to_list};
 ghost use Rattle.cca_base.specs.Model.{HasMode};
 ghost use Rattle.plain_laws.specs.Executive.{begin, in_order, reply_at, tick_report, after_event, reports_at};
 ghost use Rattle.plain_laws.specs.PlainTrace.{IsPlainEvent};
@@ -74,6 +74,7 @@ fn tick(alloc: Global, model: &Model, executive: &mut Executive) -> Result<TickR
     ensures report { IfOk result (λ r. r ≡ tick_report model.now (standing executive.old)) }
     ensures after { OnOk result (standing executive.new ≡ after_event model.now (standing executive.old) Event.Tick) }
     ensures stands { OnOk result (IsStanding model.now (standing executive.new)) }
+    ensures err { OnErr result (executive.new ≡ executive.old) }
 {
     let reply = reply_at(model, executive);
     let state = executive.state.copy(alloc)?;
@@ -103,6 +104,7 @@ pub fn event(
     ensures after { OnOk result (standing executive.new ≡ after_event model.now (standing executive.old) event.now) }
     ensures stands { OnOk result (IsStanding model.now (standing executive.new)) }
     ensures ticks { OnOk result (executive.new.ticks ≤ executive.old.ticks + 1) }
+    ensures err { OnErr result (executive.new ≡ executive.old) }
 {
     match event {
         Event::Tick => {

@@ -6,7 +6,8 @@ ghost use Rattle.text_base.specs.Lexemes.{lexeme_of};
 ghost use Rattle.std.specs.List.{list_any};
 ghost use Rattle.std.specs.Str.{bytes_eq};
 ghost use Rattle.text_base.specs.Lexemes.{Lexeme};
-ghost use Rattle.titan_top.specs.Items.{Item as SpelledItem, IsSpelled, spelling, unbuilt_words, is_unbuilt, pair_at, pairs_at, ended, goal_at, item_of, shown_pair, shown_item};
+ghost use Rattle.titan_top.specs.Items.{Item as SpelledItem, IsSpelled, spelling, unbuilt_words, is_unbuilt, pair_at, pairs_at, goal_at, item_of, shown_pair, shown_item};
+ghost use Rattle.model_syntax.specs.Items.{ended};
 
 use std::alloc::{AllocError, Global};
 use text_base::{Kind, Token, is_lexeme, name_word_at, next_is};

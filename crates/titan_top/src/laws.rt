@@ -1,11 +1,29 @@
-//! An input has one outcome, and what is shown is read as that model.
+//! An input has one outcome, which its machine prints and which its first bytes begin; and what is shown is read as that model.
 
-ghost use Rattle.titan_top.specs.Laws.{OutcomesAreOne, PrintedTextsReadBack};
+ghost use Rattle.titan_top.specs.Laws.{OutcomesAreOne, TextsAreOutcomes, SureTextBegins, OutcomesFit, PrintedTextsReadBack};
 
 /// For words and an input there is one outcome at most: one text, and one status without faults.
-#[tactic(auto, using(crate::proofs::StatusLaws::outcomes_are_one))]
+#[tactic(auto, using(crate::proofs::OutcomesAreOne::outcomes_are_one))]
 pub fn outcomes_are_one()
     ensures { OutcomesAreOne }
+{}
+
+/// What a form's machine prints for an input is what the input's document says, and the other way round.
+#[tactic(auto, using(crate::proofs::MachineLaws::texts_are_outcomes))]
+pub fn texts_are_outcomes()
+    ensures { TextsAreOutcomes }
+{}
+
+/// What bytes alone decide begins the text of every input that begins with them.
+#[tactic(auto, using(crate::proofs::MachineLaws::sure_text_begins))]
+pub fn sure_text_begins()
+    ensures { SureTextBegins }
+{}
+
+/// A sink that has room for the whole text has room for all that the program may print.
+#[tactic(auto, using(crate::proofs::MachineLaws::outcomes_fit))]
+pub fn outcomes_fit()
+    ensures { OutcomesFit }
 {}
 
 /// What is printed of a model, cut at its lines' ends, is read as that model.

@@ -10,7 +10,7 @@ use cca_base::codes::MALFORMED;
 use std::alloc::Global;
 use text_base::{Token, TokenFault, tokens};
 
-/// Bytes of the longest line that is taken, without its LF.
+/// The most bytes of a line, without its LF.
 pub const MAX_LINE: usize = 4096;
 
 /// The tokens of a line, which a bad byte makes malformed.

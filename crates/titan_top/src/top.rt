@@ -1,64 +1,62 @@
 //! The one call that the program makes.
 
-ghost use Rattle.std.specs.Prelude.{◌≡◌, ◌≢◌, ◌⊎◌, ◌≤◌, ℕ, IfSome, Some, List, length};
-ghost use Rattle.cca_base.specs.Model.{empty_model};
-ghost use Rattle.cca_base.specs.declared.codes.TheConstants.{UNSUPPORTED};
-ghost use Rattle.std.specs.Io.KnownBytes.{IsAtEnd};
+ghost use Rattle.std.specs.Prelude.{◌≡◌, ◌≢◌, ◌⊎◌, ◌≤◌, ℕ, List, IfSome, IfOk, IfErr, IsErrOf, Some, length};
+ghost use Rattle.std.specs.Io.KnownBytes.{prepend_known, IsAtEnd};
 ghost use Rattle.titan_wire.specs.Wire.{Rose, HasRoom};
 ghost use Rattle.titan_top.specs.Headline.{IsTraceOf};
-ghost use Rattle.cca_base.specs.Refusals.{bare};
-ghost use Rattle.titan_top.specs.Output.{Outcome, refusal, IsOutcomeFor, IsOutcome, NothingRefused, SomeRefused, usage, AreNoForm};
-ghost use Rattle.titan_top.specs.Wire.{HasRoomFor, Prints, PrintsAs, SentOrKnown};
+ghost use Rattle.titan_top.specs.Output.{Outcome, IsOutcomeFor, IsOutcome, NothingRefused, SomeRefused, usage, usage_text, AreNoForm};
+ghost use Rattle.titan_top.specs.Statuses.{status_of, end_status};
+ghost use Rattle.titan_top.specs.Streams.{HasRoomForWords, StreamedFor, InTurnFor, StreamsAs};
+ghost use Rattle.titan_top.specs.Wire.{Writes, WritesAs};
 ghost use Rattle.titan_top.specs.Words.{form_of, texts};
 
-use crate::document::print_all;
-use crate::input::{MAX_INPUT, ReadStop, read_whole};
-use crate::output::{refuse_code, send};
-use crate::status::Status;
+use crate::run::Run;
+use crate::show::Show;
+use crate::status::{Status, status_of};
 use crate::words::{Form, form_of};
-use cca_base::Model;
-use cca_base::codes::UNSUPPORTED;
+use line_machine::{Cut, End, Intake, Unwatched, drive};
 use std::alloc::Global;
-use titan_wire::{Sink, Source};
+use titan_wire::{PutEnd, Sink, Source, put_all};
 
-/// Ends the program with the refusal of an input that is too long.
-fn refuse_long<K: Sink>(alloc: Global, sink: &mut K) -> Status
-    requires { HasRoom (K.space sink.old) (length (refusal empty_model 0 (bare UNSUPPORTED)).text) }
-    ensures sent { Prints result (K.written sink.old) (K.written sink.new) (refusal empty_model 0 (bare UNSUPPORTED)) }
-    ensures later { K.faults sink.old ≤ K.faults sink.new }
-    ensures fault { result ≡ Status.WriteFault → Rose (K.faults sink.old) (K.faults sink.new) }
-    ensures not_read { result ≢ Status.ReadFault }
-    ensures not_usage { result ≢ Status.Usage }
-    ensures not_rejected { result ≢ Status.Rejected }
-    ensures not_ended { result ≢ Status.Ended }
+/// Drives the machine of a form of words. The source is asked by an intake, so that the order of reads and writes can be said.
+fn drive_form<S, K: Sink, I: Intake<S, K>>(
+    alloc: Global,
+    form: Form,
+    source: &mut S,
+    sink: &mut K,
+) -> Result<End, Cut>
+    requires { HasRoomForWords (Some form) (I.left source.old) (K.space sink.old) }
+    ensures streamed { StreamedFor form (I.left source.old) (I.left source.new) (K.written sink.old) (K.written sink.new) result }
+    ensures order { InTurnFor form (I.left source.old) (I.left source.new) (K.written sink.old) (K.written sink.new) (I.calls source.old) (I.calls source.new) result }
+    ensures text { IfSome (I.left source.old) (λ input. WritesAs (status_of result) (K.written sink.old) (K.written sink.new) (IsOutcomeFor form input)) }
+    ensures ends { IfSome (I.left source.old) (λ input. (o : Outcome) → IsOutcomeFor form input o → IfOk result (λ e. o.status ≡ end_status e)) }
+    ensures read { IsErrOf result Cut.ReadFault → Rose (I.faults source.old) (I.faults source.new) }
+    ensures write { IsErrOf result Cut.WriteFault → Rose (K.faults sink.old) (K.faults sink.new) }
+    ensures complete { ¬ (Rose (I.faults source.old) (I.faults source.new)) → ¬ (Rose (K.faults sink.old) (K.faults sink.new)) → IfErr result (λ c. c ≡ Cut.Memory) }
 {
-    let model = Model::empty(alloc);
-    refuse_code(alloc, sink, &model, 0, UNSUPPORTED)
+    match form {
+        Form::Run => match Run::open(alloc) {
+            Ok(mut machine) => drive::<Run, S, K, I>(alloc, &mut machine, source, sink),
+            Err(_) => Err(Cut::Memory),
+        },
+        Form::Show => match Show::open(alloc) {
+            Ok(mut machine) => drive::<Show, S, K, I>(alloc, &mut machine, source, sink),
+            Err(_) => Err(Cut::Memory),
+        },
+    }
 }
 
-/// Reads an input, and prints all that it leads to for a form of words.
-fn document<S: Source, K: Sink>(alloc: Global, form: Form, source: &mut S, sink: &mut K) -> Status
-    requires { HasRoomFor (K.space sink.old) (S.left source.old) (IsOutcomeFor form) }
-    ensures text { IfSome (S.left source.old) (λ input. PrintsAs result (K.written sink.old) (K.written sink.new) (IsOutcomeFor form input)) }
-    ensures known { IfSome (S.left source.old) (λ input. SentOrKnown result (K.written sink.old) (K.written sink.new) (IsOutcomeFor form input)) }
-    ensures read { result ≡ Status.ReadFault → Rose (S.faults source.old) (S.faults source.new) }
-    ensures write { result ≡ Status.WriteFault → Rose (K.faults sink.old) (K.faults sink.new) }
-    ensures some_input { (input : List ℕ) × (o : Outcome) × IsOutcomeFor form input o × Prints result (K.written sink.old) (K.written sink.new) o }
-    ensures usage { result ≢ Status.Usage }
-    ensures not_rejected { result ≢ Status.Rejected }
-    ensures whole { result ≡ Status.Ended → IsAtEnd (S.left source.new) }
-    ensures ended { result ≡ Status.Ended → IfSome (S.left source.old) (NothingRefused (Some form)) }
-    ensures refused { result ≡ Status.Refused → IfSome (S.left source.old) (SomeRefused (Some form)) }
+/// Sends the line for words of no form.
+fn send_usage<K: Sink>(sink: &mut K) -> Status
+    requires { HasRoom (K.space sink.old) (length usage_text) }
+    ensures sent { Writes result (K.written sink.old) (K.written sink.new) usage }
+    ensures fault { result ≡ Status.WriteFault → Rose (K.faults sink.old) (K.faults sink.new) }
+    ensures only { (result ≡ Status.Usage) ⊎ (result ≡ Status.WriteFault) }
 {
-    let input = match read_whole(alloc, source) {
-        Ok(input) => input,
-        Err(ReadStop::Fault) => return Status::ReadFault,
-        Err(ReadStop::Memory) => return Status::Memory,
-    };
-    if input.len() > MAX_INPUT {
-        return refuse_long(alloc, sink);
+    match put_all(sink, b"usage: see the forms of titan\n") {
+        PutEnd::Done => Status::Usage,
+        PutEnd::WriteFault { .. } => Status::WriteFault,
     }
-    print_all(alloc, sink, form, &input)
 }
 
 /// Does all that the program does: `words` are those of the command line after the program's own name.
@@ -68,19 +66,16 @@ pub fn titan<S: Source, K: Sink>(
     source: &mut S,
     sink: &mut K,
 ) -> Status
-    requires { HasRoomFor (K.space sink.old) (S.left source.old) (IsOutcome words.now.items) }
+    requires { HasRoomForWords (form_of (texts words.now.items)) (S.left source.old) (K.space sink.old) }
 
-    // What was written, and what the status says, where the bytes are told.
+    // Over every source: some bytes, those that were taken where they are known, what the form's machine says of them, and what of it
+    // was written.
+    ensures streamed { (form : Form) → form_of (texts words.now.items) ≡ Some form →
+        StreamsAs form (S.left source.old) (S.left source.new) (K.written sink.old) (K.written sink.new) result }
+
+    // Over a source whose bytes are known: the whole text of the words and the input, or a front of it.
     ensures text { IfSome (S.left source.old) (λ input.
-        PrintsAs result (K.written sink.old) (K.written sink.new) (IsOutcome words.now.items input)) }
-
-    // There is such a text, unless a fault or want of memory came before anything was written.
-    ensures known { IfSome (S.left source.old) (λ input.
-        SentOrKnown result (K.written sink.old) (K.written sink.new) (IsOutcome words.now.items input)) }
-
-    // Also over a source that tells no bytes, these are the text and the status of some input.
-    ensures some_input { (input : List ℕ) × (o : Outcome) × IsOutcome words.now.items input o
-        × Prints result (K.written sink.old) (K.written sink.new) o }
+        WritesAs result (K.written sink.old) (K.written sink.new) (IsOutcome words.now.items input)) }
 
     // What is printed of a run: the reports are the trace of what was read, each reply is good, and then comes the ending; or
     // the model is refused.
@@ -91,13 +86,19 @@ pub fn titan<S: Source, K: Sink>(
     ensures ended { result ≡ Status.Ended → IfSome (S.left source.old) (NothingRefused (form_of (texts words.now.items))) }
     ensures refused { result ≡ Status.Refused → IfSome (S.left source.old) (SomeRefused (form_of (texts words.now.items))) }
 
+    // Without a fault that is how the program ends, or memory ran out.
+    ensures ended_where { ¬ (Rose (S.faults source.old) (S.faults source.new)) → ¬ (Rose (K.faults sink.old) (K.faults sink.new)) →
+        IfSome (S.left source.old) (λ input. NothingRefused (form_of (texts words.now.items)) input → (result ≡ Status.Ended) ⊎ (result ≡ Status.Memory)) }
+    ensures refused_where { ¬ (Rose (S.faults source.old) (S.faults source.new)) → ¬ (Rose (K.faults sink.old) (K.faults sink.new)) →
+        IfSome (S.left source.old) (λ input. SomeRefused (form_of (texts words.now.items)) input → (result ≡ Status.Refused) ⊎ (result ≡ Status.Memory)) }
+
     // Each fault has its cause.
     ensures read { result ≡ Status.ReadFault → Rose (S.faults source.old) (S.faults source.new) }
     ensures write { result ≡ Status.WriteFault → Rose (K.faults sink.old) (K.faults sink.new) }
 
     // Words of no form, whether or not the source tells its bytes.
     ensures usage { result ≡ Status.Usage → AreNoForm words.now.items }
-    ensures no_form { AreNoForm words.now.items → Prints result (K.written sink.old) (K.written sink.new) usage }
+    ensures no_form { AreNoForm words.now.items → Writes result (K.written sink.old) (K.written sink.new) usage }
     ensures only_usage { AreNoForm words.now.items → (result ≡ Status.Usage) ⊎ (result ≡ Status.WriteFault) }
     ensures not_asked { AreNoForm words.now.items → source.new ≡ source.old }
 
@@ -108,11 +109,14 @@ pub fn titan<S: Source, K: Sink>(
     // No form of words that is built rejects anything.
     ensures not_rejected { result ≢ Status.Rejected }
 
-    // The input was read to its end.
-    ensures whole { result ≡ Status.Ended → IsAtEnd (S.left source.new) }
+    // A run that ended has read its input to the end; what is shown was read to the line `script`, and nothing goes out before.
+    ensures whole { form_of (texts words.now.items) ≡ Some Form.Run → result ≡ Status.Ended → IsAtEnd (S.left source.new) }
+    ensures to_script { form_of (texts words.now.items) ≡ Some Form.Show → result ≡ Status.Ended →
+        (taken : List ℕ) × (S.left source.old ≡ prepend_known taken (S.left source.new)) × NothingRefused (Some Form.Show) taken }
+    ensures silent { form_of (texts words.now.items) ≡ Some Form.Show → result ≡ Status.ReadFault → K.written sink.new ≡ K.written sink.old }
 {
     match form_of(words) {
-        Some(form) => document(alloc, form, source, sink),
-        None => send(sink, b"usage: see the forms of titan\n", Status::Usage),
+        Some(form) => status_of(drive_form::<S, K, Unwatched>(alloc, form, source, sink)),
+        None => send_usage(sink),
     }
 }

@@ -7,7 +7,7 @@ pub refuse-requires : goal.refuse-requires
 refuse-requires g c =
     let d = came c.lines.invariant.driving c.next_limit-limit.ensures.short c.next_line.ensures.came in
     let f = found_long _ _ _ c.in-Ok.found c.in-Ok.ensures.found c.in-Long.is in
-    long_room d f.0 (omega (arith, f.1)) (c.next_limit-limit.ensures.long _ f.1) c.requires
+    long_room d f.0 (omega (arith, f.1)) (c.next_limit-limit.ensures.long _ f.1) c.requires.room
 
 pub returns-in-Ok-refuse-clause-driven : goal.returns-in-Ok-refuse-clause-driven
 returns-in-Ok-refuse-clause-driven g c =
@@ -19,19 +19,19 @@ pub returns-in-Err-clause-driven : goal.returns-in-Err-clause-driven
 returns-in-Err-clause-driven g c =
     let d = came c.lines.invariant.driving c.next_limit-limit.ensures.short c.next_line.ensures.came in
     let f = found_long _ _ _ c.in-Ok.found c.in-Ok.ensures.found c.in-Long.is in
-    in_turn _ d (long_cut d f.0 (omega (arith, f.1)) (c.next_limit-limit.ensures.long _ f.1) _ c.in-Err.ensures.cut)
+    in_turn _ d (long_cut d f.0 (omega (arith, f.1)) (c.next_limit-limit.ensures.long _ f.1) _ _ c.in-Err.ensures.cut)
 
 pub take_last-requires-clause-room : goal.take_last-requires-clause-room
 take_last-requires-clause-room g c =
     let d = came c.lines.invariant.driving c.next_limit-limit.ensures.short c.next_line.ensures.came in
     let f = found_last _ _ _ c.in-Ok.found c.in-Ok.ensures.found c.in-Last.is in
-    last_room d f.0.no_line f.1 (c.front.ensures ∙ take_all _ _ (omega (arith, c.len-len.ensures))) c.requires
+    last_room d f.0.no_line f.1 (c.front.ensures ∙ take_all _ _ (omega (arith, c.len-len.ensures))) c.requires.room
 
 pub returns-in-Last-clause-driven : goal.returns-in-Last-clause-driven
 returns-in-Last-clause-driven g c =
     let d = came c.lines.invariant.driving c.next_limit-limit.ensures.short c.next_line.ensures.came in
     let f = found_last _ _ _ c.in-Ok.found c.in-Ok.ensures.found c.in-Last.is in
-    in_turn _ d (last_ends d f.0.no_line f.1 (c.front.ensures ∙ take_all _ _ (omega (arith, c.len-len.ensures))) c.take_last.result _ c.take_last.ensures.ok c.take_last.ensures.cut c.take_last.ensures.front)
+    in_turn _ d (last_ends d f.0.no_line f.1 (c.front.ensures ∙ take_all _ _ (omega (arith, c.len-len.ensures))) c.take_last.result _ _ c.take_last.ensures.ok c.take_last.ensures.cut c.take_last.ensures.front)
 
 pub returns-in-Err-Fault-clause-driven : goal.returns-in-Err-Fault-clause-driven
 returns-in-Err-Fault-clause-driven g c =
@@ -44,17 +44,17 @@ returns-in-Err-Memory-clause-driven g c =
     let d = came c.lines.invariant.driving c.next_limit-limit.ensures.short c.next_line.ensures.came in
     in_turn _ d (no_memory d)
 
-pub take_line-requires : goal.take_line-requires
-take_line-requires g c =
+pub take_line-requires-clause-room : goal.take_line-requires-clause-room
+take_line-requires-clause-room g c =
     let d = came c.lines.invariant.driving c.next_limit-limit.ensures.short c.next_line.ensures.came in
     let line = found_line _ _ _ c.in-Ok.found c.in-Ok.ensures.found c.in-Line.len c.in-Line.is in
-    line_room d line c.front-in-lines.ensures c.requires
+    line_room d line c.front-in-lines.ensures c.requires.room
 
 pub returns-in-Err-take_line-clause-driven : goal.returns-in-Err-take_line-clause-driven
 returns-in-Err-take_line-clause-driven g c =
     let d = came c.lines.invariant.driving c.next_limit-limit.ensures.short c.next_line.ensures.came in
     let line = found_line _ _ _ c.in-Ok.found c.in-Ok.ensures.found c.in-Line.len c.in-Line.is in
-    in_turn _ d (line_cut d line c.front-in-lines.ensures _ c.in-Err-take_line.ensures.cut)
+    in_turn _ d (line_cut d line c.front-in-lines.ensures _ _ c.in-Err-take_line.ensures.cut)
 
 pub returns-in-Some-clause-driven : goal.returns-in-Some-clause-driven
 returns-in-Some-clause-driven g c =
@@ -69,6 +69,7 @@ lines-preserved g c =
     record {
       driving = subst (λ h. IsDriving g.M.Machine c.args.machine.now (g.I.Intake.left c.args.source.now) (g.K.Sink.written c.args.sink.now) (g.K.Sink.space c.args.sink.now) (g.I.Intake.calls c.args.source.now) ⊥ (c.lines.count + 1) c.take_line.new.machine h (g.I.Intake.left c.next_line.new.source) (g.K.Sink.written c.take_line.new.sink) (g.K.Sink.space c.take_line.new.sink) (g.I.Intake.calls c.next_line.new.source)) (sym c.drop_line.ensures)
           (line_next d line c.front-in-lines.ensures _ c.in-Ok-take_line.said c.in-None.is c.in-Ok-take_line.ensures.ok);
+      turn = c.in-Ok-take_line.ensures.turn c.in-None.is;
       few = line_few d line c.front-in-lines.ensures _ c.in-Ok-take_line.said c.in-None.is c.in-Ok-take_line.ensures.ok;
       later_source = omega (arith, c.next_line.ensures.later, c.lines.invariant.later_source);
       later_sink = omega (arith, c.take_line.ensures.later, c.lines.invariant.later_sink);

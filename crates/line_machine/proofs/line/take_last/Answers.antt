@@ -11,8 +11,8 @@ returns-then-is_empty-clause-ok g c = empty_sent g.M.Machine c.args.machine.now 
 pub returns-then-is_empty-clause-front : goal.returns-then-is_empty-clause-front
 returns-then-is_empty-clause-front g c = empty_front g.M.Machine c.args.machine.now c.args.count c.args.tail.now (eqb-true _ 0 (sym c.if-is_empty.ensures)) c.finish.result _ _ c.finish.ensures.cut
 
-pub take_line-requires : goal.take_line-requires
-take_line-requires g c text may = c.requires.room text (may_line g.M.Machine c.args.machine.now c.args.count c.args.tail.now (positive _ c.if-is_empty.ensures) text may)
+pub take_line-requires-clause-room : goal.take_line-requires-clause-room
+take_line-requires-clause-room g c text may = c.requires.room text (may_line g.M.Machine c.args.machine.now c.args.count c.args.tail.now (positive _ c.if-is_empty.ensures) text may)
 
 pub returns-in-Err-clause-front : goal.returns-in-Err-clause-front
 returns-in-Err-clause-front g c = line_front g.M.Machine c.args.machine.now c.args.count c.args.tail.now (positive _ c.if-is_empty.ensures) c.in-Err.cut _ _ c.in-Err.ensures.cut

@@ -1,0 +1,42 @@
+-- For words and an input there is one outcome at most.
+use Rattle.std.proofs.Common.{◌≡◌, ℕ, List, Option, Some, None, sym, ◌∙◌}
+use Rattle.line_machine.proofs.RunsAreOne.{IsFixed}
+use Rattle.line_machine.proofs.SureTextBegins.{text_is_one}
+use Rattle.titan_top.specs.Document.{nothing_read}
+use Rattle.titan_top.specs.Laws.{OutcomesAreOne}
+use Rattle.titan_top.specs.OneStep.{run_steps_are_one, run_closes_are_one, show_steps_are_one, model_closes_are_one}
+use Rattle.titan_top.specs.Output.{Outcome, IsOutcomeFor, IsOutcomeOf, IsOutcome}
+use Rattle.titan_top.specs.RunMachine.{InModel, RunsAtScript, run_machine, run_first}
+use Rattle.titan_top.specs.ShowMachine.{ShowsAtScript, show_machine}
+use Rattle.titan_top.specs.Words.{form_of, texts}
+use Rattle.titan_top.specs.declared.words.Form.{Form}
+use Rattle.titan_top.specs.declared.words.Form.TheVariants.{Run, Show}
+use Rattle.titan_top.proofs.DocumentsAreTexts.{said_text, same_outcome}
+use Rattle.titan_top.proofs.RunTexts.{run_reads_models}
+use Rattle.titan_top.proofs.ShowTexts.{show_reads_models}
+
+pub run_fixed : IsFixed run_machine
+run_fixed = record { steps = run_steps_are_one; closes = run_closes_are_one }
+
+pub show_fixed : IsFixed show_machine
+show_fixed = record { steps = show_steps_are_one; closes = model_closes_are_one }
+
+pub form_once : (form : Form) (input : List ℕ) (a b : Outcome) → IsOutcomeFor form input a → IsOutcomeFor form input b → a ≡ b
+form_once Run input a b h k =
+    let x = said_text Run run_machine InModel RunsAtScript run_reads_models input a h in
+    let y = said_text Run run_machine InModel RunsAtScript run_reads_models input b k in
+    let p = text_is_one run_machine run_first run_fixed input x.text y.text x.end y.end x.of y.of in
+    x.is ∙ same_outcome p.0 p.1 ∙ sym y.is
+form_once Show input a b h k =
+    let x = said_text Show show_machine (λ t. t) ShowsAtScript show_reads_models input a h in
+    let y = said_text Show show_machine (λ t. t) ShowsAtScript show_reads_models input b k in
+    let p = text_is_one show_machine nothing_read show_fixed input x.text y.text x.end y.end x.of y.of in
+    x.is ∙ same_outcome p.0 p.1 ∙ sym y.is
+
+outcome_once : (f : Option Form) (input : List ℕ) (a b : Outcome) → IsOutcomeOf f input a → IsOutcomeOf f input b → a ≡ b
+outcome_once None input a b h k = h ∙ sym k
+outcome_once (Some form) input a b h k = form_once form input a b h k
+
+pub outcomes_are_one : OutcomesAreOne
+unfolding IsOutcome
+outcomes_are_one words input a b h k = outcome_once (form_of (texts words)) input a b h k
