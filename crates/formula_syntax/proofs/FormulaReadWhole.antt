@@ -12,7 +12,7 @@ use Rattle.formula_syntax.specs.declared.formula_parser.Side.{Side}
 use Rattle.formula_syntax.specs.declared.formula_parser.Level.{Level}
 use Rattle.formula_syntax.specs.declared.formula_parser.Expected.{Expected}
 use Rattle.formula_syntax.specs.declared.formula_parser.Expected.TheVariants.{Operand, Operator, Named, Compared, Opened, Listed, Followed}
-use Rattle.formula_syntax.specs.Chain.{◌>>=◌}
+use Rattle.text_base.specs.Chain.{◌>>=◌}
 use Rattle.formula_syntax.specs.Grammar.{Whole, spelling}
 use Rattle.formula_syntax.specs.FormulaParser.{State, start, step, step_at, run, ended, cases_read, side_read, level_read, link_from, close_from}
 use Rattle.formula_syntax.specs.Meanings.{IsReadingOf, reading_of}

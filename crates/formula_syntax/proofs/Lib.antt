@@ -1,5 +1,6 @@
 pub mod UnknownNames
 pub mod ModesByName
+pub mod LeastLaws
 pub mod TextReadings
 pub mod Complete
 pub mod Sound

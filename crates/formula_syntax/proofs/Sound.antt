@@ -15,7 +15,7 @@ use Rattle.formula_syntax.specs.declared.formula_parser.Level.{Level}
 use Rattle.formula_syntax.specs.declared.formula_parser.Expected.TheVariants.{Operand, Operator, Named, Compared, Opened, Listed, Followed}
 use Rattle.formula_syntax.specs.Grammar.{NameWord, Factor, Conjunction, Disjunction, Whole, True, False, Equal, Differs, In, Not, Parens, Single, And, Case, Or, Plain, Implies, Iff, name_word, values_spelled, factor_spelled, conjunction_spelled, disjunction_spelled, whole_spelled}
 use Rattle.formula_syntax.specs.ReadParts.{any_of, all_of, named, with_value, enclosed}
-use Rattle.formula_syntax.specs.Chain.{◌>>=◌}
+use Rattle.text_base.specs.Chain.{◌>>=◌}
 use Rattle.formula_syntax.specs.FormulaParser.{State, start, nots, more_or_one, completed, level_read, against, step, ended, run, link_from, close_from}
 use Rattle.formula_syntax.proofs.TextReadings.{with_values, factor_read, conjunction_read, disjunction_read, whole_read}
 use Rattle.formula_syntax.proofs.Complete.{here, level}

@@ -15,7 +15,7 @@ use Rattle.formula_syntax.specs.declared.formula_parser.Level.{Level}
 use Rattle.formula_syntax.specs.declared.formula_parser.Expected.{Expected}
 use Rattle.formula_syntax.specs.declared.formula_parser.Expected.TheVariants.{Operand, Operator, Named, Compared, Opened, Listed, Followed}
 use Rattle.formula_syntax.specs.declared.formula_parser.FormulaParser.{FormulaParser}
-use Rattle.formula_syntax.specs.Chain.{◌>>=◌}
+use Rattle.text_base.specs.Chain.{◌>>=◌}
 use Rattle.formula_syntax.specs.ReadParts.{negated, enclosed, linked, one, more, all_of, any_of, named, with_value, among}
 
 -- what was read so far: the levels around this one, innermost first, this level, and what comes next

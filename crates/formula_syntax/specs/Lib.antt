@@ -1,5 +1,5 @@
-pub mod Chain
 pub mod Grammar
+pub mod Least
 pub mod Lookups
 pub mod ReadParts
 pub mod FormulaParser

@@ -24,6 +24,18 @@ abbrev pub subject_of : PlantModel → List ℕ → Option Subject
 subject_of m name =
     or_else (option_map Component (position (λ c. bytes_eq c.name name) m.components)) (option_map Variable (position (λ v. bytes_eq v.name name) m.variables))
 
+-- the number of a component
+abbrev pub as_component : Option Subject → Option ℕ
+as_component None = None
+as_component (Some (Component c)) = Some c
+as_component (Some (Variable v)) = None
+
+-- the number of a variable
+abbrev pub as_variable : Option Subject → Option ℕ
+as_variable None = None
+as_variable (Some (Variable v)) = Some v
+as_variable (Some (Component c)) = None
+
 -- the names of the subject's modes or values
 abbrev pub choices_of : PlantModel → Subject → List (List ℕ)
 choices_of m (Component c) = option_map_or (λ x. x.modes) (slice_get m.components c) []

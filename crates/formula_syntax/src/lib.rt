@@ -14,5 +14,5 @@ mod steps;
 mod transitions;
 
 pub use formula::{read_formula, read_strictly, texts_are_read_one_way};
-pub use lookup::{subject_of, value_of};
+pub use lookup::{subject_by, subject_of, value_of};
 pub use read_part::ReadPart;

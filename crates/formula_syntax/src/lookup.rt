@@ -62,7 +62,7 @@ fn find_subject(model: &Model, text: &[u8]) -> Option<Subject>
 }
 
 /// What the name stands for in the model, by the map of its names where there is one.
-fn subject_by(
+pub fn subject_by(
     model: &Model,
     names: Option<&IndexMap<Name, Subject>>,
     text: &[u8],

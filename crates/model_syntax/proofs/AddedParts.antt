@@ -16,6 +16,7 @@ use Rattle.cca_base.specs.PlantModel.{PlantModel}
 use Rattle.cca_base.specs.Names.{is_word, is_reserved, is_name, AreDifferent}
 use Rattle.cca_base.specs.Model.{WellFormed, AreChoices, names_of, with_component, with_variable}
 use Rattle.cca_base.proofs.Growth.{component_kept, variable_kept}
+use Rattle.formula_syntax.proofs.LeastLaws.{least_none}
 use Rattle.formula_syntax.specs.Lookups.{subject_of, or_else, place_of}
 use Rattle.formula_syntax.specs.Meanings.{has_twice}
 use Rattle.model_syntax.specs.Codes.{least, is_long, is_taken, start_mode, list_passes, component_code, new_component, variable_code, new_variable}
@@ -25,10 +26,6 @@ use Rattle.model_syntax.proofs.FirstPlaces.{none_passes}
 pub use Rattle.std.proofs.lemmas.Bool.{or_parts, not-false as not_parts}
 
 -- no code applies
-pub least_none : (code : ℕ) (applies : Bool) (rest : List (ℕ × Bool)) → least ((code, applies) ∷ rest) ≡ None → (applies ≡ false) × (least rest ≡ None)
-least_none code true rest e = absurd cc
-least_none code false rest e = (refl, e)
-
 pub below : (a b : ℕ) → nat_le a b ≡ false → b < a
 below a b e = grind (arith, nat_tests)
 

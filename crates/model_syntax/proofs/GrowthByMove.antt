@@ -22,7 +22,8 @@ use Rattle.formula_syntax.specs.Lookups.{place_of, or_else}
 use Rattle.model_syntax.specs.Reader.{NumbersFit}
 use Rattle.model_syntax.specs.Codes.{least, is_long, command_number, with_named, leads_to, leaves_unmarked, is_ambiguous, is_into_broken, is_unmarked_exit, mends_twice, move_faults}
 use Rattle.model_syntax.specs.Lines.{is_bare_name}
-use Rattle.model_syntax.proofs.AddedParts.{least_none, below, is_named}
+use Rattle.formula_syntax.proofs.LeastLaws.{least_none}
+use Rattle.model_syntax.proofs.AddedParts.{below, is_named}
 use Rattle.model_syntax.proofs.NamesInGrowth.{Names}
 use Rattle.model_syntax.proofs.FirstPlaces.{position_push, none_passes}
 

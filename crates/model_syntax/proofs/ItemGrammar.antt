@@ -1,35 +1,32 @@
 -- An item is read from its spelling, and from nothing else.
-use Rattle.std.proofs.Common.{◌≡◌, ℕ, Bool, true, false, cond, codes, List, [], ◌∷◌, ◌++◌, Option, Some, None, refl, sym, ap, subst, ◌∙◌, arith}
+use Rattle.std.proofs.Common.{◌≡◌, ℕ, Bool, true, false, codes, List, [], ◌∷◌, ◌++◌, Option, Some, None, refl, ap, subst, ◌∙◌, arith}
 use Rattle.std.proofs.lemmas.Option.{same_Some}
-use Rattle.text_base.proofs.LexemeLaws.{lexeme_is}
-use Rattle.list_laws.proofs.Tests.{cond_either, cond_found}
-use Rattle.text_base.specs.Lexemes.{Lexeme, word, number, symbol, comma, is_lexeme, next_is, name_word_at, names_at}
-use Rattle.formula_syntax.specs.Chain.{◌>>=◌}
-use Rattle.model_syntax.specs.Items.{Ends, Item, Header, Component, Variable, Rule, Move, Failure, Script, ended, number_at, ends_at, header_at, component_at, sensed_at, variable_at, move_at, failure_at, item_of, list_spelled, names_spelled, ends_spelled, sensed_spelled, move_word, line_spelled, AreNameWords, IsSpelled}
-use Rattle.model_syntax.proofs.ListGrammar.{bind_some, then, next_read, after, reads_name, name_read, reads_names, names_read, number_read}
-
-abbrev equals_sign : Lexeme
-equals_sign = symbol (codes "=")
+use Rattle.text_base.proofs.LexemeLaws.{kind_is, lexeme_is}
+use Rattle.list_laws.proofs.Tests.{cond_found}
+use Rattle.text_base.specs.declared.token.Kind.{Kind}
+use Rattle.text_base.specs.declared.token.Kind.TheVariants.{Number}
+use Rattle.text_base.specs.Lexemes.{Lexeme, word, number, symbol, comma, same_kind, is_lexeme, next_is, name_word_at}
+use Rattle.text_base.specs.Lists.{names_at, ended, name_list_spelled, names_spelled, AreNameWords}
+use Rattle.text_base.specs.Chain.{◌>>=◌}
+use Rattle.model_syntax.specs.Items.{Ends, Item, Header, Component, Variable, Rule, Move, Failure, Script, number_at, ends_at, header_at, component_at, sensed_at, variable_at, move_at, failure_at, item_of, ends_spelled, sensed_spelled, move_word, line_spelled, IsSpelled}
+use Rattle.text_base.proofs.ChainLaws.{bind_some, then, next_read, after}
+use Rattle.text_base.proofs.NameGrammar.{reads_name, name_read, reads_names, names_read}
+use Rattle.text_base.proofs.PairGrammar.{equals_sign}
+use Rattle.text_base.proofs.FormGrammar.{ended_read, same_item, only, keyword}
 
 abbrev arrow : Lexeme
 arrow = symbol (codes "->")
-
-ended_read : (x y : Item) (ls : List Lexeme) → ended x ls ≡ Some y → (ls ≡ []) × (x ≡ y)
-ended_read x y [] e = (refl, same_Some x y e)
-ended_read x y (l ∷ ls) e = absurd cc
 
 -- this item is spelled so
 abbrev IsWritten : List Lexeme → Item → Type 0
 IsWritten ls i = (ls ≡ line_spelled i) × IsSpelled i
 
-same_item : (l : Lexeme) (ls : List Lexeme) (x i : Item) → x ≡ i → IsWritten (l ∷ ls) x → IsWritten (l ∷ ls) i
-same_item l ls x i e w = subst (IsWritten (l ∷ ls)) e w
-
--- nothing stands behind the item's words
-only : (l : Lexeme) (x i : Item) (ls : List Lexeme) → ended x ls ≡ Some i → IsWritten (l ∷ []) x → IsWritten (l ∷ ls) i
-only l x i ls e w =
-    let d = ended_read x i ls e in
-    same_item l ls x i d.1 (after l d.0 ∙ w.0, w.1)
+number_read : (ls : List Lexeme) (x : List ℕ × List Lexeme) → number_at ls ≡ Some x → ls ≡ number x.0 ∷ x.1
+number_read [] x e = absurd cc
+number_read (l ∷ ls) x e =
+    let p = cond_found (same_kind l.0 Number) (Some (l.1, ls)) x e in
+    let P : List ℕ × List Lexeme → Type 0 = λ y. l ∷ ls ≡ number y.0 ∷ y.1 in
+    subst P (same_Some (l.1, ls) x p.1) (ap (λ (k : Kind). (k, l.1) ∷ ls) (kind_is l.0 Number p.0))
 
 header_written : (ls : List Lexeme) (i : Item) → header_at ls ≡ Some i → IsWritten (word (codes "titan") ∷ ls) i
 unfolding header_at
@@ -37,7 +34,7 @@ header_written ls i e =
     let a = bind_some (next_is (number (codes "1")) ls) (ended Header) i e in
     let d = ended_read Header i a.0 a.2 in
     let w = next_read (number (codes "1")) ls a.0 a.1 ∙ after (number (codes "1")) d.0 in
-    same_item (word (codes "titan")) ls Header i d.1 (after (word (codes "titan")) w, tt)
+    same_item IsWritten (word (codes "titan") ∷ ls) Header i d.1 (after (word (codes "titan")) w, tt)
 
 -- ---- components
 
@@ -52,7 +49,7 @@ component_then name = next_is equals_sign name.1 >>= λ r. names_at r >>= modes_
 
 reads_component : (name : List ℕ) (modes : List (List ℕ)) (start : List ℕ)
     → IsSpelled (Component name modes start)
-    → component_at (word name ∷ equals_sign ∷ list_spelled modes ++ word (codes "start") ∷ word start ∷ []) ≡ Some (Component name modes start)
+    → component_at (word name ∷ equals_sign ∷ name_list_spelled modes ++ word (codes "start") ∷ word start ∷ []) ≡ Some (Component name modes start)
 unfolding component_at
 reads_component name [] start h = absurd (omega (arith, h.0))
 reads_component name (mode ∷ modes) start h =
@@ -63,11 +60,11 @@ reads_component name (mode ∷ modes) start h =
 
 -- the parts of a component's line, put together
 component_spelled : (name start : List ℕ) (modes : List (List ℕ)) (ls r1 r2 r3 r4 r5 : List Lexeme)
-    → ls ≡ word name ∷ r1 → r1 ≡ equals_sign ∷ r2 → r2 ≡ list_spelled modes ++ r3 → r3 ≡ word (codes "start") ∷ r4 → r4 ≡ word start ∷ r5 → r5 ≡ []
+    → ls ≡ word name ∷ r1 → r1 ≡ equals_sign ∷ r2 → r2 ≡ name_list_spelled modes ++ r3 → r3 ≡ word (codes "start") ∷ r4 → r4 ≡ word start ∷ r5 → r5 ≡ []
     → word (codes "component") ∷ ls ≡ line_spelled (Component name modes start)
 component_spelled name start modes ls r1 r2 r3 r4 r5 e1 e2 e3 e4 e5 e6 =
     let end = e4 ∙ after (word (codes "start")) (e5 ∙ after (word start) e6) in
-    let behind = e2 ∙ after equals_sign (e3 ∙ ap (λ (x : List Lexeme). list_spelled modes ++ x) end) in
+    let behind = e2 ∙ after equals_sign (e3 ∙ ap (λ (x : List Lexeme). name_list_spelled modes ++ x) end) in
     after (word (codes "component")) (e1 ∙ after (word name) behind)
 
 component_written : (ls : List Lexeme) (i : Item) → component_at ls ≡ Some i → IsWritten (word (codes "component") ∷ ls) i
@@ -85,7 +82,7 @@ component_written ls i e =
     let keyword = next_read (word (codes "start")) m.0.1 s.0 s.1 in
     let start = name_read s.0 z.0 z.1 in
     let w = component_spelled a.0.0 z.0.0 m.0.0 ls a.0.1 b.0 m.0.1 s.0 z.0.1 name.0 equals modes.0 keyword start.0 d.0 in
-    same_item (word (codes "component")) ls (Component a.0.0 m.0.0 z.0.0) i d.1 (w, (modes.1, (name.1, (start.1, tt)), modes.2))
+    same_item IsWritten (word (codes "component") ∷ ls) (Component a.0.0 m.0.0 z.0.0) i d.1 (w, (modes.1, (name.1, (start.1, tt)), modes.2))
 
 -- ---- variables
 
@@ -104,7 +101,7 @@ no_comma true = refl
 no_comma false = refl
 
 reads_variable : (name : List ℕ) (values : List (List ℕ)) (sensed : Bool)
-    → IsSpelled (Variable name values sensed) → variable_at (word name ∷ equals_sign ∷ list_spelled values ++ sensed_spelled sensed) ≡ Some (Variable name values sensed)
+    → IsSpelled (Variable name values sensed) → variable_at (word name ∷ equals_sign ∷ name_list_spelled values ++ sensed_spelled sensed) ≡ Some (Variable name values sensed)
 unfolding variable_at
 reads_variable name [] sensed h = absurd (omega (arith, h.0))
 reads_variable name (value ∷ values) sensed h =
@@ -130,9 +127,9 @@ variable_written ls i e =
     let name = name_read ls a.0 a.1 in
     let equals = next_read equals_sign a.0.1 b.0 b.1 in
     let values = names_read b.0 v.0 v.1 in
-    let behind = equals ∙ after equals_sign (values.0 ∙ ap (λ (x : List Lexeme). list_spelled v.0.0 ++ x) d.1) in
+    let behind = equals ∙ after equals_sign (values.0 ∙ ap (λ (x : List Lexeme). name_list_spelled v.0.0 ++ x) d.1) in
     let w = after (word (codes "var")) (name.0 ∙ after (word a.0.0) behind) in
-    same_item (word (codes "var")) ls (Variable a.0.0 v.0.0 d.0) i d.2 (w, (values.1, (name.1, tt), values.2))
+    same_item IsWritten (word (codes "var") ∷ ls) (Variable a.0.0 v.0.0 d.0) i d.2 (w, (values.1, (name.1, tt), values.2))
 
 -- ---- ends
 
@@ -199,7 +196,7 @@ move_written repair ls i e =
     let when = next_read (word (codes "when")) c.0.1 g.0 g.1 in
     let behind = by ∙ after (word (codes "by")) (command.0 ∙ after (word c.0.0) when) in
     let w = after (word (move_word repair)) (ends.0 ∙ ap (ends_spelled a.0.0) behind) in
-    same_item (word (move_word repair)) ls (Move repair a.0.0 c.0.0 g.0) i (same_Some _ i g.2) (w, (ends.1.0, (ends.1.1.0, (ends.1.1.1.0, (command.1, tt)))))
+    same_item IsWritten (word (move_word repair) ∷ ls) (Move repair a.0.0 c.0.0 g.0) i (same_Some _ i g.2) (w, (ends.1.0, (ends.1.1.0, (ends.1.1.1.0, (command.1, tt)))))
 
 -- ---- failures
 
@@ -225,7 +222,7 @@ failure_written ls i e =
     let cost = number_read r.0 c.0 c.1 in
     let behind = keyword ∙ after (word (codes "cost")) (cost ∙ after (number c.0.0) d.0) in
     let w = after (word (codes "fail")) (ends.0 ∙ ap (ends_spelled a.0.0) behind) in
-    same_item (word (codes "fail")) ls (Failure a.0.0 c.0.0) i d.1 (w, ends.1)
+    same_item IsWritten (word (codes "fail") ∷ ls) (Failure a.0.0 c.0.0) i d.1 (w, ends.1)
 
 -- ---- lines
 
@@ -240,28 +237,21 @@ item_again (Move false ends command guard) h = reads_move false ends command gua
 item_again (Failure ends cost) h = reads_failure ends cost h
 item_again Script h = refl
 
--- a test of the first word
-keyword : (k : List ℕ) (l : Lexeme) (ls : List Lexeme) (i : Item) (x y : Option Item)
-    → cond (is_lexeme (word k) l) x y ≡ Some i → (x ≡ Some i → IsWritten (word k ∷ ls) i) → (y ≡ Some i → IsWritten (l ∷ ls) i) → IsWritten (l ∷ ls) i
-keyword k l ls i x y e f g =
-    let P : Lexeme → Type 0 = λ m. IsWritten (m ∷ ls) i in
-    cond_either (is_lexeme (word k) l) x y (Some i) e (λ t h. subst P (sym (lexeme_is (word k) l t)) (f h)) (λ t h. g h)
-
 no_item : {P : Type 0} (i : Item) → ◌≡◌ {A = Option Item} None (Some i) → P
 no_item i e = absurd cc
 
 rule_written : (ls : List Lexeme) (i : Item) → Some (Rule ls) ≡ Some i → IsWritten (word (codes "rule") ∷ ls) i
-rule_written ls i e = same_item (word (codes "rule")) ls (Rule ls) i (same_Some (Rule ls) i e) (refl, tt)
+rule_written ls i e = same_item IsWritten (word (codes "rule") ∷ ls) (Rule ls) i (same_Some (Rule ls) i e) (refl, tt)
 
 pub item_written : (ls : List Lexeme) (i : Item) → item_of ls ≡ Some i → (ls ≡ line_spelled i) × IsSpelled i
 item_written [] i e = absurd cc
 item_written (l ∷ ls) i e =
-    keyword (codes "titan") l ls i _ _ e (header_written ls i)
-    (λ e. keyword (codes "component") l ls i _ _ e (component_written ls i)
-    (λ e. keyword (codes "var") l ls i _ _ e (variable_written ls i)
-    (λ e. keyword (codes "rule") l ls i _ _ e (rule_written ls i)
-    (λ e. keyword (codes "move") l ls i _ _ e (move_written false ls i)
-    (λ e. keyword (codes "repair") l ls i _ _ e (move_written true ls i)
-    (λ e. keyword (codes "fail") l ls i _ _ e (failure_written ls i)
-    (λ e. keyword (codes "script") l ls i _ _ e (λ h. only (word (codes "script")) Script i ls h (refl, tt))
+    keyword IsWritten (codes "titan") l ls i _ _ e (header_written ls i)
+    (λ e. keyword IsWritten (codes "component") l ls i _ _ e (component_written ls i)
+    (λ e. keyword IsWritten (codes "var") l ls i _ _ e (variable_written ls i)
+    (λ e. keyword IsWritten (codes "rule") l ls i _ _ e (rule_written ls i)
+    (λ e. keyword IsWritten (codes "move") l ls i _ _ e (move_written false ls i)
+    (λ e. keyword IsWritten (codes "repair") l ls i _ _ e (move_written true ls i)
+    (λ e. keyword IsWritten (codes "fail") l ls i _ _ e (failure_written ls i)
+    (λ e. keyword IsWritten (codes "script") l ls i _ _ e (λ h. only IsWritten (word (codes "script")) Script i ls h (refl, tt))
     (λ e. no_item i e))))))))

@@ -9,14 +9,16 @@ use Rattle.cca_base.specs.Model.{WellFormed, HasMode, mode_counts, with_componen
 use Rattle.text_base.specs.Lexemes.{Lexeme, word, number, symbol}
 use Rattle.formula_syntax.specs.Grammar.{Whole, spelling}
 use Rattle.formula_syntax.specs.Meanings.{whole_formula, names_unknown, lists_twice, is_deep}
-use Rattle.model_syntax.specs.Items.{Ends, Item, item_of, list_spelled, ends_spelled, sensed_spelled, move_word, line_spelled}
+use Rattle.model_syntax.specs.Items.{Ends, Item, item_of, ends_spelled, sensed_spelled, move_word, line_spelled}
+use Rattle.text_base.specs.Lists.{name_list_spelled}
 use Rattle.model_syntax.specs.Items as items
 use Rattle.formula_syntax.specs.Lookups.{place_of}
 use Rattle.model_syntax.specs.Codes.{is_long, command_number, component_code, new_component, variable_code, new_variable, rule_code, move_code, move_code_from, move_faults, new_move, with_named, failure_code, failure_code_from, new_failure, ends_of}
 use Rattle.model_syntax.specs.Lines.{Next, Goes, unless, component_next, variable_next, rule_next, move_next, failure_next, with_declared, with_fall, IsNextOfText, IsNextOfNumber, IsNextOfItem, IsNextOfForm}
 use Rattle.model_syntax.specs.Printing.{joined, name_at, formula_said, ends_said, component_said, move_said, failure_said}
 use Rattle.model_syntax.specs.Shorter.{AddsLine}
-use Rattle.model_syntax.proofs.AddedParts.{least_none, may_be_component}
+use Rattle.formula_syntax.proofs.LeastLaws.{least_none}
+use Rattle.model_syntax.proofs.AddedParts.{may_be_component}
 use Rattle.model_syntax.proofs.ItemGrammar.{item_written}
 use Rattle.formula_syntax.proofs.TextFormulas as fitting
 use Rattle.model_syntax.proofs.TextWidths as widths
@@ -50,7 +52,7 @@ module _ (m : PlantModel) (w : WellFormed m) (text : List ℕ) where
   component_line n name modes start room e =
       let g = goes (component_code m name modes start) (with_component m (new_component name modes start)) n e in
       let line = line_spelled (items.Component name modes start) in
-      let front : List ℕ → List Lexeme = λ x. word (codes "component") ∷ word name ∷ symbol (codes "=") ∷ list_spelled modes ++ word (codes "start") ∷ word x ∷ [] in
+      let front : List ℕ → List Lexeme = λ x. word (codes "component") ∷ word name ∷ symbol (codes "=") ∷ name_list_spelled modes ++ word (codes "start") ∷ word x ∷ [] in
       let same : component_said (new_component name modes start) ≡ line = ap front (start_named modes start (may_be_component m name modes start g.0).found) in
       subst Adds g.1 (component_adds m w (new_component name modes start) text
       (printed text (component_said (new_component name modes start)) line (same_tokens (component_said (new_component name modes start)) line same) (list_passes modes (word (codes "start") ∷ word start ∷ [])) room))

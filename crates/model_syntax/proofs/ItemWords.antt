@@ -5,7 +5,8 @@ use Rattle.std.proofs.lemmas.Bool.{and_parts, and_from}
 use Rattle.cca_base.specs.Names.{is_word, is_reserved}
 use Rattle.text_base.specs.Tokens.{Tok, is_of_kind, IsOfItsKind}
 use Rattle.text_base.specs.Lexemes.{Lexeme, lexeme, word, symbol, comma}
-use Rattle.model_syntax.specs.Items.{Item, Header, Component, Variable, Rule, Move, Failure, Script, item_of, list_spelled, names_spelled, sensed_spelled, ends_spelled, move_word, line_spelled, AreNameWords, IsSpelled}
+use Rattle.model_syntax.specs.Items.{Item, Header, Component, Variable, Rule, Move, Failure, Script, item_of, sensed_spelled, ends_spelled, move_word, line_spelled, IsSpelled}
+use Rattle.text_base.specs.Lists.{name_list_spelled, names_spelled, AreNameWords}
 use Rattle.model_syntax.specs.Lines.{is_bare_name, HasBareNames}
 use Rattle.model_syntax.proofs.ItemGrammar.{item_written}
 
@@ -33,20 +34,20 @@ bare_names name (next ∷ names) rest h free =
     let q = first comma (names_spelled next names ++ rest) p.1 in
     and_from (is_bare_name name) (list_all is_bare_name (next ∷ names)) (bare name p.0 free.0) (bare_names next names rest q.1 free.1)
 
-bare_list : (names : List (List ℕ)) (rest : List Lexeme) → OfKinds (list_spelled names ++ rest) → AreNameWords names → list_all is_bare_name names ≡ true
+bare_list : (names : List (List ℕ)) (rest : List Lexeme) → OfKinds (name_list_spelled names ++ rest) → AreNameWords names → list_all is_bare_name names ≡ true
 bare_list [] rest h free = refl
 bare_list (name ∷ names) rest h free = bare_names name names rest h free
 
 words_of_item : (i : Item) → IsSpelled i → OfKinds (line_spelled i) → HasBareNames i
 words_of_item Header s h = tt
 words_of_item (Component name modes start) s h =
-    let rest = list_spelled modes ++ word (codes "start") ∷ word start ∷ [] in
+    let rest = name_list_spelled modes ++ word (codes "start") ∷ word start ∷ [] in
     let a = first (word (codes "component")) (word name ∷ symbol (codes "=") ∷ rest) h in
     let b = first (word name) (symbol (codes "=") ∷ rest) a.1 in
     let c = first (symbol (codes "=")) rest b.1 in
     and_from (is_bare_name name) (list_all is_bare_name modes) (bare name b.0 s.1.0) (bare_list modes (word (codes "start") ∷ word start ∷ []) c.1 s.2)
 words_of_item (Variable name values sensed) s h =
-    let rest = list_spelled values ++ sensed_spelled sensed in
+    let rest = name_list_spelled values ++ sensed_spelled sensed in
     let a = first (word (codes "var")) (word name ∷ symbol (codes "=") ∷ rest) h in
     let b = first (word name) (symbol (codes "=") ∷ rest) a.1 in
     let c = first (symbol (codes "=")) rest b.1 in

@@ -12,7 +12,7 @@ use Rattle.std.proofs.lemmas.Bool.{or_parts}
 use Rattle.text_base.specs.Lexemes.{Lexeme, lexeme}
 use Rattle.text_base.proofs.TokenKinds.{tokens_of_kinds}
 use Rattle.formula_syntax.specs.declared.read_part.ReadPart.TheVariants.{Sound}
-use Rattle.formula_syntax.specs.Chain.{◌>>=◌}
+use Rattle.text_base.specs.Chain.{◌>>=◌}
 use Rattle.formula_syntax.specs.Grammar.{Whole, spelling}
 use Rattle.model_syntax.specs.Items.{Ends, Item, item_of}
 use Rattle.model_syntax.specs.Items as items
@@ -21,7 +21,8 @@ use Rattle.formula_syntax.specs.Meanings.{verdict, reading_of, whole_formula, wh
 use Rattle.model_syntax.specs.Codes.{least, is_long, as_component, ends_of, component_code, new_component, variable_code, new_variable, rule_code, new_move, move_faults, move_code, move_code_from, with_named, failure_code, failure_code_from, new_failure}
 use Rattle.model_syntax.specs.Lines.{is_bare_name, HasBareNames, Next, Goes, Refused, Ended, unless, with_declared, with_fall, component_next, variable_next, rule_next, move_next, failure_next, IsNextOfText, IsNextOfNumber, IsNextOfItem, IsNextOfForm, ModelSoFar, Reads, outcome, opening, LeadsByForm, LeadsByTokens}
 use Rattle.model_syntax.specs.Kept.{IsGood, LinesKeepModelsGood}
-use Rattle.model_syntax.proofs.AddedParts.{least_none, component_is_kept, variable_is_kept}
+use Rattle.formula_syntax.proofs.LeastLaws.{least_none}
+use Rattle.model_syntax.proofs.AddedParts.{component_is_kept, variable_is_kept}
 use Rattle.model_syntax.proofs.FormulaLines.{rule_well_formed}
 use Rattle.formula_syntax.proofs.SoundReadings.{sound_is_formula}
 use Rattle.formula_syntax.proofs.FormulaReadWhole.{one_way}

@@ -1,4 +1,3 @@
-pub mod ListGrammar
 pub mod ItemGrammar
 pub mod Kept
 pub mod OneWay

@@ -11,12 +11,12 @@ use Rattle.cca_base.specs.declared.formula.Subject.TheVariants.{Component, Varia
 use Rattle.cca_base.specs.PlantModel.{PlantModel}
 use Rattle.cca_base.specs.Model.{HasMode, with_command}
 use Rattle.text_base.specs.Lexemes.{Lexeme, word, symbol}
-use Rattle.formula_syntax.specs.Chain.{◌>>=◌}
+use Rattle.text_base.specs.Chain.{◌>>=◌}
 use Rattle.model_syntax.specs.Items.{Ends, ends_spelled}
 use Rattle.formula_syntax.specs.Lookups.{place_of, subject_of, value_of, choices_of}
 use Rattle.model_syntax.specs.Codes.{is_long, start_mode, as_component, ends_of, command_number, with_named}
 use Rattle.model_syntax.specs.Printing.{name_of, name_at, ends_said}
-use Rattle.model_syntax.proofs.ListGrammar.{bind_some}
+use Rattle.text_base.proofs.ChainLaws.{bind_some}
 use Rattle.formula_syntax.proofs.ModesByName.{mode_of_component}
 use Rattle.model_syntax.proofs.SubjectNames.{subject_name}
 

@@ -2,7 +2,8 @@
 use Rattle.std.proofs.Common.{◌≡◌, ℕ, Bool, true, false, List, [], ◌∷◌, ◌++◌, codes, refl, ◌∙◌}
 use Rattle.text_base.specs.Lexemes.{Lexeme, word, symbol}
 use Rattle.formula_syntax.specs.Grammar.{NameWord, Factor, Conjunction, Disjunction, Whole, True, False, Equal, Differs, In, Not, Parens, Single, And, Case, Or, Plain, Implies, Iff, values_spelled, factor_spelled, conjunction_spelled, disjunction_spelled, whole_spelled}
-use Rattle.model_syntax.specs.Items.{names_spelled, list_spelled, sensed_spelled}
+use Rattle.model_syntax.specs.Items.{sensed_spelled}
+use Rattle.text_base.specs.Lists.{names_spelled, name_list_spelled}
 use Rattle.model_syntax.proofs.LineWidths.{numbers_end}
 
 -- where no number stands before the end is decided by what stands behind
@@ -42,7 +43,7 @@ names_pass name [] rest = refl
 names_pass name (next ∷ names) rest = names_pass next names rest
 
 -- nor has a list of names
-pub list_passes : (names : List (List ℕ)) (rest : List Lexeme) → numbers_end (list_spelled names ++ rest) ≡ numbers_end rest
+pub list_passes : (names : List (List ℕ)) (rest : List Lexeme) → numbers_end (name_list_spelled names ++ rest) ≡ numbers_end rest
 list_passes [] rest = refl
 list_passes (name ∷ names) rest = names_pass name names rest
 

@@ -15,7 +15,8 @@ use Rattle.cca_base.specs.PlantModel.{PlantModel}
 use Rattle.cca_base.specs.Names.{is_name, AreNames, AreDifferent}
 use Rattle.cca_base.specs.Model.{AreChoices, IsComponent, with_component, with_variable}
 use Rattle.text_base.specs.Lexemes.{word}
-use Rattle.model_syntax.specs.Items.{list_spelled, sensed_spelled}
+use Rattle.model_syntax.specs.Items.{sensed_spelled}
+use Rattle.text_base.specs.Lists.{name_list_spelled}
 use Rattle.model_syntax.specs.Items as items
 use Rattle.formula_syntax.specs.Lookups.{place_of, subject_of, or_else}
 use Rattle.model_syntax.specs.Codes.{least, start_mode, list_passes, component_code, new_component, variable_code, new_variable}
@@ -33,7 +34,7 @@ none_applies a b c i j k e f g = rw (e, f, g) refl
 neither_applies : (a b : Bool) (i j : ℕ) → a ≡ false → b ≡ false → least ((i, a) ∷ (j, b) ∷ []) ≡ None
 neither_applies a b i j e f = rw (e, f) refl
 
-list_kinds : (names : List (List ℕ)) → All (λ name. IsTrue (is_name name)) names → AreOfTheirKinds (list_spelled names)
+list_kinds : (names : List (List ℕ)) → All (λ name. IsTrue (is_name name)) names → AreOfTheirKinds (name_list_spelled names)
 list_kinds [] h = refl
 list_kinds (name ∷ names) h = names_kinds name names (all_are_names (name ∷ names) h)
 
@@ -91,7 +92,7 @@ module _ (all : List Component) (names : AreNames (map (λ (c : Component). c.na
     pub component_kinds : AreOfTheirKinds (component_said x)
     component_kinds =
         let end = word (codes "start") ∷ word (name_at x.modes x.start) ∷ [] in
-        word_kind x.name (list_spelled x.modes ++ end) is_named (kinds_append (list_spelled x.modes) end (list_kinds x.modes is_sound.modes.names.each) (word_kind (name_at x.modes x.start) [] start.name refl))
+        word_kind x.name (name_list_spelled x.modes ++ end) is_named (kinds_append (name_list_spelled x.modes) end (list_kinds x.modes is_sound.modes.names.each) (word_kind (name_at x.modes x.start) [] start.name refl))
 
     pub component_leads : LineLeads (begun n) (joined (component_said x)) (Reads (begun (only_components (front ++ x ∷ []))))
     component_leads =
@@ -158,7 +159,7 @@ module _ (cs : List Component) (all : List Variable) (names : AreNames (map (λ 
     codeless = neither_applies _ _ 3 4 (or_from _ _ (ap is_some unused) (never_twice x.values sound.names.different)) (or_from _ _ (fits_list x.name x.values named sound) space)
 
     pub variable_kinds : AreOfTheirKinds (variable_said x)
-    variable_kinds = word_kind x.name (list_spelled x.values ++ sensed_spelled x.sensed) named (kinds_append (list_spelled x.values) (sensed_spelled x.sensed) (list_kinds x.values sound.names.each) (sensed_kinds x.sensed))
+    variable_kinds = word_kind x.name (name_list_spelled x.values ++ sensed_spelled x.sensed) named (kinds_append (name_list_spelled x.values) (sensed_spelled x.sensed) (list_kinds x.values sound.names.each) (sensed_kinds x.sensed))
 
     pub variable_leads : LineLeads (begun k) (joined (variable_said x)) (Reads (begun (with_variables (front ++ x ∷ []))))
     variable_leads =

@@ -13,7 +13,7 @@ use Rattle.cca_base.specs.Formula.{fits, fits_step, is_choice_of, subject_value,
 use Rattle.cca_base.specs.Model.{mode_counts, value_counts}
 use Rattle.text_base.specs.Lexemes.{Lexeme, word, symbol, comma}
 use Rattle.formula_syntax.specs.Grammar.{NameWord, True, False, Equal, Differs, In, Implies, Iff, values_spelled}
-use Rattle.model_syntax.specs.Items.{names_spelled}
+use Rattle.text_base.specs.Lists.{names_spelled}
 use Rattle.formula_syntax.specs.Lookups.{choices_of}
 use Rattle.formula_syntax.specs.Meanings.{Comparison, words, lacks_value, is_unknown, has_twice, has_among, is_among}
 use Rattle.model_syntax.specs.Printing.{Said, said, said_step, among_said, name_of, names_in}

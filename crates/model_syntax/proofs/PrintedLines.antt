@@ -22,7 +22,8 @@ use Rattle.text_base.specs.Lexemes.{Lexeme}
 use Rattle.text_base.proofs.NumberTexts.{tells_list_all}
 use Rattle.formula_syntax.specs.declared.read_part.ReadPart.TheVariants.{Sound}
 use Rattle.formula_syntax.specs.Grammar.{Whole, spelling}
-use Rattle.model_syntax.specs.Items.{Item, Header, item_of, line_spelled, IsSpelled, AreNameWords}
+use Rattle.model_syntax.specs.Items.{Item, Header, item_of, line_spelled, IsSpelled}
+use Rattle.text_base.specs.Lists.{AreNameWords}
 use Rattle.formula_syntax.specs.Lookups.{place_of}
 use Rattle.formula_syntax.specs.Meanings.{has_twice, verdict, reading_of, whole_depth, whole_formula, names_unknown, lists_twice, is_deep}
 use Rattle.model_syntax.specs.Codes.{is_long}

@@ -15,7 +15,7 @@ use Rattle.cca_base.specs.Formula.{Printed, part_depth, printed_step}
 use Rattle.text_base.specs.Tokens.{is_of_kind}
 use Rattle.text_base.specs.Lexemes.{Lexeme, word, symbol, comma}
 use Rattle.formula_syntax.specs.Grammar.{Factor, Conjunction, Disjunction, Whole, Not, Parens, Single, Case, Plain, factor_spelled, conjunction_spelled, disjunction_spelled, whole_spelled}
-use Rattle.model_syntax.specs.Items.{names_spelled}
+use Rattle.text_base.specs.Lists.{names_spelled}
 use Rattle.formula_syntax.specs.Lookups.{subject_of, value_of}
 use Rattle.formula_syntax.specs.Meanings.{Comparison, is_unknown, has_twice, with_numbers, factor_depth, conjunction_depth, disjunction_depth, whole_depth, factor_comparisons, conjunction_comparisons, disjunction_comparisons, whole_comparisons, factor_formula, conjunction_formula, disjunction_formula, whole_formula}
 use Rattle.model_syntax.specs.Printing.{Said, part_said, plainly, name_of}

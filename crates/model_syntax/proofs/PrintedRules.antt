@@ -12,9 +12,10 @@ use Rattle.cca_base.specs.declared.limits.TheConstants.{MAX_RULES, MAX_FAILURES,
 use Rattle.cca_base.specs.PlantModel.{PlantModel}
 use Rattle.cca_base.specs.Model.{HasMode, IsFormula, IsFailure, mode_counts, with_rule, with_failure}
 use Rattle.text_base.specs.Lexemes.{Lexeme, word, number, symbol}
-use Rattle.formula_syntax.specs.Chain.{◌>>=◌}
+use Rattle.text_base.specs.Chain.{◌>>=◌}
 use Rattle.formula_syntax.specs.Grammar.{Whole, spelling}
-use Rattle.model_syntax.specs.Items.{Ends, AreNameWords}
+use Rattle.model_syntax.specs.Items.{Ends}
+use Rattle.text_base.specs.Lists.{AreNameWords}
 use Rattle.model_syntax.specs.Items as items
 use Rattle.formula_syntax.specs.Lookups.{value_of, choices_of}
 use Rattle.model_syntax.specs.Codes.{least, as_component, ends_of, rule_code, is_cost, failure_code, failure_code_from}

@@ -9,7 +9,7 @@ use Rattle.cca_base.specs.declared.formula.Formula.TheVariants.{Implies, Iff}
 use Rattle.cca_base.specs.declared.formula.Formula.TheFolds.{fold-roll-Formula}
 use Rattle.cca_base.specs.PlantModel.{PlantModel}
 use Rattle.text_base.specs.Lexemes.{Lexeme, word, symbol, comma}
-use Rattle.model_syntax.specs.Items.{names_spelled, list_spelled}
+use Rattle.text_base.specs.Lists.{names_spelled, name_list_spelled}
 use Rattle.model_syntax.specs.Printing.{Said, said, said_step, formula_said, among_said, part_said, parts_said}
 use Rattle.model_syntax.specs.Drafts.{Draft, with_token, with_tokens, with_end, with_lines, word_before}
 
@@ -32,7 +32,7 @@ commas-spelled name (next ∷ names) = ap (λ ls. word name ∷ comma ∷ ls) (c
 
 -- a list by its first name and those behind it
 pub list_begun : (t u : Draft) (names : List (List ℕ)) (first text : List ℕ) → 1 ≤ length names → first ≡ get_or names 0 first → text ≡ first → u ≡ with_token t (word text)
-    → with_tokens u (commas (drop 0 (take (length names - 1) (drop 1 names)))) ≡ with_tokens t (list_spelled names)
+    → with_tokens u (commas (drop 0 (take (length names - 1) (drop 1 names)))) ≡ with_tokens t (name_list_spelled names)
 list_begun t u [] first text h e k g = absurd (let k : 1 ≤ 0 = h in omega arith)
 list_begun t u (x ∷ xs) first text h e k g =
     let whole : take (length (x ∷ xs) - 1) xs ≡ xs = take_all _ xs (omega arith) in

@@ -6,7 +6,7 @@ use Rattle.cca_base.specs.declared.formula.Formula.TheFolds.{fold-Formula, fold-
 use Rattle.cca_base.specs.PlantModel.{PlantModel}
 use Rattle.text_base.specs.Lexemes.{Lexeme, word, symbol}
 use Rattle.formula_syntax.specs.Grammar.{NameWord, values_spelled}
-use Rattle.model_syntax.specs.Items.{names_spelled}
+use Rattle.text_base.specs.Lists.{names_spelled}
 use Rattle.formula_syntax.specs.Lookups.{choices_of}
 use Rattle.formula_syntax.specs.Meanings.{words}
 use Rattle.model_syntax.specs.Printing.{Said, part_said, parts_said, plainly, names_in, name_of, among_said, said_step}

@@ -12,16 +12,13 @@ use Rattle.cca_base.specs.declared.limits.TheConstants.{MAX_NAME, MAX_COMPONENTS
 use Rattle.cca_base.specs.PlantModel.{PlantModel}
 use Rattle.cca_base.specs.Model.{is_broken, with_command}
 use Rattle.cca_base.specs.declared.codes.TheConstants.{NAME_UNKNOWN, NAME_REPEATED, LIMIT, AMBIGUOUS, INTO_BROKEN, UNMARKED_EXIT, TWO_MENDS}
-use Rattle.formula_syntax.specs.Chain.{◌>>=◌}
+use Rattle.text_base.specs.Chain.{◌>>=◌}
 use Rattle.formula_syntax.specs.Grammar.{Whole}
 use Rattle.model_syntax.specs.Items.{Ends}
+pub use Rattle.formula_syntax.specs.Least.{least}
+pub use Rattle.formula_syntax.specs.Lookups.{as_component}
 use Rattle.formula_syntax.specs.Lookups.{place_of, subject_of, value_of}
 use Rattle.formula_syntax.specs.Meanings.{has_twice, names_unknown, lists_twice, is_deep, whole_formula}
-
--- of codes in rising order, each with whether it applies, the first that applies
-abbrev pub least : List (ℕ × Bool) → Option ℕ
-least [] = None
-least (code ∷ codes) = if code.1 then Some code.0 else least codes
 
 -- ---- names
 
@@ -36,12 +33,6 @@ is_taken m name = is_some (subject_of m name)
 -- the number of the start mode; a word that is too long is none of the modes
 abbrev pub start_mode : List (List ℕ) → List ℕ → Option ℕ
 start_mode modes start = if is_long start then None else place_of modes start
-
--- the number of a component
-abbrev pub as_component : Option Subject → Option ℕ
-as_component None = None
-as_component (Some (subjects.Component c)) = Some c
-as_component (Some (subjects.Variable v)) = None
 
 -- a component and two of its modes, by their numbers
 abbrev pub ends_of : PlantModel → Ends → Option (ℕ × ℕ × ℕ)

@@ -1,12 +1,12 @@
 -- The forms of model lines.
-use Rattle.std.specs.Prelude.{◌<◌, length, ◌≡◌, ℕ, Bool, true, false, List, [], ◌∷◌, ◌++◌, Option, Some, None, codes, map, if◌then◌else◌}
-use Rattle.cca_base.specs.Names.{is_reserved}
+use Rattle.std.specs.Prelude.{◌<◌, length, ℕ, Bool, true, false, List, [], ◌∷◌, ◌++◌, Option, Some, None, codes, map, if◌then◌else◌}
 use Rattle.text_base.specs.declared.token.Kind.TheVariants.{Number}
-use Rattle.text_base.specs.Lexemes.{Lexeme, lexeme_of, same_kind, word, number, symbol, is_lexeme, next_is, name_word_at, names_at, comma}
+use Rattle.text_base.specs.Lexemes.{Lexeme, lexeme_of, same_kind, word, number, symbol, is_lexeme, next_is, name_word_at}
+use Rattle.text_base.specs.Lists.{ended, names_at, name_list_spelled, AreNameWords}
 use Rattle.model_syntax.specs.declared.item.Ends.{Ends as EndsOfCode}
 use Rattle.model_syntax.specs.declared.item.Item.{Item as ItemOfCode}
 use Rattle.model_syntax.specs.declared.item.Item.TheVariants as code
-use Rattle.formula_syntax.specs.Chain.{◌>>=◌}
+use Rattle.text_base.specs.Chain.{◌>>=◌}
 
 -- a component and two of its modes, by their words
 pub record Ends : Type 0 where
@@ -23,11 +23,6 @@ pub data Item : Type 0 where
   Move : (repair : Bool) → (ends : Ends) → (command : List ℕ) → (guard : List Lexeme) → Item
   Failure : (ends : Ends) → (cost : List ℕ) → Item
   Script : Item
-
--- nothing may follow
-abbrev pub ended : {A : Type 0} → A → List Lexeme → Option A
-ended x [] = Some x
-ended x (l ∷ ls) = None
 
 -- the digits of a number, and what stands behind them
 abbrev pub number_at : List Lexeme → Option (List ℕ × List Lexeme)
@@ -103,16 +98,6 @@ item_of (l ∷ ls) =
     else (if is_lexeme (word (codes "script")) l then ended Script ls
     else None)))))))
 
--- names with commas between them
-abbrev pub names_spelled : List ℕ → List (List ℕ) → List Lexeme
-names_spelled name [] = word name ∷ []
-names_spelled name (next ∷ names) = word name ∷ comma ∷ names_spelled next names
-
--- a list of names
-abbrev pub list_spelled : List (List ℕ) → List Lexeme
-list_spelled [] = []
-list_spelled (name ∷ names) = names_spelled name names
-
 -- a component, a mode, an arrow and a mode, before the rest
 abbrev pub ends_spelled : Ends → List Lexeme → List Lexeme
 ends_spelled e rest = word e.name ∷ word e.source ∷ symbol (codes "->") ∷ word e.target ∷ rest
@@ -130,17 +115,12 @@ move_word false = codes "move"
 -- the grammar: how an item is spelled
 abbrev pub line_spelled : Item → List Lexeme
 line_spelled Header = word (codes "titan") ∷ number (codes "1") ∷ []
-line_spelled (Component name modes start) = word (codes "component") ∷ word name ∷ symbol (codes "=") ∷ list_spelled modes ++ word (codes "start") ∷ word start ∷ []
-line_spelled (Variable name values sensed) = word (codes "var") ∷ word name ∷ symbol (codes "=") ∷ list_spelled values ++ sensed_spelled sensed
+line_spelled (Component name modes start) = word (codes "component") ∷ word name ∷ symbol (codes "=") ∷ name_list_spelled modes ++ word (codes "start") ∷ word start ∷ []
+line_spelled (Variable name values sensed) = word (codes "var") ∷ word name ∷ symbol (codes "=") ∷ name_list_spelled values ++ sensed_spelled sensed
 line_spelled (Rule formula) = word (codes "rule") ∷ formula
 line_spelled (Move repair ends command guard) = word (move_word repair) ∷ ends_spelled ends (word (codes "by") ∷ word command ∷ word (codes "when") ∷ guard)
 line_spelled (Failure ends cost) = word (codes "fail") ∷ ends_spelled ends (word (codes "cost") ∷ number cost ∷ [])
 line_spelled Script = word (codes "script") ∷ []
-
--- some words, each of which may stand in place of a name
-abbrev pub AreNameWords : List (List ℕ) → Type 0
-AreNameWords [] = Unit {0}
-AreNameWords (name ∷ names) = (is_reserved name ≡ false) × AreNameWords names
 
 -- which items the grammar spells: no reserved word stands in place of a name, and no list is empty
 abbrev pub IsSpelled : Item → Type 0

@@ -15,7 +15,8 @@ use Rattle.cca_base.specs.PlantModel.{PlantModel}
 use Rattle.cca_base.specs.Sets.{has}
 use Rattle.text_base.specs.declared.token.Kind.TheVariants.{Symbol}
 use Rattle.text_base.specs.Lexemes.{Lexeme, same_kind, word, number, symbol}
-use Rattle.model_syntax.specs.Items.{list_spelled, sensed_spelled, move_word}
+use Rattle.model_syntax.specs.Items.{sensed_spelled, move_word}
+use Rattle.text_base.specs.Lists.{name_list_spelled}
 use Rattle.formula_syntax.specs.Lookups.{choices_of}
 
 -- a word or a number
@@ -64,7 +65,7 @@ name_of m (subjects.Variable v) = option_map_or (λ x. x.name) (slice_get m.vari
 abbrev pub among_said : List ℕ → List (List ℕ) → Said
 among_said name [] = plainly 0 (word name ∷ word (codes "in") ∷ symbol (codes "{") ∷ symbol (codes "}") ∷ [])
 among_said name (value ∷ []) = record { precedence = 0; tokens = word name ∷ symbol (codes "=") ∷ word value ∷ []; denied = word name ∷ symbol (codes "!=") ∷ word value ∷ [] }
-among_said name (value ∷ next ∷ values) = plainly 0 (word name ∷ word (codes "in") ∷ symbol (codes "{") ∷ list_spelled (value ∷ next ∷ values) ++ symbol (codes "}") ∷ [])
+among_said name (value ∷ next ∷ values) = plainly 0 (word name ∷ word (codes "in") ∷ symbol (codes "{") ∷ name_list_spelled (value ∷ next ∷ values) ++ symbol (codes "}") ∷ [])
 
 -- one layer of a formula, with each part's tokens in its place
 abbrev pub said_step : PlantModel → Formula-F Said → Said
@@ -95,10 +96,10 @@ abbrev pub header_said : List Lexeme
 header_said = word (codes "titan") ∷ number (codes "1") ∷ []
 
 abbrev pub component_said : Component → List Lexeme
-component_said c = word (codes "component") ∷ word c.name ∷ symbol (codes "=") ∷ list_spelled c.modes ++ word (codes "start") ∷ word (name_at c.modes c.start) ∷ []
+component_said c = word (codes "component") ∷ word c.name ∷ symbol (codes "=") ∷ name_list_spelled c.modes ++ word (codes "start") ∷ word (name_at c.modes c.start) ∷ []
 
 abbrev pub variable_said : Variable → List Lexeme
-variable_said v = word (codes "var") ∷ word v.name ∷ symbol (codes "=") ∷ list_spelled v.values ++ sensed_spelled v.sensed
+variable_said v = word (codes "var") ∷ word v.name ∷ symbol (codes "=") ∷ name_list_spelled v.values ++ sensed_spelled v.sensed
 
 abbrev pub rule_said : PlantModel → Formula → List Lexeme
 rule_said m f = word (codes "rule") ∷ formula_said m f

@@ -3,7 +3,8 @@
 ghost use Rattle.std.specs.Prelude.{◌≡◌, List, Some, map, IfOk};
 ghost use Rattle.std.specs.Option.{option_map};
 ghost use Rattle.text_base.specs.Lexemes.{Lexeme, lexeme_of};
-ghost use Rattle.model_syntax.specs.Items.{Item as SpelledItem, IsSpelled, line_spelled, ended, number_at, ends_at, header_at, component_at, sensed_at, variable_at, move_at, failure_at, item_of, shown_ends, shown_item};
+ghost use Rattle.model_syntax.specs.Items.{Item as SpelledItem, IsSpelled, line_spelled, number_at, ends_at, header_at, component_at, sensed_at, variable_at, move_at, failure_at, item_of, shown_ends, shown_item};
+ghost use Rattle.text_base.specs.Lists.{ended};
 
 use std::alloc::{AllocError, Global};
 use text_base::{Kind, Token, is_lexeme, name_word_at, names_at, next_is};

@@ -5,6 +5,7 @@ ghost use Rattle.cca_base.specs.Model.{IsComplete, empty_model};
 ghost use Rattle.std.specs.Prelude.{Ok, map};
 ghost use Rattle.std.specs.List.{AllByRecursion};
 ghost use Rattle.text_base.specs.Tokens.{IsOfItsKind, token_view};
+ghost use Rattle.formula_syntax.specs.Lookups.{NamesFit};
 ghost use Rattle.model_syntax.specs.Lines.{AnswersLine, LineLeads, LeadsByTokens};
 
 use crate::line_end::LineEnd;
@@ -26,6 +27,7 @@ pub struct ModelReader {
 }
 
 impl std::marker::Model for ModelReader {
+    ghost use Rattle.formula_syntax.specs.Lookups.{NamesFit};
     ghost use Rattle.model_syntax.specs.Lines.{ModelSoFar};
     ghost use Rattle.model_syntax.specs.Reader.{IsRead};
     ghost use Rattle.cca_base.specs.contracts.formula.Formula as formula;
@@ -91,13 +93,23 @@ impl ModelReader {
         ensures model { result ≡ self.model }
         ensures complete { IsComplete result }
     {
+        let (model, _) = self.finish_named();
+        model
+    }
+
+    /// The model of all lines, and a map of the names that it has.
+    pub fn finish_named(self) -> (Model, IndexMap<Name, Subject>)
+        ensures model { result.0 ≡ self.model }
+        ensures complete { IsComplete result.0 }
+        ensures fit { NamesFit result.1 result.0 }
+    {
         let ModelReader {
             alloc: _,
             model,
-            names: _,
+            names,
             commands: _,
             begun: _,
         } = self;
-        model
+        (model, names)
     }
 }

@@ -2,7 +2,7 @@
 
 ghost use Rattle.std.specs.Prelude.{◌≡◌, ◌≤◌, length, OnOk, IfOk};
 ghost use Rattle.cca_base.specs.declared.limits.TheConstants.{MAX_CHOICES};
-ghost use Rattle.model_syntax.specs.Items.{list_spelled};
+ghost use Rattle.text_base.specs.Lists.{name_list_spelled};
 ghost use Rattle.formula_syntax.specs.Lookups.{choices_of};
 ghost use Rattle.model_syntax.specs.Printing.{name_of, name_at, names_in};
 ghost use Rattle.model_syntax.specs.Drafts.{with_token, with_tokens};
@@ -71,7 +71,7 @@ pub fn names_in(alloc: Global, names: &[Name], set: ValueSet) -> Result<Vec<Name
 /// Puts the names behind what is there, with commas between them.
 #[tactic(auto, using(crate::proofs::PrintedTokens::list_steps))]
 pub fn list(out: &mut Printer, names: &[Name]) -> Result<(), AllocError>
-    ensures { OnOk result (out.new ≡ with_tokens out.old (list_spelled names.now)) }
+    ensures { OnOk result (out.new ≡ with_tokens out.old (name_list_spelled names.now)) }
 {
     let [first, rest @ ..] = names else {
         return Ok(());

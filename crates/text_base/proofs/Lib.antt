@@ -1,9 +1,14 @@
 pub mod Loop
 pub mod Spans
 pub mod NumberTexts
-pub mod NamesRead
 pub mod TokenKinds
 pub mod LexemeLaws
+pub mod ChainLaws
+pub mod ListGrammar
+pub mod NameGrammar
+pub mod PairGrammar
+pub mod ListsRead
+pub mod FormGrammar
 pub mod PieceBytes
 pub mod LongestTokens
 pub mod CommentBegins

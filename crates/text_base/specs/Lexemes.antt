@@ -64,15 +64,3 @@ name_word_at (l ∷ ls) = if is_name_word l then Some (l.1, ls) else None
 -- the symbol between the parts of a list
 abbrev pub comma : Lexeme
 comma = symbol (codes ",")
-
--- a name, put before what was read behind it
-abbrev pub with_name : List ℕ → Option (List (List ℕ) × List Lexeme) → Option (List (List ℕ) × List Lexeme)
-with_name name None = None
-with_name name (Some read) = Some (name ∷ read.0, read.1)
-
--- one or more words in place of names, with commas between them, and what stands behind
-abbrev pub names_at : List Lexeme → Option (List (List ℕ) × List Lexeme)
-names_at [] = None
-names_at (l ∷ []) = if is_name_word l then Some (l.1 ∷ [], []) else None
-names_at (l ∷ m ∷ ls) =
-    if is_name_word l then (if is_lexeme comma m then with_name l.1 (names_at ls) else Some (l.1 ∷ [], m ∷ ls)) else None

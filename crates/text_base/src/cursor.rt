@@ -2,7 +2,8 @@
 
 ghost use Rattle.std.specs.Prelude.{◌≡◌, map, IfOk};
 ghost use Rattle.std.specs.Option.{option_map};
-ghost use Rattle.text_base.specs.Lexemes.{lexeme_of, same_kind, is_lexeme, is_name_word, next_is, name_word_at, names_at};
+ghost use Rattle.text_base.specs.Lexemes.{lexeme_of, same_kind, is_lexeme, is_name_word, next_is, name_word_at};
+ghost use Rattle.text_base.specs.Lists.{names_at};
 
 use crate::name::is_reserved;
 use crate::token::{Kind, Token};
