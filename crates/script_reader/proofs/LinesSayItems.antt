@@ -1,0 +1,94 @@
+-- What a line says is what its item does; the line is malformed exactly where it spells none.
+use Rattle.std.proofs.Common.{◌≡◌, ◌↔◌, ℕ, List, [], ◌∷◌, map, Option, Some, None, Result, Ok, Err, inl, inr, refl, sym, ap, ◌∙◌, arith}
+use Rattle.cca_base.specs.declared.codes.TheConstants.{MALFORMED}
+use Rattle.cca_base.specs.declared.cube.Pair.{Pair}
+use Rattle.cca_base.specs.declared.events.Event.{Event}
+use Rattle.cca_base.specs.PlantModel.{PlantModel}
+use Rattle.text_base.specs.Tokens.{Tok, tokens_of}
+use Rattle.text_base.specs.Lexemes.{lexeme}
+use Rattle.script_reader.specs.Items.{Item, Goal, Clear, Observe, Fault, Mirror, Reset, Tick, item_of, spelling, IsSpelled}
+use Rattle.script_reader.specs.EventLines.{event_of, as_event, by_form, by_tokens, event_line}
+use Rattle.script_reader.specs.Laws.{Spells, IsMalformed}
+use Rattle.script_reader.proofs.ItemGrammar.{item_again, item_written}
+use Rattle.script_reader.proofs.TableOfCodes.{says, Says, applies_above}
+
+code_is : (code : ℕ) → ◌≡◌ {A = Result (Option Event) ℕ} (Err code) (Err MALFORMED) → code ≡ MALFORMED
+code_is code h = cc
+
+ok_is : (a b : List Tok) → ◌≡◌ {A = Result (List Tok) ℕ} (Ok a) (Ok b) → a ≡ b
+ok_is a b h = cc
+
+-- an item has a first word
+some_words : (i : Item) → [] ≡ spelling i → ⊥
+some_words (Goal pairs) e = absurd cc
+some_words Clear e = absurd cc
+some_words (Observe pairs) e = absurd cc
+some_words (Fault pair) e = absurd cc
+some_words (Mirror name) e = absurd cc
+some_words Reset e = absurd cc
+some_words Tick e = absurd cc
+
+module _ (m : PlantModel) (pending : List Pair) (mirrored : ℕ) where
+  -- no item is malformed
+  well_formed : (i : Item) (r : Result Event ℕ) → Says m pending mirrored i r → as_event r ≡ Err MALFORMED → ⊥
+  well_formed i (Ok e) h k = absurd cc
+  well_formed i (Err code) h k =
+      let same : code ≡ MALFORMED = code_is code k in
+      omega (arith, applies_above m pending mirrored i code h.0, same)
+
+  none_is : (r : Result Event ℕ) → as_event r ≡ Ok None → ⊥
+  none_is (Ok e) k = absurd cc
+  none_is (Err code) k = absurd cc
+
+  form_nothing : (o : Option Item) → by_form (event_of m pending mirrored) o ≡ Ok None → ⊥
+  form_nothing None h = absurd cc
+  form_nothing (Some i) h = none_is (event_of m pending mirrored i) h
+
+  tokens_nothing : (t : Result (List Tok) ℕ) → by_tokens (event_of m pending mirrored) t ≡ Ok None → t ≡ Ok []
+  tokens_nothing (Err at) h = absurd cc
+  tokens_nothing (Ok []) h = refl
+  tokens_nothing (Ok (t ∷ ts)) h = absurd (form_nothing (item_of (map lexeme (t ∷ ts))) h)
+
+  pub nothing_said : (line : List ℕ) → (event_line m pending mirrored line ≡ Ok None) ↔ (tokens_of line ≡ Ok [])
+  unfolding event_line
+  nothing_said line = (tokens_nothing (tokens_of line), λ h. ap (by_tokens (event_of m pending mirrored)) h)
+
+  by_spelled : (ts : List Tok) (i : Item) → map lexeme ts ≡ spelling i → IsSpelled i → by_tokens (event_of m pending mirrored) (Ok ts) ≡ as_event (event_of m pending mirrored i)
+  by_spelled [] i e h = absurd (some_words i e)
+  by_spelled (t ∷ ts) i e h = ap (by_form (event_of m pending mirrored)) (ap item_of e ∙ item_again i h)
+
+  pub item_said : (line : List ℕ) (i : Item) → Spells line i → event_line m pending mirrored line ≡ as_event (event_of m pending mirrored i)
+  unfolding event_line
+  item_said line i (ts, e, spelled, h) = ap (by_tokens (event_of m pending mirrored)) e ∙ by_spelled ts i spelled h
+
+  form_malformed : (line : List ℕ) (t : Tok) (ts : List Tok) (o : Option Item) → tokens_of line ≡ Ok (t ∷ ts) → item_of (map lexeme (t ∷ ts)) ≡ o → by_form (event_of m pending mirrored) o ≡ Err MALFORMED → IsMalformed line
+  form_malformed line t ts None e f h =
+      inr (
+        t,
+        ts,
+        e,
+        λ i spells.
+            let same = ok_is spells.0 (t ∷ ts) (sym spells.1 ∙ e) in
+            let read : item_of (map lexeme (t ∷ ts)) ≡ Some i = ap (λ (x : List Tok). item_of (map lexeme x)) (sym same) ∙ ap item_of spells.2 ∙ item_again i spells.3 in
+            let both : None ≡ Some i = sym f ∙ read in
+            absurd cc,
+      )
+  form_malformed line t ts (Some i) e f h = absurd (well_formed i (event_of m pending mirrored i) (says m pending mirrored i) h)
+
+  tokens_malformed : (line : List ℕ) (t : Result (List Tok) ℕ) → tokens_of line ≡ t → by_tokens (event_of m pending mirrored) t ≡ Err MALFORMED → IsMalformed line
+  tokens_malformed line (Err at) e h = inl (at, e)
+  tokens_malformed line (Ok []) e h = absurd cc
+  tokens_malformed line (Ok (t ∷ ts)) e h = form_malformed line t ts (item_of (map lexeme (t ∷ ts))) e refl h
+
+  no_form : (line : List ℕ) (t : Tok) (ts : List Tok) (o : Option Item) → tokens_of line ≡ Ok (t ∷ ts) → ((i : Item) → Spells line i → ⊥) → item_of (map lexeme (t ∷ ts)) ≡ o → by_form (event_of m pending mirrored) o ≡ Err MALFORMED
+  no_form line t ts None e none f = refl
+  no_form line t ts (Some i) e none f = let w = item_written (map lexeme (t ∷ ts)) i f in absurd (none i (t ∷ ts, e, w.0, w.1))
+
+  from_malformed : (line : List ℕ) → IsMalformed line → by_tokens (event_of m pending mirrored) (tokens_of line) ≡ Err MALFORMED
+  from_malformed line (inl (at, e)) = ap (by_tokens (event_of m pending mirrored)) e
+  from_malformed line (inr (t, ts, e, none)) =
+      ap (by_tokens (event_of m pending mirrored)) e ∙ no_form line t ts (item_of (map lexeme (t ∷ ts))) e none refl
+
+  pub malformed_said : (line : List ℕ) → (event_line m pending mirrored line ≡ Err MALFORMED) ↔ IsMalformed line
+  unfolding event_line
+  malformed_said line = (tokens_malformed line (tokens_of line) refl, from_malformed line)

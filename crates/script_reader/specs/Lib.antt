@@ -1,0 +1,5 @@
+pub mod EventCodes
+pub mod EventLines
+pub mod Items
+pub mod Laws
+pub mod Named

@@ -1,0 +1,108 @@
+//! The least code of an event whose names are known.
+
+ghost use Rattle.std.specs.Prelude.{◌≡◌, not};
+ghost use Rattle.std.specs.List.{list_any};
+ghost use Rattle.cca_base.specs.Sets.{has};
+ghost use Rattle.script_reader.specs.EventCodes.{has_item, has_item_twice, is_sensed, is_broken_pair, goal_code, observe_code, mirror_code};
+
+use cca_base::codes::{BROKEN_GOAL, MIRRORED, NOT_SENSED, REPEATED_PAIR};
+use cca_base::{Model, Pair, Seen, VarSet};
+
+/// Whether one of the pairs is of the item.
+fn has_item(pairs: &[Pair], item: u16) -> bool
+    ensures { result ≡ has_item pairs.now item }
+{
+    pairs.iter().any(|p| p.item == item)
+}
+
+/// Whether two of the pairs are of one item.
+fn has_item_twice(pairs: &[Pair]) -> bool
+    ensures { result ≡ has_item_twice pairs.now }
+{
+    for (i, pair) in pairs.iter().enumerate() {
+        if has_item(&pairs[i + 1..], pair.item) {
+            return true;
+        }
+    }
+    false
+}
+
+/// Whether the variable is sensed.
+fn is_sensed(model: &Model, v: u16) -> bool
+    ensures { result ≡ is_sensed model.now v }
+{
+    match model.variables().as_slice().get(v as usize) {
+        Some(variable) => variable.sensed,
+        None => false,
+    }
+}
+
+fn has_broken(model: &Model, pairs: &[Pair]) -> bool
+    ensures { result ≡ list_any (is_broken_pair model.now) pairs.now }
+{
+    pairs.iter().any(|p| model.broken(p.item, p.value))
+}
+
+fn has_unsensed(model: &Model, pairs: &[Pair]) -> bool
+    ensures { result ≡ list_any (λ p. not (is_sensed model.now p.item)) pairs.now }
+{
+    pairs.iter().any(|p| !is_sensed(model, p.item))
+}
+
+fn has_pending(pending: &[Pair], pairs: &[Pair]) -> bool
+    ensures { result ≡ list_any (λ p. has_item pending.now p.item) pairs.now }
+{
+    pairs.iter().any(|p| has_item(pending, p.item))
+}
+
+fn has_mirrored(mirrored: VarSet, pairs: &[Pair]) -> bool
+    ensures { result ≡ list_any (λ p. has mirrored p.item) pairs.now }
+{
+    pairs.iter().any(|p| mirrored.has(p.item))
+}
+
+/// The least code of a goal.
+#[tactic(auto, unfolding(crate::specs::EventCodes::goal_code))]
+pub fn goal_code(model: &Model, pairs: &[Pair]) -> Option<u8>
+    ensures { result ≡ goal_code model.now pairs.now }
+{
+    if has_broken(model, pairs) {
+        Some(BROKEN_GOAL)
+    } else if has_item_twice(pairs) {
+        Some(REPEATED_PAIR)
+    } else {
+        None
+    }
+}
+
+/// The least code of observations.
+#[tactic(auto, unfolding(crate::specs::EventCodes::observe_code))]
+pub fn observe_code(model: &Model, pending: &Seen, mirrored: VarSet, pairs: &[Pair]) -> Option<u8>
+    ensures { result ≡ observe_code model.now pending.now.pairs mirrored pairs.now }
+{
+    if has_unsensed(model, pairs) {
+        Some(NOT_SENSED)
+    } else if has_item_twice(pairs) || has_pending(pending.pairs.as_slice(), pairs) {
+        Some(REPEATED_PAIR)
+    } else if has_mirrored(mirrored, pairs) {
+        Some(MIRRORED)
+    } else {
+        None
+    }
+}
+
+/// The least code of a variable that is to be mirrored.
+#[tactic(auto, unfolding(crate::specs::EventCodes::mirror_code))]
+pub fn mirror_code(model: &Model, pending: &Seen, mirrored: VarSet, v: u16) -> Option<u8>
+    ensures { result ≡ mirror_code model.now pending.now.pairs mirrored v }
+{
+    if !is_sensed(model, v) {
+        Some(NOT_SENSED)
+    } else if has_item(pending.pairs.as_slice(), v) {
+        Some(REPEATED_PAIR)
+    } else if mirrored.has(v) {
+        Some(MIRRORED)
+    } else {
+        None
+    }
+}

@@ -1,0 +1,13 @@
+//! Lines of a script: their grammar, and the event that each asks for. A line gives exactly its event, or the least code that
+//! applies to it for the observations that are pending and the variables that are mirrored.
+#![tactic(auto)]
+
+mod event;
+mod event_codes;
+mod event_line;
+mod item;
+mod laws;
+mod named;
+
+pub use event_line::{read_event, read_named_event};
+pub use laws::{least_codes_are_answered, lines_are_spelled, lines_say_items};
