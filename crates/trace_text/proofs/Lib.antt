@@ -1,0 +1,7 @@
+mod AsciiNames
+mod JsonExamples
+mod KeyOrder
+mod ModelNames
+mod NoFloats
+mod PlainNames
+mod SameMembers

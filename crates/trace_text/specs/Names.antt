@@ -23,6 +23,10 @@ pairs_text components pairs = flat_map (λ p. 32 ∷ pair_text_at components p.i
 abbrev pub component_name : List Component → ℕ → List ℕ
 component_name components c = option_map_or (λ x. x.name) (slice_get components c) []
 
+-- the name of a mode of a component of the model
+abbrev pub mode_name : List Component → ℕ → ℕ → List ℕ
+mode_name components c mode = option_map_or (λ x. name_at x.modes mode) (slice_get components c) []
+
 -- some components' names, each behind a space
 abbrev pub components_text : List Component → List ℕ → List ℕ
 components_text components list = flat_map (λ c. 32 ∷ component_name components c) list

@@ -3,10 +3,14 @@
 #![tactic(auto)]
 
 mod compiled;
+mod json;
+pub mod json_laws;
+mod members;
 mod names;
 mod refusal;
 mod report;
 
 pub use compiled::show_lines;
+pub use json::json_of;
 pub use refusal::refusal_line;
 pub use report::line_of;

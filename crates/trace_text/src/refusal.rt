@@ -1,47 +1,49 @@
 //! The line of a refusal.
 
-ghost use Rattle.std.specs.Prelude.{◌≡◌, ◌++◌, ◌∷◌, [], false, codes, IfOk, OnOk};
+ghost use Rattle.std.specs.Prelude.{◌≡◌, ◌++◌, ◌∷◌, [], codes, IfOk, OnOk};
 ghost use Rattle.std.specs.Fmt.{decimal};
+ghost use Rattle.trace_text.specs.Json.{refusal_text};
 ghost use Rattle.trace_text.specs.Refusals.{code_name, detail_text, refusal_line};
 
+use crate::json::refusal_json;
 use crate::names::{push_components, push_move_at, push_number, push_pairs};
 use cca_base::{Detail, List, Model, Refusal, codes};
 use std::alloc::{AllocError, Global};
 
 /// The name of a code.
-fn code_name(code: u8) -> &'static [u8]
+pub fn code_name(code: u8) -> &'static str
     ensures { result.now ≡ code_name code }
 {
     match code {
-        codes::MALFORMED => b"malformed",
-        codes::NAME_UNKNOWN => b"name_unknown",
-        codes::NAME_REPEATED => b"name_repeated",
-        codes::LIMIT => b"limit",
-        codes::AMBIGUOUS => b"ambiguous",
-        codes::INTO_BROKEN => b"into_broken",
-        codes::UNMARKED_EXIT => b"unmarked_exit",
-        codes::TWO_MENDS => b"two_mends",
-        codes::CLASH => b"clash",
-        codes::WAYS => b"ways",
-        codes::CYCLE => b"cycle",
-        codes::DEEP => b"deep",
-        codes::NOT_SENSED => b"not_sensed",
-        codes::BROKEN_GOAL => b"broken_goal",
-        codes::REPEATED_PAIR => b"repeated_pair",
-        codes::MIRRORED => b"mirrored",
-        codes::ENDS_EARLY => b"ends_early",
-        codes::LONG_LINE => b"long_line",
-        codes::TOO_MANY_LINES => b"too_many_lines",
-        codes::UNSUPPORTED => b"unsupported",
-        codes::REPAIR_CYCLE => b"repair_cycle",
-        codes::MANY => b"many",
-        codes::UNMATCHED => b"unmatched",
-        _ => b"",
+        codes::MALFORMED => "malformed",
+        codes::NAME_UNKNOWN => "name_unknown",
+        codes::NAME_REPEATED => "name_repeated",
+        codes::LIMIT => "limit",
+        codes::AMBIGUOUS => "ambiguous",
+        codes::INTO_BROKEN => "into_broken",
+        codes::UNMARKED_EXIT => "unmarked_exit",
+        codes::TWO_MENDS => "two_mends",
+        codes::CLASH => "clash",
+        codes::WAYS => "ways",
+        codes::CYCLE => "cycle",
+        codes::DEEP => "deep",
+        codes::NOT_SENSED => "not_sensed",
+        codes::BROKEN_GOAL => "broken_goal",
+        codes::REPEATED_PAIR => "repeated_pair",
+        codes::MIRRORED => "mirrored",
+        codes::ENDS_EARLY => "ends_early",
+        codes::LONG_LINE => "long_line",
+        codes::TOO_MANY_LINES => "too_many_lines",
+        codes::UNSUPPORTED => "unsupported",
+        codes::REPAIR_CYCLE => "repair_cycle",
+        codes::MANY => "many",
+        codes::UNMATCHED => "unmatched",
+        _ => "",
     }
 }
 
 /// What a refusal names besides its code, behind the code's name.
-fn push_detail(out: &mut Vec<u8>, model: &Model, detail: &Detail) -> Result<(), AllocError>
+pub fn push_detail(out: &mut Vec<u8>, model: &Model, detail: &Detail) -> Result<(), AllocError>
     ensures { OnOk result (out.new.items ≡ out.old.items ++ detail_text model.now detail.now) }
 {
     let components = model.components().as_slice();
@@ -54,17 +56,14 @@ fn push_detail(out: &mut Vec<u8>, model: &Model, detail: &Detail) -> Result<(), 
     Ok(())
 }
 
-/// The line of a refusal at a line of the input, with its LF, by the names of the model that was read so far. The error
-/// is want of memory. There is no JSON line yet.
+/// The line of a refusal in words.
 #[tactic(auto, unfolding(crate::specs::Refusals::refusal_line))]
-pub fn refusal_line(
+fn refusal_words(
     alloc: Global,
     model: &Model,
     line: u64,
     refusal: &Refusal,
-    json: bool,
 ) -> Result<List<u8>, AllocError>
-    requires plain { json ≡ false }
     ensures { IfOk result (λ text. text ≡ refusal_line model.now line refusal.now) }
 {
     let mut out = Vec::new(alloc);
@@ -73,8 +72,26 @@ pub fn refusal_line(
     out.push(b' ')?;
     push_number(alloc, &mut out, u64::from(refusal.code))?;
     out.push(b' ')?;
-    out.extend_from_slice(code_name(refusal.code))?;
+    out.extend_from_slice(code_name(refusal.code).as_bytes())?;
     push_detail(&mut out, model, &refusal.detail)?;
     out.push(b'\n')?;
     Ok(List::of(out))
+}
+
+/// The line of a refusal at a line of the input, with its LF, by the names of the model that was read so far: a line of
+/// JSON where that is asked for, and words otherwise. The error is want of memory.
+pub fn refusal_line(
+    alloc: Global,
+    model: &Model,
+    line: u64,
+    refusal: &Refusal,
+    json: bool,
+) -> Result<List<u8>, AllocError>
+    ensures { IfOk result (λ text. text ≡ refusal_text json model.now line refusal.now) }
+{
+    if json {
+        refusal_json(alloc, model, line, refusal)
+    } else {
+        refusal_words(alloc, model, line, refusal)
+    }
 }
