@@ -1,0 +1,63 @@
+-- Where one kind of replies is of another, so are the traces.
+use Rattle.std.proofs.Common.{ℕ, List, [], ◌∷◌, ◌++◌, Option, Some, None}
+use Rattle.cca_base.specs.declared.cube.Pair.{Pair}
+use Rattle.cca_base.specs.declared.events.Event.{Event}
+use Rattle.cca_base.specs.declared.events.Event.TheVariants as event
+use Rattle.cca_base.specs.declared.events.Reply.{Reply}
+use Rattle.cca_base.specs.declared.events.Shown.{Shown}
+use Rattle.cca_base.specs.declared.events.Shown.TheVariants.{Estimated, Unexplained, Holding}
+use Rattle.cca_base.specs.declared.events.TickReport.{TickReport}
+use Rattle.cca_base.specs.PlantModel.{PlantModel}
+use Rattle.cca_base.specs.Accepted.{CompiledModel}
+use Rattle.cca_base.specs.Goals.{IsGoodReply}
+use Rattle.cca_base.specs.Choice.{IsChosenReply}
+use Rattle.cca_base.specs.Trace.{ExecutiveState, start, ReplyRule, IsReply, TickShows}
+use Rattle.cca_base.specs.Runs.{TickRecord, Ticks, Trace}
+use Rattle.trace_laws.specs.Events.{Acts, Makes}
+
+abbrev pub IsWeaker : ReplyRule → ReplyRule → Type 0
+IsWeaker answers others = (s : List ℕ) (goal : List Pair) (reply : Reply) → answers s goal reply → others s goal reply
+
+module _ (answers others : ReplyRule) (weaker : IsWeaker answers others) where
+  reply_too : (s : List ℕ) (goal : Option (List Pair)) (reply : Reply) → IsReply answers s goal reply → IsReply others s goal reply
+  reply_too s None reply h = h
+  reply_too s (Some goal) reply h = weaker s goal reply h
+
+  tick_too : (m : PlantModel) (x : ExecutiveState) (shown : Shown) (y : ExecutiveState) → TickShows m answers x shown y → TickShows m others x shown y
+  tick_too m x (Estimated cost state reply) y h = record {
+    going = h.going;
+    seen = h.seen;
+    observed = h.observed;
+    estimate = h.estimate;
+    replies = reply_too state.modes x.goal reply h.replies;
+    plant = h.plant;
+    moves = h.moves;
+    after = h.after;
+  }
+  tick_too m x Unexplained y h = h
+  tick_too m x Holding y h = h
+
+  pub ticks_too : (b : CompiledModel) (x : ExecutiveState) (since events : List Event) (ts : List TickRecord) → Ticks b answers x since events ts → Ticks b others x since events ts
+  ticks_too b x since [] ts h = h
+  ticks_too b x since (event.Tick ∷ events) [] h = h
+  ticks_too b x since (event.Tick ∷ events) (t ∷ ts) (a, c, n, y, shows, rest) = (a, c, n, y, tick_too b.model x t.report.shown y shows, ticks_too b y [] events ts rest)
+  ticks_too b x since (event.Goal pairs ∷ events) ts (y, change, rest) = (y, change, ticks_too b y (since ++ event.Goal pairs ∷ []) events ts rest)
+  ticks_too b x since (event.Clear ∷ events) ts (y, change, rest) = (y, change, ticks_too b y (since ++ event.Clear ∷ []) events ts rest)
+  ticks_too b x since (event.Observe pairs ∷ events) ts (y, change, rest) = (y, change, ticks_too b y (since ++ event.Observe pairs ∷ []) events ts rest)
+  ticks_too b x since (event.Fault p ∷ events) ts (y, change, rest) = (y, change, ticks_too b y (since ++ event.Fault p ∷ []) events ts rest)
+  ticks_too b x since (event.Mirror v ∷ events) ts (y, change, rest) = (y, change, ticks_too b y (since ++ event.Mirror v ∷ []) events ts rest)
+  ticks_too b x since (event.Reset ∷ events) ts (y, change, rest) = (y, change, ticks_too b y (since ++ event.Reset ∷ []) events ts rest)
+
+  pub acts_too : (b : CompiledModel) (x : ExecutiveState) (e : Event) (y : ExecutiveState) (report : Option TickReport) → Acts b answers x e y report → Acts b others x e y report
+  acts_too b x e y None h = h
+  acts_too b x e y (Some report) h = (h.0, h.1, tick_too b.model x report.shown y h.2)
+
+  pub makes_too : (b : CompiledModel) (x : ExecutiveState) (events : List Event) (y : ExecutiveState) (reports : List TickReport) → Makes b answers x events y reports → Makes b others x events y reports
+  makes_too b x [] y reports h = h
+  makes_too b x (e ∷ events) y reports (z, report, rest, act, made, split) = (z, report, rest, acts_too b x e z report act, makes_too b z events y rest made, split)
+
+weaker_trace : (b : CompiledModel) (answers others : ReplyRule) (events : List Event) (reports : List TickReport) → IsWeaker answers others → Trace b answers events reports → Trace b others events reports
+weaker_trace b answers others events reports weaker t = record { ticks = t.ticks; made = ticks_too answers others weaker b (start b.model 0) [] events t.ticks t.made; reported = t.reported }
+
+pub chosen_is_good : (b : CompiledModel) (events : List Event) (reports : List TickReport) → Trace b (IsChosenReply b) events reports → Trace b (IsGoodReply b.model) events reports
+chosen_is_good b events reports t = weaker_trace b (IsChosenReply b) (IsGoodReply b.model) events reports (λ s goal reply h. h.good) t
