@@ -1,0 +1,5 @@
+pub mod JoinedPairs
+pub mod ObservedPairs
+pub mod CoveredStates
+pub mod ExecutiveFits
+pub mod ShownTicks

@@ -1,0 +1,4 @@
+pub mod Standing
+pub mod Covering
+pub mod Parts
+pub mod Answered

@@ -1,0 +1,168 @@
+//! The executive of a compiled model.
+
+ghost use Rattle.std.specs.Prelude.{◌≡◌, ◌↔◌, ◌+◌, ◌<◌, ◌^◌, [], None, Some, IsSome, IfOk, OnErr};
+ghost use Rattle.std.specs.Option.{option_map};
+ghost use Rattle.cca_base.specs.Plans.{Promising};
+ghost use Rattle.cca_base.specs.Trace.{start, MayCome};
+ghost use Rattle.trace_laws.specs.Events.{Acts, IsTick};
+ghost use Rattle.trace_laws.specs.Tables.{TablesAfter};
+ghost use Rattle.executive_loop.specs.Covering.{base_of, covers, AreCoveringAfter};
+ghost use Rattle.executive_loop.specs.Parts.{IsExecutive, SeenAfter};
+
+use crate::events::change;
+use crate::standing::{Standing, nothing, start};
+use crate::tick::make_tick;
+use cca_base::{Compiled, Event, Goal, Seen, State, TickReport, VarSet};
+use consistency::Worlds;
+use policy_tables::Tables;
+use std::alloc::{AllocError, Global};
+use std::marker::Model;
+use std::rc::Rc;
+
+/// An executive of a compiled model.
+#[derive(Drop)]
+pub struct Executive {
+    alloc: Global,
+    compiled: Rc<Compiled>,
+    /// The clauses of the model's rules, made once for all ticks.
+    worlds: Worlds,
+    standing: Standing,
+    tables: Option<Tables>,
+    last_seen: Seen,
+}
+
+impl Model for Executive {
+    ghost use Rattle.std.specs.Option.{option_map};
+    ghost use Rattle.consistency.specs.Worlds.{AreWorldsOf};
+    ghost use Rattle.executive_loop.specs.Parts.{ExecutiveParts, IsExecutive};
+    ghost use Rattle.executive_loop.specs.Standing.{state_of};
+
+    ghost Value = { ExecutiveParts };
+
+    ghost use Rattle.cca_base.specs.contracts.formula.Formula as formula;
+    ghost use Rattle.std.specs.Coded.{codes};
+
+    ghost coded = { Prim.hlevel (codes, formula.the_row.coded) };
+
+    ghost view = { λ e. record {
+      compiled = e.compiled.value;
+      state = state_of e.standing;
+      last_seen = e.last_seen.pairs;
+      tables = e.tables;
+    } };
+
+    ghost invariant = { λ e. AreWorldsOf e.compiled.value.model e.worlds × IsExecutive (record {
+      compiled = e.compiled.value;
+      state = state_of e.standing;
+      last_seen = e.last_seen.pairs;
+      tables = e.tables;
+    }) };
+}
+
+impl Executive {
+    /// An executive at the start. The error is out of memory, and the compiled model is gone then.
+    pub fn open(alloc: Global, compiled: Compiled) -> Result<Executive, AllocError>
+        ensures { IfOk result (λ e. e ≡ record { compiled = compiled; state = start compiled.model 0; last_seen = []; tables = None }) }
+    {
+        let worlds = Worlds::of(alloc, compiled.model())?;
+        let standing = start(alloc, &compiled, 0)?;
+        let compiled = Rc::new(alloc, compiled)?;
+        Ok(Executive {
+            alloc,
+            compiled,
+            worlds,
+            standing,
+            tables: None,
+            last_seen: nothing(alloc),
+        })
+    }
+
+    /// Makes one event. A report comes exactly for a tick. The error is out of memory.
+    pub fn event(&mut self, event: &Event) -> Result<Option<TickReport>, AllocError>
+        requires may_come { MayCome self.old.compiled.model self.old.state.pending self.old.state.mirrored event.now }
+        requires room { self.old.state.ticks + 1 < 2 ^ 64 }
+        ensures acts { IfOk result (λ report. Acts self.old.compiled (Promising self.old.compiled) self.old.state event.now self.new.state report) }
+        ensures report { IfOk result (λ report. IsSome report ↔ IsTick event.now) }
+        ensures tables { IfOk result (λ report. TablesAfter base_of covers self.old.state.goal self.old.tables event.now report self.new.tables) }
+        ensures covers { IfOk result (AreCoveringAfter self.new.tables self.new.state.estimate) }
+        ensures seen { IfOk result (λ report. SeenAfter self.old.compiled.model self.old.state self.old.last_seen event.now report self.new.last_seen) }
+        ensures compiled { self.new.compiled ≡ self.old.compiled }
+        ensures err { OnErr result (self.new ≡ self.old) }
+    {
+        if let Event::Tick = event {
+            let report = make_tick(
+                self.alloc,
+                &self.compiled,
+                &self.worlds,
+                &mut self.standing,
+                &mut self.tables,
+                &mut self.last_seen,
+            )?;
+            return Ok(Some(report));
+        }
+        change(self.alloc, &self.compiled, &mut self.standing, event)?;
+        if let Event::Reset = event {
+            self.tables = None;
+            self.last_seen = nothing(self.alloc);
+        }
+        Ok(None)
+    }
+
+    /// The compiled model.
+    pub fn compiled(&self) -> &Compiled
+        ensures value { result.now ≡ self.now.compiled }
+        ensures executive { IsExecutive self.now }
+    {
+        &self.compiled
+    }
+
+    /// The goal in force, if there is one.
+    pub fn goal(&self) -> Option<&Goal>
+        ensures { option_map (λ g. g.now.pairs) result ≡ self.now.state.goal }
+    {
+        self.standing.goal.as_ref()
+    }
+
+    /// The tables, if there are any.
+    pub fn tables(&self) -> Option<&Tables>
+        ensures value { option_map (λ t. t.now) result ≡ self.now.tables }
+        ensures executive { IsExecutive self.now }
+    {
+        self.tables.as_ref()
+    }
+
+    /// What the next tick observes besides the mirrored variables.
+    pub fn pending(&self) -> &Seen
+        ensures { result.now.pairs ≡ self.now.state.pending }
+    {
+        &self.standing.pending
+    }
+
+    /// The mirrored variables.
+    pub fn mirrored(&self) -> VarSet
+        ensures { result ≡ self.now.state.mirrored }
+    {
+        self.standing.mirrored
+    }
+
+    /// What the last tick observed, the mirrored variables with it.
+    pub fn last_seen(&self) -> &Seen
+        ensures { result.now.pairs ≡ self.now.last_seen }
+    {
+        &self.last_seen
+    }
+
+    /// The last estimate.
+    pub fn estimate(&self) -> &State
+        ensures { result.now.modes ≡ self.now.state.estimate }
+    {
+        &self.standing.estimate
+    }
+
+    /// The state of the plant.
+    pub fn plant(&self) -> &State
+        ensures { result.now.modes ≡ self.now.state.plant }
+    {
+        self.standing.plant.state()
+    }
+}

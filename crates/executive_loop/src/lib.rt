@@ -1,0 +1,12 @@
+//! The executive: one event after the other, and at each tick the observations, the estimate, the answer and the plant's move.
+#![tactic(auto)]
+
+mod answer;
+mod cover;
+mod events;
+mod executive;
+mod observed;
+mod standing;
+mod tick;
+
+pub use executive::Executive;

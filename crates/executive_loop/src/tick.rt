@@ -1,0 +1,143 @@
+//! One tick.
+
+ghost use Rattle.std.specs.Prelude.{◌≡◌, ◌<◌, ◌+◌, ◌^◌, [], true, IfSome, IfOk, OnOk, OnErr, None};
+ghost use Rattle.std.specs.Option.{option_map};
+ghost use Rattle.cca_base.specs.Plans.{Promising};
+ghost use Rattle.cca_base.specs.State.{IsState};
+ghost use Rattle.cca_base.specs.Successors.{Nominal};
+ghost use Rattle.cca_base.specs.Trace.{TickShows};
+ghost use Rattle.consistency.specs.Worlds.{AreWorldsOf};
+ghost use Rattle.trace_laws.specs.Fits.{Fits};
+ghost use Rattle.trace_laws.specs.Tables.{TablesShown};
+ghost use Rattle.executive_loop.specs.Answered.{IsAnswered};
+ghost use Rattle.executive_loop.specs.Covering.{base_of, covers, AreTablesOf, AreCoveringShown};
+ghost use Rattle.executive_loop.specs.Parts.{SeenAt};
+ghost use Rattle.executive_loop.specs.Standing.{state_of};
+
+use crate::answer::{command_of, reply_in};
+use crate::observed::observe;
+use crate::standing::{Standing, nothing};
+use cca_base::{Compiled, Seen, Shown, State, TickReport};
+use consistency::Worlds;
+use mode_estimator::{Estimate, estimate_by};
+use policy_tables::Tables;
+use std::alloc::{AllocError, Global};
+use std::rc::Rc;
+use successors::Plant;
+
+/// Counts a tick, which drops what was pending.
+fn count(alloc: Global, standing: &mut Standing)
+    requires { standing.old.ticks + 1 < 2 ^ 64 }
+    ensures { state_of standing.new ≡ record (state_of standing.old) { pending = []; ticks = standing.old.ticks + 1 } }
+{
+    standing.pending = nothing(alloc);
+    standing.ticks += 1;
+}
+
+/// Holds from now on, since nothing explains what is observed.
+fn hold(standing: &mut Standing)
+    ensures { state_of standing.new ≡ record (state_of standing.old) { command = None; holding = true } }
+{
+    standing.command = None;
+    standing.holding = true;
+}
+
+/// Moves the plant by the command, if there is one.
+fn obey(compiled: &Compiled, plant: &mut Plant, command: Option<u16>)
+    requires { IsState compiled.now.model plant.old }
+    ensures { Nominal compiled.now.model plant.old command plant.new }
+{
+    if let Some(command) = command {
+        plant.command(compiled, command);
+    }
+}
+
+/// Answers an estimate: what is shown of it, with the reply. The error is out of memory.
+fn answer(
+    alloc: Global,
+    compiled: &Rc<Compiled>,
+    standing: &mut Standing,
+    tables: &mut Option<Tables>,
+    state: State,
+    cost: u64,
+) -> Result<Shown, AllocError>
+    requires fits { Fits compiled.now.value (state_of standing.old) }
+    requires tables { IfSome tables.old (AreTablesOf compiled.now.value) }
+    requires state { IsState compiled.now.value.model state.modes }
+    requires room { standing.old.ticks + 1 < 2 ^ 64 }
+    ensures answered { IfOk result (λ shown. IsAnswered compiled.now.value (state_of standing.old) cost state shown (state_of standing.new)) }
+    ensures takes { IfOk result (λ shown. TablesShown base_of covers (option_map (λ g. g.pairs) standing.old.goal) tables.old shown tables.new) }
+    ensures covers { IfOk result (λ shown. AreCoveringShown tables.new state.modes shown) }
+    ensures tables { OnOk result (IfSome tables.new (AreTablesOf compiled.now.value)) }
+    ensures err { OnErr result (standing.new ≡ standing.old) }
+    ensures err_tables { OnErr result (tables.new ≡ tables.old) }
+{
+    let shown = state.copy(alloc)?;
+    let reply = reply_in(alloc, compiled, tables, &state, &standing.goal)?;
+    let command = command_of(reply);
+    obey(compiled, &mut standing.plant, command);
+    standing.estimate = state;
+    standing.command = command;
+    count(alloc, standing);
+    Ok(Shown::Estimated {
+        cost,
+        state: shown,
+        reply,
+    })
+}
+
+/// Makes a tick. The error is out of memory.
+pub(crate) fn make_tick(
+    alloc: Global,
+    compiled: &Rc<Compiled>,
+    worlds: &Worlds,
+    standing: &mut Standing,
+    tables: &mut Option<Tables>,
+    last_seen: &mut Seen,
+) -> Result<TickReport, AllocError>
+    requires worlds { AreWorldsOf compiled.now.value.model worlds.now }
+    requires fits { Fits compiled.now.value (state_of standing.old) }
+    requires tables { IfSome tables.old (AreTablesOf compiled.now.value) }
+    requires room { standing.old.ticks + 1 < 2 ^ 64 }
+    ensures number { IfOk result (λ report. report.tick ≡ standing.old.ticks + 1) }
+    ensures shows { IfOk result (λ report. TickShows compiled.now.value.model (Promising compiled.now.value) (state_of standing.old) report.shown (state_of standing.new)) }
+    ensures takes { IfOk result (λ report. TablesShown base_of covers (option_map (λ g. g.pairs) standing.old.goal) tables.old report.shown tables.new) }
+    ensures covers { IfOk result (λ report. AreCoveringShown tables.new standing.new.estimate.modes report.shown) }
+    ensures tables { OnOk result (IfSome tables.new (AreTablesOf compiled.now.value)) }
+    ensures seen { IfOk result (λ report. SeenAt compiled.now.value.model (state_of standing.old) report.shown last_seen.new.pairs) }
+    ensures err { OnErr result (standing.new ≡ standing.old) }
+    ensures err_tables { OnErr result (tables.new ≡ tables.old) }
+    ensures err_seen { OnErr result (last_seen.new ≡ last_seen.old) }
+{
+    if standing.holding {
+        count(alloc, standing);
+        *last_seen = nothing(alloc);
+        return Ok(TickReport {
+            tick: standing.ticks,
+            shown: Shown::Holding,
+        });
+    }
+    let seen = observe(alloc, compiled, worlds, standing)?;
+    let shown = match estimate_by(
+        alloc,
+        compiled,
+        worlds,
+        &standing.estimate,
+        standing.command,
+        &seen,
+    )? {
+        Estimate::Found { state, cost } => {
+            answer(alloc, compiled, standing, tables, state, cost)?
+        }
+        Estimate::Unexplained => {
+            hold(standing);
+            count(alloc, standing);
+            Shown::Unexplained
+        }
+    };
+    *last_seen = seen;
+    Ok(TickReport {
+        tick: standing.ticks,
+        shown,
+    })
+}
