@@ -11,12 +11,12 @@ use Rattle.line_machine.specs.declared.machine.End.{End}
 use Rattle.line_machine.specs.declared.machine.End.TheVariants.{Refused}
 use Rattle.line_machine.specs.declared.machine.Machine.{Ghosts}
 use Rattle.model_syntax.specs.Lines.{ModelSoFar, LineOutcome, Reads, Refuses, Finishes}
-use Rattle.trace_text.specs.Refusals.{refusal_line}
 use Rattle.titan_top.specs.Document.{ModelText, Scripted, Stopped, LeadsByCode, LeadsAt, After, ReadsModel, nothing_read}
 use Rattle.titan_top.specs.Limits.{line_code}
+use Rattle.titan_top.specs.Notations.{refusal_in, notation_of}
 use Rattle.titan_top.specs.ModelSteps.{StepsBy, ModelSteps, ModelCloses}
 use Rattle.titan_top.specs.Output.{Outcome, outcome_of, IsOutcomeByEnd, IsOutcomeFor}
-use Rattle.titan_top.specs.declared.line.TheConstants.{MAX_LINE}
+use Rattle.titan_top.specs.declared.limits.TheConstants.{MAX_LINE}
 use Rattle.titan_top.specs.declared.words.Form.{Form}
 use Rattle.titan_top.proofs.RunLines.{Completes, of_text, text_of, first_line, line_first, at_stop, stops, at_end, ends}
 
@@ -36,13 +36,13 @@ pub record AfterScript {S : Type 0} (m : Ghosts S) (at_script : PlantModel → �
 -- the machine reads a model line by line, and behind it its outcomes are those of the form
 pub record ReadsModels (form : Form) {S : Type 0} (m : Ghosts S) (stage : ModelSoFar → S) (at_script : PlantModel → ℕ → Next S → List ℕ → Type 0) : Type 0 where
   pub limit : (s : ModelSoFar) → m.limit_of (stage s) ≡ MAX_LINE
-  pub refusal : (s : ModelSoFar) (n code : ℕ) → m.refusal (stage s) n code ≡ refusal_line s.model n (bare code)
-  pub steps : (s : ModelSoFar) (n : ℕ) (l : List ℕ) (u : Next S) (x : List ℕ) → m.steps (stage s) n l u x → ModelSteps stage at_script s n l u x
-  pub stepped : (s : ModelSoFar) (n : ℕ) (l : List ℕ) (u : Next S) (x : List ℕ) → ModelSteps stage at_script s n l u x → m.steps (stage s) n l u x
-  pub closes : (s : ModelSoFar) (n : ℕ) (e : End) (x : List ℕ) → m.closes (stage s) n e x → ModelCloses s n e x
-  pub closed : (s : ModelSoFar) (n : ℕ) (e : End) (x : List ℕ) → ModelCloses s n e x → m.closes (stage s) n e x
-  pub stopped : (k : PlantModel) (line : ℕ) (r : Refusal) → IsOutcomeByEnd form (Stopped k line r) (outcome_of Refused (refusal_line k line r))
-  pub stops_as : (k : PlantModel) (line : ℕ) (r : Refusal) (o : Outcome) → IsOutcomeByEnd form (Stopped k line r) o → o ≡ outcome_of Refused (refusal_line k line r)
+  pub refusal : (s : ModelSoFar) (n code : ℕ) → m.refusal (stage s) n code ≡ refusal_in (notation_of form) s.model n (bare code)
+  pub steps : (s : ModelSoFar) (n : ℕ) (l : List ℕ) (u : Next S) (x : List ℕ) → m.steps (stage s) n l u x → ModelSteps (notation_of form) stage at_script s n l u x
+  pub stepped : (s : ModelSoFar) (n : ℕ) (l : List ℕ) (u : Next S) (x : List ℕ) → ModelSteps (notation_of form) stage at_script s n l u x → m.steps (stage s) n l u x
+  pub closes : (s : ModelSoFar) (n : ℕ) (e : End) (x : List ℕ) → m.closes (stage s) n e x → ModelCloses (notation_of form) s n e x
+  pub closed : (s : ModelSoFar) (n : ℕ) (e : End) (x : List ℕ) → ModelCloses (notation_of form) s n e x → m.closes (stage s) n e x
+  pub stopped : (k : PlantModel) (line : ℕ) (r : Refusal) → IsOutcomeByEnd form (Stopped k line r) (outcome_of Refused (refusal_in (notation_of form) k line r))
+  pub stops_as : (k : PlantModel) (line : ℕ) (r : Refusal) (o : Outcome) → IsOutcomeByEnd form (Stopped k line r) o → o ≡ outcome_of Refused (refusal_in (notation_of form) k line r)
   pub scripted : (k : PlantModel) (n : ℕ) (ls : List (List ℕ)) (u : Next S) (x : List ℕ) (e : End) (rest : List ℕ) → at_script k n u x → Completes m u n ls e rest → IsOutcomeByEnd form (Scripted k n ls) (outcome_of e (x ++ rest))
   pub script_as : (k : PlantModel) (n : ℕ) (ls : List (List ℕ)) (o : Outcome) → IsOutcomeByEnd form (Scripted k n ls) o → AfterScript m at_script k n ls o
 
@@ -56,26 +56,26 @@ module _ (form : Form) {S : Type 0} (m : Ghosts S) (stage : ModelSoFar → S) (a
   -- ---- from the machine to the document
 
   -- what a line is refused with, or what it makes of the model
-  line_by : (o : Option ℕ) (s : ModelSoFar) (n : ℕ) (l : List ℕ) (u : Next S) (x : List ℕ) → TransitionByCode m o (stage s) n l u x → (out : LineOutcome) × LeadsByCode o s l out × StepsBy stage out s n (at_script s.model n u x) u x
+  line_by : (o : Option ℕ) (s : ModelSoFar) (n : ℕ) (l : List ℕ) (u : Next S) (x : List ℕ) → TransitionByCode m o (stage s) n l u x → (out : LineOutcome) × LeadsByCode o s l out × StepsBy (notation_of form) stage out s n (at_script s.model n u x) u x
   line_by (Some code) s n l u x takes = (Refuses code, refl, (takes.0, takes.1 ∙ h.refusal s n code))
   line_by None s n l u x takes = h.steps s n l u x takes
 
-  line_is : (s : ModelSoFar) (n : ℕ) (l : List ℕ) (u : Next S) (x : List ℕ) → Transition m (stage s) n l u x → (out : LineOutcome) × LeadsAt s n l out × StepsBy stage out s n (at_script s.model n u x) u x
+  line_is : (s : ModelSoFar) (n : ℕ) (l : List ℕ) (u : Next S) (x : List ℕ) → Transition m (stage s) n l u x → (out : LineOutcome) × LeadsAt s n l out × StepsBy (notation_of form) stage out s n (at_script s.model n u x) u x
   line_is s n l u x takes =
       line_by (line_code n l) s n l u x (subst (λ (k : ℕ). TransitionByCode m (length_code k n (length l)) (stage s) n l u x) (h.limit s) takes)
 
-  refused_says : (s : ModelSoFar) (n : ℕ) (l : List ℕ) (ls : List (List ℕ)) (code : ℕ) (u : Next S) (x : List ℕ) (e : End) (rest : List ℕ) → LeadsAt s (n + 1) l (Refuses code) → (u ≡ Stops Refused) × (x ≡ refusal_line s.model (n + 1) (bare code)) → Completes m u (n + 1) ls e rest
+  refused_says : (s : ModelSoFar) (n : ℕ) (l : List ℕ) (ls : List (List ℕ)) (code : ℕ) (u : Next S) (x : List ℕ) (e : End) (rest : List ℕ) → LeadsAt s (n + 1) l (Refuses code) → (u ≡ Stops Refused) × (x ≡ refusal_in (notation_of form) s.model (n + 1) (bare code)) → Completes m u (n + 1) ls e rest
       → SaysAs form s n (l ∷ ls) (outcome_of e (x ++ rest))
   refused_says s n l ls code u x e rest leads by c =
       let p = at_stop m Refused (n + 1) ls e rest (subst (λ (v : Next S). Completes m v (n + 1) ls e rest) by.0 c) in
-      let text : refusal_line s.model (n + 1) (bare code) ≡ x ++ rest = sym (append-nil (refusal_line s.model (n + 1) (bare code))) ∙ rw (by.1, p.1) refl in
+      let text : refusal_in (notation_of form) s.model (n + 1) (bare code) ≡ x ++ rest = sym (append-nil (refusal_in (notation_of form) s.model (n + 1) (bare code))) ∙ rw (by.1, p.1) refl in
       record {
         end = Stopped s.model (n + 1) (bare code);
         reads = (Refuses code, leads, refl);
         is = subst (IsOutcomeByEnd form (Stopped s.model (n + 1) (bare code))) (same_outcome (sym p.0) text) (h.stopped s.model (n + 1) (bare code));
       }
 
-  line_says : (out : LineOutcome) (s : ModelSoFar) (n : ℕ) (l : List ℕ) (ls : List (List ℕ)) (u : Next S) (x : List ℕ) (e : End) (rest : List ℕ) → LeadsAt s (n + 1) l out → StepsBy stage out s (n + 1) (at_script s.model (n + 1) u x) u x → Completes m u (n + 1) ls e rest
+  line_says : (out : LineOutcome) (s : ModelSoFar) (n : ℕ) (l : List ℕ) (ls : List (List ℕ)) (u : Next S) (x : List ℕ) (e : End) (rest : List ℕ) → LeadsAt s (n + 1) l out → StepsBy (notation_of form) stage out s (n + 1) (at_script s.model (n + 1) u x) u x → Completes m u (n + 1) ls e rest
       → ((t : ModelSoFar) → Completes m (GoesOn (stage t)) (n + 1) ls e rest → SaysAs form t (n + 1) ls (outcome_of e rest)) → SaysAs form s n (l ∷ ls) (outcome_of e (x ++ rest))
   line_says (Reads t) s n l ls u x e rest leads by c on =
       let r = on t (subst (λ (v : Next S). Completes m v (n + 1) ls e rest) by.0 c) in
@@ -108,14 +108,14 @@ module _ (form : Form) {S : Type 0} (m : Ghosts S) (stage : ModelSoFar → S) (a
     pub completes : Completes m u n ls end text
     pub is : o ≡ outcome_of end text
 
-  by_line : (o : Option ℕ) (s : ModelSoFar) (n : ℕ) (l : List ℕ) (out : LineOutcome) (u : Next S) (x : List ℕ) → LeadsByCode o s l out → StepsBy stage out s n (at_script s.model n u x) u x → TransitionByCode m o (stage s) n l u x
+  by_line : (o : Option ℕ) (s : ModelSoFar) (n : ℕ) (l : List ℕ) (out : LineOutcome) (u : Next S) (x : List ℕ) → LeadsByCode o s l out → StepsBy (notation_of form) stage out s n (at_script s.model n u x) u x → TransitionByCode m o (stage s) n l u x
   by_line (Some code) s n l out u x leads by =
-      let p : (u ≡ Stops Refused) × (x ≡ refusal_line s.model n (bare code)) = subst (λ (z : LineOutcome). StepsBy stage z s n (at_script s.model n u x) u x) leads by in
+      let p : (u ≡ Stops Refused) × (x ≡ refusal_in (notation_of form) s.model n (bare code)) = subst (λ (z : LineOutcome). StepsBy (notation_of form) stage z s n (at_script s.model n u x) u x) leads by in
       (p.0, p.1 ∙ sym (h.refusal s n code))
   by_line None s n l out u x leads by = h.stepped s n l u x (out, leads, by)
 
   -- one line before a run
-  comes_by : (s : ModelSoFar) (n : ℕ) (l : List ℕ) (ls : List (List ℕ)) (out : LineOutcome) (u : Next S) (x : List ℕ) (e : End) (rest : List ℕ) (o : Outcome) → LeadsAt s (n + 1) l out → StepsBy stage out s (n + 1) (at_script s.model (n + 1) u x) u x → Completes m u (n + 1) ls e rest
+  comes_by : (s : ModelSoFar) (n : ℕ) (l : List ℕ) (ls : List (List ℕ)) (out : LineOutcome) (u : Next S) (x : List ℕ) (e : End) (rest : List ℕ) (o : Outcome) → LeadsAt s (n + 1) l out → StepsBy (notation_of form) stage out s (n + 1) (at_script s.model (n + 1) u x) u x → Completes m u (n + 1) ls e rest
       → o ≡ outcome_of e (x ++ rest) → Comes (GoesOn (stage s)) n (l ∷ ls) o
   comes_by s n l ls out u x e rest o leads by c is =
       let takes : Transition m (stage s) (n + 1) l u x = subst (λ (k : ℕ). TransitionByCode m (length_code k (n + 1) (length l)) (stage s) (n + 1) l u x) (sym (h.limit s)) (by_line (line_code (n + 1) l) s (n + 1) l out u x leads by) in
@@ -128,7 +128,7 @@ module _ (form : Form) {S : Type 0} (m : Ghosts S) (stage : ModelSoFar → S) (a
       let r = on t after in
       comes_by s n l ls (Reads t) (GoesOn (stage t)) [] r.end r.text o leads (refl, refl) r.completes r.is
   line_comes (Refuses code) s n l ls end o leads after is on =
-      let text : List ℕ = refusal_line s.model (n + 1) (bare code) in
+      let text : List ℕ = refusal_in (notation_of form) s.model (n + 1) (bare code) in
       comes_by s n l ls (Refuses code) (Stops Refused) text Refused [] o leads (refl, refl) (stops m Refused (n + 1) ls)
       (h.stops_as s.model (n + 1) (bare code) o (subst (λ (z : ModelText). IsOutcomeByEnd form z o) after is) ∙ same_outcome {e = Refused} {f = Refused} refl (sym (append-nil text)))
   line_comes Finishes s n l ls end o leads after is on =
@@ -139,8 +139,8 @@ module _ (form : Form) {S : Type 0} (m : Ghosts S) (stage : ModelSoFar → S) (a
   comes [] s n end o reads is =
       record {
         end = Refused;
-        text = refusal_line s.model n (bare ENDS_EARLY);
-        completes = ends m (GoesOn (stage s)) n Refused (refusal_line s.model n (bare ENDS_EARLY)) (h.closed s n Refused (refusal_line s.model n (bare ENDS_EARLY)) (refl, refl));
+        text = refusal_in (notation_of form) s.model n (bare ENDS_EARLY);
+        completes = ends m (GoesOn (stage s)) n Refused (refusal_in (notation_of form) s.model n (bare ENDS_EARLY)) (h.closed s n Refused (refusal_in (notation_of form) s.model n (bare ENDS_EARLY)) (refl, refl));
         is = h.stops_as s.model n (bare ENDS_EARLY) o (subst (λ (z : ModelText). IsOutcomeByEnd form z o) reads is);
       }
   comes (l ∷ ls) s n end o (out, leads, after) is = line_comes out s n l ls end o leads after is (λ t reads. comes ls t (n + 1) end o reads is)

@@ -13,6 +13,8 @@ use Rattle.line_machine.proofs.SentPieces.{append_known-nil}
 use Rattle.line_machine.proofs.SureTextBegins.{quiet_sure, decided}
 use Rattle.model_syntax.specs.Lines.{ModelSoFar, LineOutcome, Reads, Refuses, Finishes}
 use Rattle.titan_top.specs.declared.status.Status.TheVariants.{Ended, Rejected, ReadFault}
+use Rattle.titan_top.specs.declared.notation.Notation.{Notation}
+use Rattle.titan_top.specs.declared.notation.Notation.TheVariants.{Words}
 use Rattle.titan_top.specs.declared.words.Form.{Form}
 use Rattle.titan_top.specs.declared.words.Form.TheVariants.{Run, Show}
 use Rattle.titan_top.specs.Acceptance.{Acceptance, AcceptedAs, RefusedFor}
@@ -35,9 +37,9 @@ whole_not f g (inl a) = f a refl
 whole_not f g (inr b) = g b refl
 
 rejected_never : (form : Form) (left left' out out' : Option (List ℕ)) (e : End) → e ≡ ends.Rejected → StreamedFor form left left' out out' (Ok e) → ⊥
-rejected_never Run left left' out out' e is s =
-    let says : WroteWhole run_machine run_first s.driven.taken left' out out' ends.Rejected = subst (λ (f : End). WroteWhole run_machine run_first s.driven.taken left' out out' f) is s.driven.says in
-    whole_not (λ h. run_text_not run_first s.driven.taken ends.Rejected says.text h.0) (λ h. run_sure_not run_first s.driven.taken ends.Rejected says.text h) says.whole
+rejected_never (Run w) left left' out out' e is s =
+    let says : WroteWhole run_machine (run_first w) s.driven.taken left' out out' ends.Rejected = subst (λ (f : End). WroteWhole run_machine (run_first w) s.driven.taken left' out out' f) is s.driven.says in
+    whole_not (λ h. run_text_not (run_first w) s.driven.taken ends.Rejected says.text h.0) (λ h. run_sure_not (run_first w) s.driven.taken ends.Rejected says.text h) says.whole
 rejected_never Show left left' out out' e is s =
     let says : WroteWhole show_machine nothing_read s.driven.taken left' out out' ends.Rejected = subst (λ (f : End). WroteWhole show_machine nothing_read s.driven.taken left' out out' f) is s.driven.says in
     whole_not (λ h. show_text_not nothing_read s.driven.taken ends.Rejected says.text h.0) (λ h. show_sure_not nothing_read s.driven.taken ends.Rejected says.text h) says.whole
@@ -48,17 +50,17 @@ never_rejected form left left' out out' (Ok e) s h = rejected_never form left le
 never_rejected form left left' out out' (Err c) s h = no_cut_rejected c h
 
 -- a run that ended is at the end of its input
-at_end_by : (left left' out out' : Option (List ℕ)) (e : End) → e ≡ ends.Ended → StreamedFor Run left left' out out' (Ok e) → IsAtEnd left'
-at_end_by left left' out out' e is s =
-    let says : WroteWhole run_machine run_first s.driven.taken left' out out' ends.Ended = subst (λ (f : End). WroteWhole run_machine run_first s.driven.taken left' out out' f) is s.driven.says in
+at_end_by : (w : Notation) (left left' out out' : Option (List ℕ)) (e : End) → e ≡ ends.Ended → StreamedFor (Run w) left left' out out' (Ok e) → IsAtEnd left'
+at_end_by w left left' out out' e is s =
+    let says : WroteWhole run_machine (run_first w) s.driven.taken left' out out' ends.Ended = subst (λ (f : End). WroteWhole run_machine (run_first w) s.driven.taken left' out out' f) is s.driven.says in
     elim says.whole [
       | inl h ↦ h.1
-      | inr h ↦ let k : ends.Ended ≡ ends.Refused = run_sure_refused run_first s.driven.taken ends.Ended says.text h in absurd cc
+      | inr h ↦ let k : ends.Ended ≡ ends.Refused = run_sure_refused (run_first w) s.driven.taken ends.Ended says.text h in absurd cc
     ]
 
-pub run_at_end : (form : Form) (left left' out out' : Option (List ℕ)) (r : Result End Cut) → form ≡ Run → StreamedFor form left left' out out' r → status_of r ≡ Ended → IsAtEnd left'
-run_at_end form left left' out out' (Ok e) is s h = at_end_by left left' out out' e (end_ended e h) (subst (λ (f : Form). StreamedFor f left left' out out' (Ok e)) is s)
-run_at_end form left left' out out' (Err c) is s h = absurd (no_cut_ended c h)
+pub run_at_end : (w : Notation) (form : Form) (left left' out out' : Option (List ℕ)) (r : Result End Cut) → form ≡ Run w → StreamedFor form left left' out out' r → status_of r ≡ Ended → IsAtEnd left'
+run_at_end w form left left' out out' (Ok e) is s h = at_end_by w left left' out out' e (end_ended e h) (subst (λ (f : Form). StreamedFor f left left' out out' (Ok e)) is s)
+run_at_end w form left left' out out' (Err c) is s h = absurd (no_cut_ended c h)
 
 -- what was shown was read to its script
 show_taken : (taken : List ℕ) (left : Option (List ℕ)) (text : List ℕ) → ((IsText show_machine nothing_read taken ends.Ended text × IsAtEnd left) ⊎ IsSure show_machine nothing_read taken (Stops ends.Ended) text) → IsText show_machine nothing_read taken ends.Ended text
@@ -84,7 +86,7 @@ shows_quiet : (v : Acceptance) (k : PlantModel) (n : ℕ) (t : ModelSoFar) (text
 shows_quiet (AcceptedAs b) k n t text h = absurd cc
 shows_quiet (RefusedFor r) k n t text h = absurd cc
 
-show_by_quiet : (o : LineOutcome) (s : ModelSoFar) (n : ℕ) (t : ModelSoFar) (text : List ℕ) (at : Type 0) → (at → text ≡ []) → StepsBy (λ x. x) o s n at (GoesOn t) text → text ≡ []
+show_by_quiet : (o : LineOutcome) (s : ModelSoFar) (n : ℕ) (t : ModelSoFar) (text : List ℕ) (at : Type 0) → (at → text ≡ []) → StepsBy Words (λ x. x) o s n at (GoesOn t) text → text ≡ []
 show_by_quiet (Reads u) s n t text at script h = h.1
 show_by_quiet (Refuses code) s n t text at script h = absurd cc
 show_by_quiet Finishes s n t text at script h = script h

@@ -28,15 +28,16 @@ use Rattle.titan_top.specs.Streams.{FitsIn, HasRoomForWords}
 use Rattle.titan_top.specs.Statuses.{end_status, cut_status, status_of}
 use Rattle.titan_top.specs.Wire.{Writes, WritesAs}
 use Rattle.titan_top.specs.declared.status.Status.TheVariants.{Memory}
+use Rattle.titan_top.specs.declared.notation.Notation.{Notation}
 use Rattle.titan_top.specs.declared.words.Form.{Form}
 use Rattle.titan_top.specs.declared.words.Form.TheVariants.{Run, Show}
 use Rattle.titan_top.proofs.DocumentsAreTexts.{same_outcome, ReadsModels, text_says, said_text}
 
 -- ---- room
 
-pub run_room : (form : Form) (first : RunState) (left : Option (List ℕ)) (space : Option ℕ) → form ≡ Run → first ≡ run_first → HasRoomForWords (Some form) left space → HasRoomFor run_machine first left space
-run_room form first left None is begins h = λ taken text after moved may. tt
-run_room form first left (Some n) is begins h =
+pub run_room : (notation : Notation) (form : Form) (first : RunState) (left : Option (List ℕ)) (space : Option ℕ) → form ≡ Run notation → first ≡ run_first notation → HasRoomForWords (Some form) left space → HasRoomFor run_machine first left space
+run_room notation form first left None is begins h = λ taken text after moved may. tt
+run_room notation form first left (Some n) is begins h =
     subst (λ (s : RunState). HasRoomFor run_machine s left (Some n)) (sym begins) (subst (λ (f : Form). FitsIn n (Some f) left) is h)
 
 pub show_room : (form : Form) (first : ModelSoFar) (left : Option (List ℕ)) (space : Option ℕ) → form ≡ Show → first ≡ nothing_read → HasRoomForWords (Some form) left space → HasRoomFor show_machine first left space

@@ -1,5 +1,5 @@
 -- What the status of an outcome says of the document, and the other way round.
-use Rattle.std.proofs.Common.{◌≡◌, ℕ, ◌⊎◌, inl, inr, List, Option, Some, None, Result, Ok, Err, IfOk, refl, sym, ap, ◌∙◌}
+use Rattle.std.proofs.Common.{◌≡◌, ℕ, ◌⊎◌, inl, inr, List, Option, Some, None, Result, Ok, Err, refl, sym, ap, subst, ◌∙◌}
 use Rattle.std.specs.Prelude.{IfSome, IfErr}
 use Rattle.cca_base.specs.declared.events.Refusal.{Refusal}
 use Rattle.cca_base.specs.PlantModel.{PlantModel}
@@ -9,24 +9,41 @@ use Rattle.line_machine.specs.declared.send.Cut.{Cut}
 use Rattle.line_machine.specs.declared.send.Cut.TheVariants as cuts
 use Rattle.titan_top.specs.declared.status.Status.{Status}
 use Rattle.titan_top.specs.declared.status.Status.TheVariants.{Ended, Rejected, Refused, ReadFault, Memory}
+use Rattle.titan_top.specs.declared.notation.Notation.{Notation}
 use Rattle.titan_top.specs.declared.words.Form.{Form}
 use Rattle.titan_top.specs.declared.words.Form.TheVariants.{Run, Show}
-use Rattle.titan_top.specs.Acceptance.{AcceptedAs, RefusedFor}
-use Rattle.titan_top.specs.Document.{DocumentEnd, Complete, RefusedAt, ModelText, Scripted, Stopped}
-use Rattle.titan_top.specs.Output.{Outcome, ending, shown_model, refusal, printed, IsShown, IsOutcomeFor, IsAcceptedEnd, IsRefusedEnd, NothingRefused, SomeRefused}
+use Rattle.titan_top.specs.Acceptance.{Acceptance, AcceptedAs, RefusedFor, IsAcceptanceOf}
+use Rattle.titan_top.specs.Document.{Document, DocumentEnd, Complete, RefusedAt, ModelText, Scripted, Stopped, SaysByEnd, refused_at}
+use Rattle.titan_top.specs.Output.{Outcome, ending, shown_acceptance, PrintsBy, IsRun, IsShown, IsOutcomeFor, IsAcceptedEnd, IsRefusedEnd, NothingRefused, SomeRefused}
+use Rattle.titan_top.specs.OneStep.{acceptance_is_one}
 use Rattle.titan_top.specs.Statuses.{end_status, cut_status, status_of}
 use Rattle.titan_top.specs.Wire.{WritesAs}
 use Rattle.titan_top.proofs.PrintedDocuments.{printed_status}
+use Rattle.titan_top.proofs.DocumentsAreOne.{documents_are_one, texts_are_one}
 
 -- ---- what an outcome's status says of the document
 
-ended_whole : (m : PlantModel) (e : DocumentEnd) → (ending m e).status ≡ Ended → e ≡ Complete
-ended_whole m Complete h = refl
-ended_whole m (RefusedAt line r) h = absurd cc
+ended_whole : (notation : Notation) (m : PlantModel) (e : DocumentEnd) → (ending notation m e).status ≡ Ended → e ≡ Complete
+ended_whole notation m Complete h = refl
+ended_whole notation m (RefusedAt line r) h = absurd cc
 
-refused_somewhere : (m : PlantModel) (e : DocumentEnd) → (ending m e).status ≡ Refused → (line : ℕ) × (r : Refusal) × (e ≡ RefusedAt line r)
-refused_somewhere m Complete h = absurd cc
-refused_somewhere m (RefusedAt line r) h = (line, r, refl)
+refused_somewhere : (notation : Notation) (m : PlantModel) (e : DocumentEnd) → (ending notation m e).status ≡ Refused → (line : ℕ) × (r : Refusal) × (e ≡ RefusedAt line r)
+refused_somewhere notation m Complete h = absurd cc
+refused_somewhere notation m (RefusedAt line r) h = (line, r, refl)
+
+-- the document of what a run prints
+record IsRunOf (notation : Notation) (end : ModelText) (o : Outcome) : Type 0 where
+  document : Document
+  says : SaysByEnd end document
+  status : o.status ≡ (ending notation document.model document.ending).status
+
+prints_of : (notation : Notation) (v : Acceptance) (m : PlantModel) (n : ℕ) (ls : List (List ℕ)) (o : Outcome) → IsAcceptanceOf m v → PrintsBy notation v m n ls o → IsRunOf notation (Scripted m n ls) o
+prints_of notation (AcceptedAs b) m n ls o is (r, reports, says, trace, e) = record { document = r; says = (AcceptedAs b, is, says); status = ap (λ (x : Outcome). x.status) e ∙ printed_status notation r reports }
+prints_of notation (RefusedFor rf) m n ls o is e = record { document = refused_at m n rf; says = (RefusedFor rf, is, refl); status = ap (λ (x : Outcome). x.status) e }
+
+run_of : (notation : Notation) (end : ModelText) (o : Outcome) → IsRun notation end o → IsRunOf notation end o
+run_of notation (Scripted m n ls) o (v, is, h) = prints_of notation v m n ls o is h
+run_of notation (Stopped m line r) o e = record { document = refused_at m line r; says = refl; status = ap (λ (x : Outcome). x.status) e }
 
 shown_ended : (end : ModelText) (o : Outcome) → IsShown end o → o.status ≡ Ended → IsAcceptedEnd end
 shown_ended (Scripted m n ls) o (AcceptedAs b, is, e) h = (b, is)
@@ -39,34 +56,42 @@ shown_refused (Scripted m n ls) o (RefusedFor r, is, e) h = (n, r, (refl, is))
 shown_refused (Stopped m line r) o e h = (line, r, (refl, refl))
 
 pub ended_by : (form : Form) (input : List ℕ) (o : Outcome) → IsOutcomeFor form input o → o.status ≡ Ended → NothingRefused (Some form) input
-ended_by Run input o (end, reads, (r, says, e)) h = (r, (end, reads, says), ended_whole r.model r.ending (sym (printed_status r) ∙ sym (ap (λ (x : Outcome). x.status) e) ∙ h))
+ended_by (Run notation) input o (end, reads, is) h = let d = run_of notation end o is in (d.document, (end, reads, d.says), ended_whole notation d.document.model d.document.ending (sym d.status ∙ h))
 ended_by Show input o (end, reads, is) h = (end, reads, shown_ended end o is h)
 
 refused_by : (form : Form) (input : List ℕ) (o : Outcome) → IsOutcomeFor form input o → o.status ≡ Refused → SomeRefused (Some form) input
-refused_by Run input o (end, reads, (r, says, e)) h = (r, (end, reads, says), refused_somewhere r.model r.ending (sym (printed_status r) ∙ sym (ap (λ (x : Outcome). x.status) e) ∙ h))
+refused_by (Run notation) input o (end, reads, is) h = let d = run_of notation end o is in (d.document, (end, reads, d.says), refused_somewhere notation d.document.model d.document.ending (sym d.status ∙ h))
 refused_by Show input o (end, reads, is) h = (end, reads, shown_refused end o is h)
 
--- ---- and back
+-- ---- and what the document says of the status
 
--- an outcome with this status
-abbrev HasOutcome : Form → List ℕ → Status → Type 0
-HasOutcome form input t = (o : Outcome) × IsOutcomeFor form input o × (o.status ≡ t)
+shown_is : (end : ModelText) (o : Outcome) → IsShown end o → IsAcceptedEnd end → o.status ≡ Ended
+shown_is (Scripted m n ls) o (v, is, e) (b, is') =
+    ap (λ (x : Outcome). x.status) (e ∙ ap (shown_acceptance m n) (acceptance_is_one m v (AcceptedAs b) is is'))
+shown_is (Stopped m line r) o e h = absurd h
 
-accepted_shown : (end : ModelText) → IsAcceptedEnd end → (o : Outcome) × IsShown end o × (o.status ≡ Ended)
-accepted_shown (Scripted m n ls) (b, is) = (shown_model b, (AcceptedAs b, is, refl), refl)
-accepted_shown (Stopped m line r) h = absurd h
+refused_is : (end : ModelText) (o : Outcome) (line : ℕ) (r : Refusal) → IsShown end o → IsRefusedEnd end line r → o.status ≡ Refused
+refused_is (Scripted m n ls) o line r (v, is, e) (at, is') =
+    ap (λ (x : Outcome). x.status) (e ∙ ap (shown_acceptance m n) (acceptance_is_one m v (RefusedFor r) is is'))
+refused_is (Stopped m n s) o line r e h = ap (λ (x : Outcome). x.status) e
 
-refused_shown : (end : ModelText) (line : ℕ) (r : Refusal) → IsRefusedEnd end line r → (o : Outcome) × IsShown end o × (o.status ≡ Refused)
-refused_shown (Scripted m n ls) line r (at, is) = (refusal m n r, (RefusedFor r, is, refl), refl)
-refused_shown (Stopped m n s) line r (at, is) = (refusal m n s, refl, refl)
+-- where nothing is refused, an outcome has ended
+ended_status : (form : Form) (input : List ℕ) (o : Outcome) → IsOutcomeFor form input o → NothingRefused (Some form) input → o.status ≡ Ended
+ended_status (Run notation) input o (end, reads, is) (r, document, complete) =
+    let d = run_of notation end o is in
+    let same : d.document ≡ r = documents_are_one input d.document r (end, reads, d.says) document in
+    d.status ∙ ap (λ (x : Document). (ending notation x.model x.ending).status) same ∙ ap (λ (e : DocumentEnd). (ending notation r.model e).status) complete
+ended_status Show input o (end, reads, is) (other, reads', accepted) =
+    shown_is end o is (subst IsAcceptedEnd (texts_are_one input other end reads' reads) accepted)
 
-nothing_outcome : (form : Form) (input : List ℕ) → NothingRefused (Some form) input → HasOutcome form input Ended
-nothing_outcome Run input (r, (end, reads, says), e) = (printed r, (end, reads, (r, says, refl)), printed_status r ∙ ap (λ (z : DocumentEnd). (ending r.model z).status) e)
-nothing_outcome Show input (end, reads, accepted) = let s = accepted_shown end accepted in (s.0, (end, reads, s.1), s.2)
-
-some_outcome : (form : Form) (input : List ℕ) → SomeRefused (Some form) input → HasOutcome form input Refused
-some_outcome Run input (r, (end, reads, says), (line, rf, e)) = (printed r, (end, reads, (r, says, refl)), printed_status r ∙ ap (λ (z : DocumentEnd). (ending r.model z).status) e)
-some_outcome Show input (end, reads, (line, rf, is)) = let s = refused_shown end line rf is in (s.0, (end, reads, s.1), s.2)
+-- where something is refused, an outcome is refused
+refused_status : (form : Form) (input : List ℕ) (o : Outcome) → IsOutcomeFor form input o → SomeRefused (Some form) input → o.status ≡ Refused
+refused_status (Run notation) input o (end, reads, is) (r, document, (line, rf, e)) =
+    let d = run_of notation end o is in
+    let same : d.document ≡ r = documents_are_one input d.document r (end, reads, d.says) document in
+    d.status ∙ ap (λ (x : Document). (ending notation x.model x.ending).status) same ∙ ap (λ (z : DocumentEnd). (ending notation r.model z).status) e
+refused_status Show input o (end, reads, is) (other, reads', (line, rf, h)) =
+    refused_is end o line rf is (subst (λ (x : ModelText). IsRefusedEnd x line rf) (texts_are_one input other end reads' reads) h)
 
 -- ---- what the driver's answer says
 
@@ -119,19 +144,19 @@ form_refused form (Err c) (Some b) old now h e = absurd (no_cut_refused c e)
 form_refused form (Ok x) (Some b) old now h e = let k = known_end x old now (IsOutcomeFor form b) h in refused_by form b k.0 k.1 (k.2 ∙ e)
 
 -- without a fault the status is the outcome's, or memory ran out
-status_where : (form : Form) (b : List ℕ) (r : Result End Cut) (t : Status) → ((o : Outcome) → IsOutcomeFor form b o → IfOk r (λ e. o.status ≡ end_status e)) → IfErr r (λ c. c ≡ cuts.Memory) → HasOutcome form b t → (status_of r ≡ t) ⊎ (status_of r ≡ Memory)
-status_where form b (Ok e) t h k (o, is, s) = inl (sym (h o is) ∙ s)
-status_where form b (Err c) t h k (o, is, s) = inr (ap cut_status k)
+status_where : (form : Form) (b : List ℕ) (r : Result End Cut) (t : Status) (old now : Option (List ℕ)) → ((o : Outcome) → IsOutcomeFor form b o → o.status ≡ t) → WritesAs (status_of r) old now (IsOutcomeFor form b) → IfErr r (λ c. c ≡ cuts.Memory) → (status_of r ≡ t) ⊎ (status_of r ≡ Memory)
+status_where form b (Ok e) t old now h w k = let x = known_end e old now (IsOutcomeFor form b) w in inl (sym x.2 ∙ h x.0 x.1)
+status_where form b (Err c) t old now h w k = inr (ap cut_status k)
 
-pub ended_where : (form : Form) (left : Option (List ℕ)) (r : Result End Cut) → IfSome left (λ b. (o : Outcome) → IsOutcomeFor form b o → IfOk r (λ e. o.status ≡ end_status e)) → IfErr r (λ c. c ≡ cuts.Memory)
+pub ended_where : (form : Form) (left : Option (List ℕ)) (r : Result End Cut) (old now : Option (List ℕ)) → IfSome left (λ b. WritesAs (status_of r) old now (IsOutcomeFor form b)) → IfErr r (λ c. c ≡ cuts.Memory)
     → IfSome left (λ b. NothingRefused (Some form) b → (status_of r ≡ Ended) ⊎ (status_of r ≡ Memory))
-ended_where form None r h k = tt
-ended_where form (Some b) r h k = λ n. status_where form b r Ended h k (nothing_outcome form b n)
+ended_where form None r old now h k = tt
+ended_where form (Some b) r old now h k = λ n. status_where form b r Ended old now (λ o is. ended_status form b o is n) h k
 
-pub refused_where : (form : Form) (left : Option (List ℕ)) (r : Result End Cut) → IfSome left (λ b. (o : Outcome) → IsOutcomeFor form b o → IfOk r (λ e. o.status ≡ end_status e)) → IfErr r (λ c. c ≡ cuts.Memory)
+pub refused_where : (form : Form) (left : Option (List ℕ)) (r : Result End Cut) (old now : Option (List ℕ)) → IfSome left (λ b. WritesAs (status_of r) old now (IsOutcomeFor form b)) → IfErr r (λ c. c ≡ cuts.Memory)
     → IfSome left (λ b. SomeRefused (Some form) b → (status_of r ≡ Refused) ⊎ (status_of r ≡ Memory))
-refused_where form None r h k = tt
-refused_where form (Some b) r h k = λ n. status_where form b r Refused h k (some_outcome form b n)
+refused_where form None r old now h k = tt
+refused_where form (Some b) r old now h k = λ n. status_where form b r Refused old now (λ o is. refused_status form b o is n) h k
 
 complete_by : (r : Result End Cut) (old now : Option (List ℕ)) (Is : Outcome → Type 0) → WritesAs (status_of r) old now Is → IfErr r (λ c. c ≡ cuts.Memory) → ((o : Outcome) × Is o × (status_of r ≡ o.status)) ⊎ (status_of r ≡ Memory)
 complete_by (Ok e) old now Is a k = let x = known_end e old now Is a in inl (x.0, x.1, sym x.2)

@@ -52,19 +52,19 @@ module _ (form : Form) {S : Type 0} (m : Ghosts S) (stage : ModelSoFar → S) (a
 
 pub texts_are_outcomes : TextsAreOutcomes
 texts_are_outcomes = record {
-  run_says = λ input e text is. text_says Run run_machine InModel RunsAtScript run_reads_models input e text is;
-  run_comes = λ input o is. form_comes Run run_machine InModel RunsAtScript run_reads_models run_fixed input o is;
+  run_says = λ w input e text is. text_says (Run w) run_machine (InModel w) (RunsAtScript w) (run_reads_models w) input e text is;
+  run_comes = λ w input o is. form_comes (Run w) run_machine (InModel w) (RunsAtScript w) (run_reads_models w) run_fixed input o is;
   show_says = λ input e text is. text_says Show show_machine (λ t. t) ShowsAtScript show_reads_models input e text is;
   show_comes = λ input o is. form_comes Show show_machine (λ t. t) ShowsAtScript show_reads_models show_fixed input o is;
 }
 
 pub sure_text_begins : SureTextBegins
 sure_text_begins = record {
-  run = λ a more x t o sure is. form_begins Run run_machine InModel RunsAtScript run_reads_models run_fixed a more x t o sure is;
+  run = λ w a more x t o sure is. form_begins (Run w) run_machine (InModel w) (RunsAtScript w) (run_reads_models w) run_fixed a more x t o sure is;
   show = λ a more x t o sure is. form_begins Show show_machine (λ t. t) ShowsAtScript show_reads_models show_fixed a more x t o sure is;
   silent = λ a x t sure. quiet_sure show_machine show_is_quiet nothing_read a x t sure;
 }
 
 pub outcomes_fit : OutcomesFit
-outcomes_fit Run input o n is fits = form_fits_by Run run_machine InModel RunsAtScript run_reads_models run_fixed input o n is fits
+outcomes_fit (Run w) input o n is fits = form_fits_by (Run w) run_machine (InModel w) (RunsAtScript w) (run_reads_models w) run_fixed input o n is fits
 outcomes_fit Show input o n is fits = form_fits_by Show show_machine (λ t. t) ShowsAtScript show_reads_models show_fixed input o n is fits

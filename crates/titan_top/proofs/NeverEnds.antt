@@ -1,5 +1,5 @@
 -- How a machine may end: each line that ends the program, and the end of the input, do so in a way of this kind.
-use Rattle.std.proofs.Common.{◌≡◌, ℕ, ◌+◌, inl, inr, List, [], ◌∷◌, length, Option, Some, None, Result, Ok, Err, refl, sym, subst, ◌∙◌}
+use Rattle.std.proofs.Common.{◌≡◌, ℕ, ◌+◌, List, [], ◌∷◌, length, Option, Some, None, Result, Ok, Err, refl, sym, subst, ◌∙◌}
 use Rattle.line_machine.specs.Lines.{lines_in, all_lines}
 use Rattle.line_machine.specs.Next.{Next, GoesOn, Stops}
 use Rattle.line_machine.specs.Runs.{length_code, TransitionByCode, Runs, TailByCode, TailTransition, IsSure, Closes, IsText}
@@ -8,12 +8,14 @@ use Rattle.line_machine.specs.declared.machine.End.TheVariants.{Ended, Rejected,
 use Rattle.line_machine.specs.declared.machine.Machine.{Ghosts}
 use Rattle.model_syntax.specs.Lines.{ModelSoFar, LineOutcome, Reads, Refuses, Finishes}
 use Rattle.cca_base.specs.PlantModel.{PlantModel}
-use Rattle.plain_laws.specs.Executive.{Standing}
+use Rattle.cca_base.specs.declared.events.Event.{Event}
+use Rattle.script_reader.specs.EventLines.{event_line}
+use Rattle.titan_top.specs.declared.notation.Notation.{Notation}
+use Rattle.titan_top.specs.declared.notation.Notation.TheVariants.{Words}
 use Rattle.titan_top.specs.Acceptance.{Acceptance, AcceptedAs, RefusedFor}
 use Rattle.titan_top.specs.ModelSteps.{StepsBy}
-use Rattle.titan_top.specs.RunMachine.{RunState, InModel, InScript, BeginsBy, ActsBy, RunSteps, RunCloses, run_machine}
+use Rattle.titan_top.specs.RunMachine.{ScriptState, RunState, InModel, InScript, BeginsBy, ActsBy, RunSteps, RunCloses, run_machine}
 use Rattle.titan_top.specs.ShowMachine.{ShowsBy, ShowSteps, show_machine}
-use Rattle.titan_top.specs.Standing.{line_acted}
 
 same_end : {S : Type 0} (e f : End) → ◌≡◌ {A = Next S} (Stops e) (Stops f) → e ≡ f
 same_end e f h = cc
@@ -65,23 +67,23 @@ module _ {S : Type 0} (m : Ghosts S) (P : End → Type 0) (refused : P Refused) 
 -- ---- the machines
 
 -- a run ends behind a line only where that is refused
-begins_refused : (v : Acceptance) (k : PlantModel) (n : ℕ) (e : End) (text : List ℕ) → BeginsBy v k n (Stops e) text → e ≡ Refused
-begins_refused (AcceptedAs b) k n e text (inl (plain, h)) = absurd (not_end e _ h.0)
-begins_refused (AcceptedAs b) k n e text (inr (other, h)) = same_end e Refused h.0
-begins_refused (RefusedFor r) k n e text h = same_end e Refused h.0
+begins_refused : (w : Notation) (v : Acceptance) (k : PlantModel) (n : ℕ) (e : End) (text : List ℕ) → BeginsBy w v k n (Stops e) text → e ≡ Refused
+begins_refused w (AcceptedAs b) k n e text h = absurd (not_end e _ h.0)
+begins_refused w (RefusedFor r) k n e text h = same_end e Refused h.0
 
-acts_refused : (r : Result (Standing × List ℕ) ℕ) (k : PlantModel) (n : ℕ) (e : End) (text : List ℕ) → ActsBy r k n (Stops e) text → e ≡ Refused
-acts_refused (Err code) k n e text h = same_end e Refused h.0
-acts_refused (Ok acted) k n e text h = absurd (not_end e _ h.0)
+acts_refused : (r : Result (Option Event) ℕ) (x : ScriptState) (n : ℕ) (e : End) (text : List ℕ) → ActsBy r x n (Stops e) text → e ≡ Refused
+acts_refused (Err code) x n e text h = same_end e Refused h.0
+acts_refused (Ok None) x n e text h = absurd (not_end e _ h.0)
+acts_refused (Ok (Some event)) x n e text (y, report, acts, at, words) = absurd (not_end e _ at)
 
-model_refused : (o : LineOutcome) (s : ModelSoFar) (n : ℕ) (e : End) (text : List ℕ) (at : Type 0) → (at → e ≡ Refused) → StepsBy InModel o s n at (Stops e) text → e ≡ Refused
-model_refused (Reads t) s n e text at script h = absurd (not_end e _ h.0)
-model_refused (Refuses code) s n e text at script h = same_end e Refused h.0
-model_refused Finishes s n e text at script h = script h
+model_refused : (w : Notation) (o : LineOutcome) (s : ModelSoFar) (n : ℕ) (e : End) (text : List ℕ) (at : Type 0) → (at → e ≡ Refused) → StepsBy w (InModel w) o s n at (Stops e) text → e ≡ Refused
+model_refused w (Reads t) s n e text at script h = absurd (not_end e _ h.0)
+model_refused w (Refuses code) s n e text at script h = same_end e Refused h.0
+model_refused w Finishes s n e text at script h = script h
 
 pub run_refused : (s : RunState) (n : ℕ) (l : List ℕ) (e : End) (text : List ℕ) → RunSteps s n l (Stops e) text → e ≡ Refused
-run_refused (InModel s) n l e text (o, leads, h) = model_refused o s n e text _ (λ (v, is, by). begins_refused v s.model n e text by) h
-run_refused (InScript x) n l e text h = acts_refused (line_acted x.model x.standing l) x.model n e text h
+run_refused (InModel w s) n l e text (o, leads, h) = model_refused w o s n e text _ (λ (v, is, by). begins_refused w v s.model n e text by) h
+run_refused (InScript x) n l e text h = acts_refused (event_line x.compiled.model x.state.pending x.state.mirrored l) x n e text h.1
 
 -- nothing is rejected
 abbrev pub IsNotRejected : End → Type 0
@@ -100,14 +102,14 @@ ended_not e h k = absurd (clash (sym h ∙ k))
     clash c = absurd cc
 
 run_closes_not : (s : RunState) (n : ℕ) (e : End) (text : List ℕ) → RunCloses s n e text → IsNotRejected e
-run_closes_not (InModel s) n e text h = refused_not e h.0
+run_closes_not (InModel w s) n e text h = refused_not e h.0
 run_closes_not (InScript x) n e text h = ended_not e h.0
 
 shows_not : (v : Acceptance) (k : PlantModel) (n : ℕ) (e : End) (text : List ℕ) → ShowsBy v k n (Stops e) text → IsNotRejected e
 shows_not (AcceptedAs b) k n e text h = ended_not e (same_end e Ended h.0)
 shows_not (RefusedFor r) k n e text h = refused_not e (same_end e Refused h.0)
 
-show_by_not : (o : LineOutcome) (s : ModelSoFar) (n : ℕ) (e : End) (text : List ℕ) (at : Type 0) → (at → IsNotRejected e) → StepsBy (λ t. t) o s n at (Stops e) text → IsNotRejected e
+show_by_not : (o : LineOutcome) (s : ModelSoFar) (n : ℕ) (e : End) (text : List ℕ) (at : Type 0) → (at → IsNotRejected e) → StepsBy Words (λ t. t) o s n at (Stops e) text → IsNotRejected e
 show_by_not (Reads t) s n e text at script h = absurd (not_end e t h.0)
 show_by_not (Refuses code) s n e text at script h = refused_not e (same_end e Refused h.0)
 show_by_not Finishes s n e text at script h = script h

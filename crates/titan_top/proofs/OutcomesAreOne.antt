@@ -9,6 +9,7 @@ use Rattle.titan_top.specs.Output.{Outcome, IsOutcomeFor, IsOutcomeOf, IsOutcome
 use Rattle.titan_top.specs.RunMachine.{InModel, RunsAtScript, run_machine, run_first}
 use Rattle.titan_top.specs.ShowMachine.{ShowsAtScript, show_machine}
 use Rattle.titan_top.specs.Words.{form_of, texts}
+use Rattle.titan_top.specs.declared.notation.Notation.TheVariants.{Words}
 use Rattle.titan_top.specs.declared.words.Form.{Form}
 use Rattle.titan_top.specs.declared.words.Form.TheVariants.{Run, Show}
 use Rattle.titan_top.proofs.DocumentsAreTexts.{said_text, same_outcome}
@@ -19,13 +20,13 @@ pub run_fixed : IsFixed run_machine
 run_fixed = record { steps = run_steps_are_one; closes = run_closes_are_one }
 
 pub show_fixed : IsFixed show_machine
-show_fixed = record { steps = show_steps_are_one; closes = model_closes_are_one }
+show_fixed = record { steps = show_steps_are_one; closes = model_closes_are_one Words }
 
 pub form_once : (form : Form) (input : List ℕ) (a b : Outcome) → IsOutcomeFor form input a → IsOutcomeFor form input b → a ≡ b
-form_once Run input a b h k =
-    let x = said_text Run run_machine InModel RunsAtScript run_reads_models input a h in
-    let y = said_text Run run_machine InModel RunsAtScript run_reads_models input b k in
-    let p = text_is_one run_machine run_first run_fixed input x.text y.text x.end y.end x.of y.of in
+form_once (Run w) input a b h k =
+    let x = said_text (Run w) run_machine (InModel w) (RunsAtScript w) (run_reads_models w) input a h in
+    let y = said_text (Run w) run_machine (InModel w) (RunsAtScript w) (run_reads_models w) input b k in
+    let p = text_is_one run_machine (run_first w) run_fixed input x.text y.text x.end y.end x.of y.of in
     x.is ∙ same_outcome p.0 p.1 ∙ sym y.is
 form_once Show input a b h k =
     let x = said_text Show show_machine (λ t. t) ShowsAtScript show_reads_models input a h in

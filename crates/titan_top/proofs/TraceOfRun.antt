@@ -1,103 +1,99 @@
--- What is printed of a run is the trace of its events.
-use Rattle.std.proofs.Common.{◌≡◌, ℕ, ◌+◌, All, ◌⊎◌, inl, inr, List, [], ◌∷◌, Option, Some, None, refl, sym, subst, arith}
+-- What is printed of a run is the fixed trace of its events, which keeps the promises.
+use Rattle.std.proofs.Common.{◌≡◌, ℕ, ◌+◌, inl, inr, List, [], ◌∷◌, Option, Some, None, Result, Ok, Err, refl, sym, subst, ◌∙◌}
 use Rattle.std.specs.Global.{Global}
 use Rattle.std.specs.Prelude.{IfSome, String}
+use Rattle.cca_base.specs.declared.cube.Pair.{Pair}
+use Rattle.cca_base.specs.declared.events.Event.{Event}
 use Rattle.cca_base.specs.declared.events.Refusal.{Refusal}
+use Rattle.cca_base.specs.declared.events.TickReport.{TickReport}
+use Rattle.cca_base.specs.Accepted.{CompiledModel, IsCompiled}
+use Rattle.cca_base.specs.Orders.{IsSorted}
+use Rattle.cca_base.specs.Plans.{Promising}
 use Rattle.cca_base.specs.PlantModel.{PlantModel}
-use Rattle.cca_base.specs.Model.{empty_model}
-use Rattle.cca_base.specs.Trace.{start}
-use Rattle.cca_base.proofs.EmptyModel.{empty_well_formed}
-use Rattle.model_syntax.specs.Kept.{IsGood}
-use Rattle.model_syntax.specs.Lines.{ModelSoFar, LineOutcome, Reads, Refuses, Finishes, LineLeads}
-use Rattle.model_syntax.proofs.Kept.{lines_keep_models_good}
-use Rattle.plain_laws.specs.Plain.{IsPlain, plainly_compiled}
-use Rattle.plain_laws.specs.PlainTrace.{IsPlainEvent}
-use Rattle.plain_laws.specs.Executive.{begin, reports_from}
-use Rattle.plain_laws.proofs.PlainCompiled.{plain_is_compiled}
-use Rattle.plain_laws.proofs.PlainTrace.{reports_are_trace, events_may_come}
-use Rattle.cca_base.specs.declared.codes.TheConstants.{UNSUPPORTED}
+use Rattle.cca_base.specs.Runs.{Trace}
+use Rattle.cca_base.specs.Trace.{ExecutiveState, start, AllMayCome}
+use Rattle.script_reader.specs.EventLines.{event_line}
+use Rattle.script_reader.proofs.EventsMayCome.{event_comes}
+use Rattle.trace_laws.specs.Events.{Makes, mirrored_after}
+use Rattle.trace_laws.proofs.EventsJoin.{trace_is_made, event_first}
+use Rattle.trace_laws.proofs.PendingKnown.{one_pending, known_after}
+use Rattle.trace_laws.proofs.PromisesKept.{promising_traces_keep}
+use Rattle.trace_laws.proofs.WeakerReplies.{chosen_is_good}
 use Rattle.titan_top.specs.declared.words.Form.{Form}
 use Rattle.titan_top.specs.declared.words.Form.TheVariants.{Run}
-use Rattle.titan_top.specs.Headline.{IsTraceOf, IsTraceOfScript, IsRefusedBefore}
-use Rattle.line_machine.specs.Lines.{lines_in, all_lines}
-use Rattle.titan_top.specs.Limits.{line_code}
-use Rattle.titan_top.specs.Document.{Document, ModelText, Scripted, Stopped, LeadsByCode, LeadsAt, After, ReadsModel, EndsModel, SaysByAcceptance, SaysByEnd, nothing_read, refused_at, script_lines}
-use Rattle.titan_top.specs.Output.{Outcome, printed_from, printed, IsOutcomeFor, IsOutcomeOf, IsOutcome}
-use Rattle.titan_top.specs.Acceptance.{Acceptance, AcceptedAs, RefusedFor}
-use Rattle.cca_base.specs.Refusals.{bare}
+use Rattle.titan_top.specs.declared.notation.Notation.{Notation}
+use Rattle.titan_top.specs.Headline.{IsTraceOf, IsFixedTrace, IsRefusedBefore}
+use Rattle.titan_top.specs.Limits.{line_code, unless_long}
+use Rattle.titan_top.specs.Document.{Document, ModelText, Scripted, Stopped, EndsModel, SaysBy, SaysScript, refused_at}
+use Rattle.titan_top.specs.Output.{Outcome, refusal, printed, PrintsBy, IsRun, IsRefusedEnd, IsOutcomeFor, IsOutcomeOf, IsOutcome}
+use Rattle.titan_top.specs.Acceptance.{Acceptance, AcceptedAs, RefusedFor, IsAcceptanceOf}
 use Rattle.titan_top.specs.Words.{form_of, texts}
 use Rattle.titan_top.proofs.PrintedDocuments.{printed_refused}
-use Rattle.titan_top.proofs.PlainEvents.{script_model, script_events}
+use Rattle.titan_top.proofs.ScriptRuns.{script_model}
 
--- a model that came to its script is good
-abbrev IsGoodEnd : ModelText → Type 0
-IsGoodEnd (Scripted m n ls) = IsGood m
-IsGoodEnd (Stopped m line r) = Unit {0}
+-- ---- scripts
 
--- a line that is read is not too long
-read_leads : (o : Option ℕ) (s t : ModelSoFar) (l : List ℕ) → LeadsByCode o s l (Reads t) → LineLeads s l (Reads t)
-read_leads (Some code) s t l e = absurd cc
-read_leads None s t l h = h
+-- the events of a script may come
+module _ (b : CompiledModel) where
+  abbrev Says : ExecutiveState → ℕ → List (List ℕ) → Document → Type 0
+  Says x n ls r = SaysScript b.model x.pending x.mirrored n ls r
 
-line_good : (s t : ModelSoFar) (n : ℕ) (l : List ℕ) → IsGood s.model → LeadsAt s n l (Reads t) → IsGood t.model
-line_good s t n l good h = lines_keep_models_good s t l good (read_leads (line_code n l) s t l h)
+  line_comes : (o : Option ℕ) (x : ExecutiveState) (n : ℕ) (l : List ℕ) (ls : List (List ℕ)) (v : Result (Option Event) ℕ) (r : Document) (last : ExecutiveState) (reports : List TickReport) → v ≡ event_line b.model x.pending x.mirrored l
+      → SaysBy (unless_long o v) b.model x.pending x.mirrored n (λ after mirrors d. SaysScript b.model after mirrors n ls d) r → Makes b (Promising b) x r.events last reports
+      → ((y : ExecutiveState) (d : Document) (others : List TickReport) → Says y n ls d → Makes b (Promising b) y d.events last others → AllMayCome b.model (IsSorted b.order) y d.events) → AllMayCome b.model (IsSorted b.order) x r.events
+  line_comes (Some code) x n l ls v r last reports g is made on = subst (λ (d : Document). AllMayCome b.model (IsSorted b.order) x d.events) (sym is) tt
+  line_comes None x n l ls (Err code) r last reports g is made on = subst (λ (d : Document). AllMayCome b.model (IsSorted b.order) x d.events) (sym is) tt
+  line_comes None x n l ls (Ok None) r last reports g says made on = on x r reports says made
+  line_comes None x n l ls (Ok (Some e)) r last reports g (after, rest, known, later, is) made on =
+      let (y, report, others, acts, more, split) = subst (λ (d : Document). Makes b (Promising b) x d.events last reports) is made in
+      let truly = known_after b (Promising b) x y e report acts in
+      let pending : after ≡ y.pending = one_pending x.pending e y.pending after truly.0 known in
+      let says : Says y n ls rest = subst (λ (k : ℕ). SaysScript b.model y.pending k n ls rest) (sym truly.1) (subst (λ (p : List Pair). SaysScript b.model p (mirrored_after x.mirrored e) n ls rest) pending later) in
+      let may = event_comes b.model x.pending x.mirrored l (Some e) (sym g) in
+      subst (λ (d : Document). AllMayCome b.model (IsSorted b.order) x d.events) (sym is) (event_first b (Promising b) x e y report rest.events may acts (on y rest others says more))
 
-step_good : (o : LineOutcome) (s : ModelSoFar) (n : ℕ) (l : List ℕ) (ls : List (List ℕ)) (end : ModelText) → IsGood s.model → LeadsAt s (n + 1) l o → ((t : ModelSoFar) → IsGood t.model → ReadsModel t (n + 1) ls end → IsGoodEnd end)
-    → After o (λ t. ReadsModel t (n + 1) ls end) (end ≡ Scripted s.model (n + 1) ls) (λ code. end ≡ Stopped s.model (n + 1) (bare code)) → IsGoodEnd end
-step_good (Reads t) s n l ls end good leads on h = on t (line_good s t (n + 1) l good leads) h
-step_good (Refuses code) s n l ls end good leads on h = subst IsGoodEnd (sym h) tt
-step_good Finishes s n l ls end good leads on h = subst IsGoodEnd (sym h) good
+  script_comes : (ls : List (List ℕ)) (x : ExecutiveState) (n : ℕ) (r : Document) (last : ExecutiveState) (reports : List TickReport) → Says x n ls r → Makes b (Promising b) x r.events last reports → AllMayCome b.model (IsSorted b.order) x r.events
+  script_comes [] x n r last reports is made = subst (λ (d : Document). AllMayCome b.model (IsSorted b.order) x d.events) (sym is) tt
+  script_comes (l ∷ ls) x n r last reports says made =
+      line_comes (line_code (n + 1) l) x (n + 1) l ls (event_line b.model x.pending x.mirrored l) r last reports refl says made (λ y d others h k. script_comes ls y (n + 1) d last others h k)
 
-lines_good : (s : ModelSoFar) (n : ℕ) (ls : List (List ℕ)) (end : ModelText) → IsGood s.model → ReadsModel s n ls end → IsGoodEnd end
-lines_good s n [] end good h = subst IsGoodEnd (sym h) tt
-lines_good s n (l ∷ ls) end good (o, leads, h) = step_good o s n l ls end good leads (λ t k. lines_good t (n + 1) ls end k) h
-
-nothing_good : IsGood empty_model
-nothing_good = record { well_formed = empty_well_formed; complete = λ command h. absurd (omega arith) }
-
-model_good : (input : List ℕ) (end : ModelText) → EndsModel input end → IsGoodEnd end
-model_good input end h = lines_good nothing_read 0 (all_lines (lines_in input)) end nothing_good h
-
--- what is printed of a script is its trace
-script_traced : (m : PlantModel) (n : ℕ) (ls : List (List ℕ)) → IsGood m → IsPlain m → IsTraceOfScript (script_lines m n ls) (printed (script_lines m n ls))
-unfolding printed printed_from
-script_traced m n ls good plain =
-    let r : Document = script_lines m n ls in
-    let same : m ≡ r.model = sym (script_model m n ls) in
-    let well : IsGood r.model = subst IsGood same good in
-    let ordinary : IsPlain r.model = subst IsPlain same plain in
-    let events : All (IsPlainEvent r.model) r.events = subst (λ (x : PlantModel). All (IsPlainEvent x) r.events) same (script_events m n ls plain) in
+-- what is printed of a script is its fixed trace
+script_traced : (notation : Notation) (b : CompiledModel) (n : ℕ) (ls : List (List ℕ)) (r : Document) (reports : List TickReport) (o : Outcome) → IsCompiled b → SaysScript b.model [] 0 n ls r → Trace b (Promising b) r.events reports → o ≡ printed notation r reports
+    → IsFixedTrace notation r o
+script_traced notation b n ls r reports o compiled says trace e =
+    let made = trace_is_made b (Promising b) r.events reports trace in
+    let promises = promising_traces_keep b r.events reports compiled trace in
     record {
-      compiled = plainly_compiled r.model;
-      accepted = plain_is_compiled r.model well.well_formed ordinary well.complete;
-      of_model = refl;
-      come = events_may_come r.model (start r.model 0) r.events events;
-      reports = reports_from r.model (begin r.model) r.events;
-      trace = reports_are_trace r.model r.events well.well_formed ordinary events;
-      lines = refl;
+      compiled = b;
+      of_model = sym (script_model ls b.model [] 0 n r says);
+      come = script_comes b ls (start b.model 0) n r made.0 reports says made.1;
+      reports = reports;
+      good = chosen_is_good b r.events reports promises.trace;
+      promises = promises;
+      lines = e;
     }
 
-refused_before : (m : PlantModel) (line : ℕ) (r : Refusal) → IsRefusedBefore (refused_at m line r) (printed (refused_at m line r))
-refused_before m line r = record { line = line; refusal = r; reading = refl; outcome = printed_refused m line r }
+-- what is refused at a line of the model, or at its script, is refused before the first event
+refused_before : (notation : Notation) (input : List ℕ) (end : ModelText) (m : PlantModel) (line : ℕ) (r : Refusal) (o : Outcome) → EndsModel input end → IsRefusedEnd end line r → o ≡ refusal notation m line r
+    → IsRefusedBefore notation input (refused_at m line r) o
+refused_before notation input end m line r o ends refused e =
+    record { line = line; refusal = r; end = end; ends = ends; refused = refused; reading = refl; outcome = e ∙ sym (printed_refused notation m line r) }
 
--- what is refused at a line is refused before the first event
-refused_is : (m : PlantModel) (line : ℕ) (rf : Refusal) (r : Document) → r ≡ refused_at m line rf → IsRefusedBefore r (printed r)
-refused_is m line rf r e = subst (λ (x : Document). IsRefusedBefore x (printed x)) (sym e) (refused_before m line rf)
+prints_traced : (notation : Notation) (input : List ℕ) (v : Acceptance) (m : PlantModel) (n : ℕ) (ls : List (List ℕ)) (o : Outcome) → EndsModel input (Scripted m n ls) → IsAcceptanceOf m v → PrintsBy notation v m n ls o → IsTraceOf notation input o
+prints_traced notation input (AcceptedAs b) m n ls o ends is (r, reports, says, trace, e) =
+    let own : SaysScript b.model [] 0 n ls r = subst (λ (k : PlantModel). SaysScript k [] 0 n ls r) (sym is.1) says in
+    (r, (Scripted m n ls, ends, (AcceptedAs b, is, says)), inr (script_traced notation b n ls r reports o is.0 own trace e))
+prints_traced notation input (RefusedFor rf) m n ls o ends is e = (refused_at m n rf, (Scripted m n ls, ends, (RefusedFor rf, is, refl)), inl (refused_before notation input (Scripted m n ls) m n rf o ends (refl, is) e))
 
-verdict_traced : (v : Acceptance) (m : PlantModel) (n : ℕ) (ls : List (List ℕ)) (r : Document) → IsGood m → SaysByAcceptance v m n ls r → IsRefusedBefore r (printed r) ⊎ IsTraceOfScript r (printed r)
-verdict_traced (RefusedFor rf) m n ls r good e = inl (refused_is m n rf r e)
-verdict_traced (AcceptedAs b) m n ls r good (inl (plain, e)) = inr (subst (λ (x : Document). IsTraceOfScript x (printed x)) (sym e) (script_traced m n ls good plain))
-verdict_traced (AcceptedAs b) m n ls r good (inr (other, e)) = inl (refused_is m n (bare UNSUPPORTED) r e)
+run_traced : (notation : Notation) (input : List ℕ) (end : ModelText) (o : Outcome) → EndsModel input end → IsRun notation end o → IsTraceOf notation input o
+run_traced notation input (Scripted m n ls) o ends (v, is, h) = prints_traced notation input v m n ls o ends is h
+run_traced notation input (Stopped m line r) o ends e = (refused_at m line r, (Stopped m line r, ends, refl), inl (refused_before notation input (Stopped m line r) m line r o ends (refl, refl) e))
 
-says_traced : (end : ModelText) (r : Document) → IsGoodEnd end → SaysByEnd end r → IsRefusedBefore r (printed r) ⊎ IsTraceOfScript r (printed r)
-says_traced (Stopped m line rf) r good e = inl (refused_is m line rf r e)
-says_traced (Scripted m n ls) r good (v, is, h) = verdict_traced v m n ls r good h
+-- what a run prints is traced
+pub traced : (notation : Notation) (input : List ℕ) (o : Outcome) → IsOutcomeFor (Run notation) input o → IsTraceOf notation input o
+traced notation input o (end, ends, is) = run_traced notation input end o ends is
 
-traced : (input : List ℕ) (o : Outcome) → IsOutcomeFor Run input o → IsTraceOf input o
-traced input o (end, ends, (r, says, e)) =
-    (r, (end, ends, says), subst (λ (x : Outcome). IsRefusedBefore r x ⊎ IsTraceOfScript r x) (sym e) (says_traced end r (model_good input end ends) says))
-
-pub run_is_traced : (words : List (String Global)) (left : Option (List ℕ)) → form_of (texts words) ≡ Some Run → IfSome left (λ input. (o : Outcome) → IsOutcome words input o → IsTraceOf input o)
+pub run_is_traced : (notation : Notation) (words : List (String Global)) (left : Option (List ℕ)) → form_of (texts words) ≡ Some (Run notation) → IfSome left (λ input. (o : Outcome) → IsOutcome words input o → IsTraceOf notation input o)
 unfolding IsOutcome
-run_is_traced words None e = tt
-run_is_traced words (Some input) e = λ o is. traced input o (subst (λ (f : Option Form). IsOutcomeOf f input o) e is)
+run_is_traced notation words None e = tt
+run_is_traced notation words (Some input) e = λ o is. traced notation input o (subst (λ (f : Option Form). IsOutcomeOf f input o) e is)

@@ -1,9 +1,15 @@
 -- What becomes of a model at its script.
-use Rattle.std.specs.Prelude.{◌≡◌}
+use Rattle.std.specs.Prelude.{◌≡◌, ℕ, List, Option, Some}
 use Rattle.cca_base.specs.declared.events.Refusal.{Refusal}
 use Rattle.cca_base.specs.Accepted.{CompiledModel, IsCompiled}
 use Rattle.cca_base.specs.PlantModel.{PlantModel}
 use Rattle.acceptance.specs.Refusals.{Refuses}
+use Rattle.acceptance.specs.declared.accepting.NotAccepted.{NotAccepted}
+use Rattle.acceptance.specs.declared.accepting.NotAccepted.TheVariants as stops
+use Rattle.line_machine.specs.declared.machine.End.{End}
+use Rattle.line_machine.specs.declared.machine.End.TheVariants.{Refused}
+use Rattle.titan_top.specs.Notations.{refusal_in}
+use Rattle.titan_top.specs.declared.notation.Notation.{Notation}
 
 -- a model is compiled, or it is refused
 pub data Acceptance : Type 0 where
@@ -18,3 +24,8 @@ IsCompiledFrom m b = IsCompiled b × (b.model ≡ m)
 abbrev pub IsAcceptanceOf : PlantModel → Acceptance → Type 0
 IsAcceptanceOf m (AcceptedAs b) = IsCompiledFrom m b
 IsAcceptanceOf m (RefusedFor refusal) = Refuses m refusal
+
+-- what is said of a model that is not accepted: the line of its refusal, and the program ends
+abbrev pub SaysNotAccepted : Notation → ℕ → NotAccepted → Option End → List ℕ → Type 0
+SaysNotAccepted notation n (stops.Refused refusal m) end text = (end ≡ Some Refused) × (text ≡ refusal_in notation m n refusal)
+SaysNotAccepted notation n stops.Memory end text = ⊥

@@ -1,14 +1,15 @@
 -- What the bytes of an input say: a model, the events of a script, and how the input ends.
-use Rattle.std.specs.Prelude.{◌≡◌, ◌⊎◌, ℕ, ◌+◌, false, List, [], ◌∷◌, Option, Some, None, Result, Ok, Err}
+use Rattle.std.specs.Prelude.{◌≡◌, ℕ, ◌+◌, false, List, [], ◌∷◌, Option, Some, None, Result, Ok, Err}
 use Rattle.line_machine.specs.Lines.{lines_in, all_lines}
+use Rattle.cca_base.specs.declared.cube.Pair.{Pair}
 use Rattle.cca_base.specs.declared.events.Event.{Event}
 use Rattle.cca_base.specs.declared.events.Refusal.{Refusal}
 use Rattle.cca_base.specs.PlantModel.{PlantModel}
 use Rattle.cca_base.specs.Model.{empty_model}
 use Rattle.model_syntax.specs.Lines.{ModelSoFar, LineOutcome, Reads, Refuses, Finishes, LineLeads}
-use Rattle.plain_laws.specs.Plain.{IsPlain}
-use Rattle.cca_base.specs.declared.codes.TheConstants.{ENDS_EARLY, UNSUPPORTED}
-use Rattle.titan_top.specs.EventLines.{event_line}
+use Rattle.cca_base.specs.declared.codes.TheConstants.{ENDS_EARLY}
+use Rattle.script_reader.specs.EventLines.{event_line}
+use Rattle.trace_laws.specs.Events.{PendingAfter, mirrored_after}
 use Rattle.titan_top.specs.Limits.{line_code, unless_long}
 use Rattle.titan_top.specs.Acceptance.{Acceptance, AcceptedAs, RefusedFor, IsAcceptanceOf}
 use Rattle.cca_base.specs.Refusals.{bare}
@@ -34,20 +35,22 @@ refused_at m line refusal = record { model = m; events = []; ending = RefusedAt 
 abbrev pub with_event : Event → Document → Document
 with_event e r = record r { events = e ∷ r.events }
 
--- what a line of the script and the later ones say
-abbrev pub after_event_line : Result (Option Event) ℕ → PlantModel → ℕ → Document → Document
-after_event_line (Err code) m line rest = refused_at m line (bare code)
-after_event_line (Ok None) m line rest = rest
-after_event_line (Ok (Some e)) m line rest = with_event e rest
+-- what a line of this number says, with these pending observations and these mirrored variables
+abbrev pub line_says : PlantModel → List Pair → ℕ → ℕ → List ℕ → Result (Option Event) ℕ
+line_says m pending mirrored n l = unless_long (line_code n l) (event_line m pending mirrored l)
 
--- what a line of this number says
-abbrev pub line_says : PlantModel → ℕ → List ℕ → Result (Option Event) ℕ
-line_says m n l = unless_long (line_code n l) (event_line m l)
+-- a line of the script and the later ones: a refusal ends them, and an event stands before what the later ones say by what is pending and mirrored after it
+abbrev pub SaysBy : Result (Option Event) ℕ → PlantModel → List Pair → ℕ → ℕ → (List Pair → ℕ → Document → Type 0) → Document → Type 0
+SaysBy (Err code) m pending mirrored n Later r = r ≡ refused_at m n (bare code)
+SaysBy (Ok None) m pending mirrored n Later r = Later pending mirrored r
+SaysBy (Ok (Some e)) m pending mirrored n Later r =
+    (after : List Pair) × (rest : Document) × PendingAfter pending e after × Later after (mirrored_after mirrored e) rest × (r ≡ with_event e rest)
 
--- what the lines of a script say that stand behind n lines
-unfoldable pub script_lines : PlantModel → ℕ → List (List ℕ) → Document
-script_lines m n [] = record { model = m; events = []; ending = Complete }
-script_lines m n (l ∷ ls) = after_event_line (line_says m (n + 1) l) m (n + 1) (script_lines m (n + 1) ls)
+-- what the lines of a script say that stand behind n lines, with these pending observations and these mirrored variables
+abbrev pub SaysScript : PlantModel → List Pair → ℕ → ℕ → List (List ℕ) → Document → Type 0
+SaysScript m pending mirrored n [] r = r ≡ record { model = m; events = []; ending = Complete }
+SaysScript m pending mirrored n (l ∷ ls) r =
+    SaysBy (line_says m pending mirrored (n + 1) l) m pending mirrored (n + 1) (λ after mirrors rest. SaysScript m after mirrors (n + 1) ls rest) r
 
 -- ---- the model
 
@@ -85,9 +88,9 @@ nothing_read = record { model = empty_model; begun = false }
 abbrev pub EndsModel : List ℕ → ModelText → Type 0
 EndsModel input end = ReadsModel nothing_read 0 (all_lines (lines_in input)) end
 
--- what the script behind n lines says; that of a model which is not plain is not made yet
+-- what the script behind n lines says, where the model is accepted; at first nothing is pending or mirrored
 abbrev pub SaysByAcceptance : Acceptance → PlantModel → ℕ → List (List ℕ) → Document → Type 0
-SaysByAcceptance (AcceptedAs b) m n ls r = (IsPlain m × (r ≡ script_lines m n ls)) ⊎ ((IsPlain m → ⊥) × (r ≡ refused_at m n (bare UNSUPPORTED)))
+SaysByAcceptance (AcceptedAs b) m n ls r = SaysScript m [] 0 n ls r
 SaysByAcceptance (RefusedFor refusal) m n ls r = r ≡ refused_at m n refusal
 
 -- what a whole input says, by how its model ends

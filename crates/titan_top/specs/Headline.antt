@@ -1,33 +1,37 @@
--- What the lines that are printed mean.
-use Rattle.std.specs.Prelude.{◌≡◌, ◌⊎◌, ℕ, List}
-use Rattle.cca_base.specs.declared.events.TickReport.{TickReport}
-use Rattle.cca_base.specs.Accepted.{CompiledModel, IsCompiled}
-use Rattle.cca_base.specs.Choice.{IsChosenReply}
-use Rattle.cca_base.specs.Orders.{IsSorted}
-use Rattle.cca_base.specs.Runs.{Trace}
-use Rattle.cca_base.specs.Trace.{AllMayCome, start}
-use Rattle.trace_text.specs.Reports.{reports_text}
+-- What is printed of a run, in the words of the plant: the theorem of the program.
+use Rattle.std.specs.Prelude.{◌≡◌, ◌⊎◌, ℕ, List, []}
 use Rattle.cca_base.specs.declared.events.Refusal.{Refusal}
-use Rattle.titan_top.specs.Document.{Document, IsDocument, refused_at}
-use Rattle.titan_top.specs.Output.{Outcome, ending, with_text, refusal as refusal_outcome}
+use Rattle.cca_base.specs.declared.events.TickReport.{TickReport}
+use Rattle.cca_base.specs.Accepted.{CompiledModel}
+use Rattle.cca_base.specs.Choice.{IsChosenReply}
+use Rattle.cca_base.specs.Goals.{IsGoodReply}
+use Rattle.cca_base.specs.Orders.{IsSorted}
+use Rattle.cca_base.specs.Runs.{Trace, KeepsPromises}
+use Rattle.cca_base.specs.Trace.{AllMayCome, start}
+use Rattle.titan_top.specs.Document.{Document, ModelText, EndsModel, IsDocument, refused_at}
+use Rattle.titan_top.specs.Output.{Outcome, IsRefusedEnd, printed}
+use Rattle.titan_top.specs.declared.notation.Notation.{Notation}
 
--- the model of what is read is accepted and its events may come, some reports are the trace of its events in which each reply is good and each command the one that is picked, and the outcome is their lines and the end of what is read
-pub record IsTraceOfScript (r : Document) (o : Outcome) : Type 0 where
+-- the input's model is compiled and its events may come one after the other; the printed reports are the trace of these events, in which each estimate is a least-cost consistent successor and each reply is good; it is the fixed one; where estimates are right they stay right, and goals are served within their stated numbers
+pub record IsFixedTrace (notation : Notation) (r : Document) (o : Outcome) : Type 0 where
   pub compiled : CompiledModel
-  pub accepted : IsCompiled compiled
   pub of_model : compiled.model ≡ r.model
-  pub come : AllMayCome r.model (IsSorted compiled.order) (start r.model 0) r.events
+  pub come : AllMayCome compiled.model (IsSorted compiled.order) (start compiled.model 0) r.events
   pub reports : List TickReport
-  pub trace : Trace compiled (IsChosenReply compiled) r.events reports
-  pub lines : o ≡ with_text (reports_text r.model reports) (ending r.model r.ending)
+  pub good : Trace compiled (IsGoodReply compiled.model) r.events reports
+  pub promises : KeepsPromises compiled (IsChosenReply compiled) r.events reports
+  pub lines : o ≡ printed notation r reports
 
--- the input is refused before it has an event, and the outcome is the line of the refusal
-pub record IsRefusedBefore (r : Document) (o : Outcome) : Type 0 where
+-- a line of the model is refused, or the model at its script; nothing more is read, and the outcome is the line of the refusal
+pub record IsRefusedBefore (notation : Notation) (input : List ℕ) (r : Document) (o : Outcome) : Type 0 where
   pub line : ℕ
   pub refusal : Refusal
+  pub end : ModelText
+  pub ends : EndsModel input end
+  pub refused : IsRefusedEnd end line refusal
   pub reading : r ≡ refused_at r.model line refusal
-  pub outcome : o ≡ refusal_outcome r.model line refusal
+  pub outcome : o ≡ printed notation r []
 
--- what the input says is refused before its first event, or the outcome is its trace
-abbrev pub IsTraceOf : List ℕ → Outcome → Type 0
-IsTraceOf input o = (r : Document) × IsDocument input r × (IsRefusedBefore r o ⊎ IsTraceOfScript r o)
+-- the input's model is refused, or the outcome is its fixed trace
+abbrev pub IsTraceOf : Notation → List ℕ → Outcome → Type 0
+IsTraceOf notation input o = (r : Document) × IsDocument input r × (IsRefusedBefore notation input r o ⊎ IsFixedTrace notation r o)

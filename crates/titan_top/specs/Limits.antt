@@ -1,7 +1,7 @@
 -- The code that a line has by its number and its length alone.
 use Rattle.std.specs.Prelude.{ℕ, List, length, Option, Some, None, Result, Err}
 use Rattle.line_machine.specs.Runs.{length_code}
-use Rattle.titan_top.specs.declared.line.TheConstants.{MAX_LINE}
+use Rattle.titan_top.specs.declared.limits.TheConstants.{MAX_LINE}
 
 -- the code of a line of this number that is too long, or one too many
 abbrev pub line_code : ℕ → List ℕ → Option ℕ

@@ -1,5 +1,12 @@
 -- A state and a line lead to one state and one text, and so does the end of the input. The proofs stand here since a machine names them.
-use Rattle.std.proofs.Common.{◌≡◌, ℕ, inl, inr, List, Result, Ok, Err, sym, ap, subst, ◌∙◌}
+use Rattle.std.specs.Prelude.{option_to_list}
+use Rattle.std.proofs.Common.{◌≡◌, ℕ, List, Option, Some, None, Result, Ok, Err, sym, ap, subst, ◌∙◌}
+use Rattle.cca_base.specs.declared.events.Event.{Event}
+use Rattle.cca_base.specs.declared.events.TickReport.{TickReport}
+use Rattle.cca_base.specs.Trace.{ExecutiveState}
+use Rattle.script_reader.specs.EventLines.{event_line}
+use Rattle.trace_laws.proofs.OneNext.{acts_are_one}
+use Rattle.titan_top.specs.Notations.{reports_in}
 use Rattle.cca_base.specs.declared.events.Refusal.{Refusal}
 use Rattle.cca_base.specs.Accepted.{Accepted, CompiledModel, IsCompiled}
 use Rattle.cca_base.specs.PlantModel.{PlantModel}
@@ -7,16 +14,16 @@ use Rattle.cca_laws.proofs.OneCompiled.{one_compiled}
 use Rattle.acceptance.specs.Refusals.{Refuses}
 use Rattle.acceptance.proofs.OneRefusal.{there_is_one_refusal}
 use Rattle.acceptance.proofs.RefusalSteps.{not_refused}
-use Rattle.line_machine.specs.Next.{Next}
+use Rattle.line_machine.specs.Next.{Next, GoesOn}
 use Rattle.line_machine.specs.declared.machine.End.{End}
 use Rattle.model_syntax.specs.Lines.{ModelSoFar, LineOutcome, Reads, Refuses as RefusesWith, Finishes}
 use Rattle.model_syntax.proofs.OneWay.{lead_one_way}
-use Rattle.plain_laws.specs.Executive.{Standing}
 use Rattle.titan_top.specs.Acceptance.{Acceptance, AcceptedAs, RefusedFor, IsCompiledFrom, IsAcceptanceOf}
 use Rattle.titan_top.specs.ModelSteps.{StepsBy, ModelSteps, ModelCloses}
-use Rattle.titan_top.specs.RunMachine.{RunState, InModel, InScript, BeginsBy, RunsAtScript, ActsBy, RunSteps, RunCloses}
+use Rattle.titan_top.specs.declared.notation.Notation.{Notation}
+use Rattle.titan_top.specs.declared.notation.Notation.TheVariants.{Words}
+use Rattle.titan_top.specs.RunMachine.{ScriptState, RunState, InModel, InScript, BeginsBy, RunsAtScript, ActsBy, RunSteps, RunCloses}
 use Rattle.titan_top.specs.ShowMachine.{ShowsBy, ShowsAtScript, ShowSteps}
-use Rattle.titan_top.specs.Standing.{line_acted}
 
 -- ---- one thing becomes of a model
 
@@ -47,20 +54,20 @@ acceptance_is_one m (RefusedFor r) (RefusedFor q) h k = ap (λ (x : Refusal). Re
 abbrev AreOne : {A B : Type 0} → A → A → B → B → Type 0
 AreOne u v a c = (u ≡ v) × (a ≡ c)
 
-module _ {S : Type 0} (stage : ModelSoFar → S) (at_script : PlantModel → ℕ → Next S → List ℕ → Type 0) where
+module _ {S : Type 0} (notation : Notation) (stage : ModelSoFar → S) (at_script : PlantModel → ℕ → Next S → List ℕ → Type 0) where
   outcome_one : (o : LineOutcome) (s : ModelSoFar) (n : ℕ) (u v : Next S) (a c : List ℕ) → (at_script s.model n u a → at_script s.model n v c → AreOne u v a c) →
-      StepsBy stage o s n (at_script s.model n u a) u a → StepsBy stage o s n (at_script s.model n v c) v c → AreOne u v a c
+      StepsBy notation stage o s n (at_script s.model n u a) u a → StepsBy notation stage o s n (at_script s.model n v c) v c → AreOne u v a c
   outcome_one (Reads t) s n u v a c one h k = (h.0 ∙ sym k.0, h.1 ∙ sym k.1)
   outcome_one (RefusesWith code) s n u v a c one h k = (h.0 ∙ sym k.0, h.1 ∙ sym k.1)
   outcome_one Finishes s n u v a c one h k = one h k
 
   model_steps_are_one : (s : ModelSoFar) (n : ℕ) (l : List ℕ) (u v : Next S) (a c : List ℕ) → (at_script s.model n u a → at_script s.model n v c → AreOne u v a c) →
-      ModelSteps stage at_script s n l u a → ModelSteps stage at_script s n l v c → AreOne u v a c
+      ModelSteps notation stage at_script s n l u a → ModelSteps notation stage at_script s n l v c → AreOne u v a c
   model_steps_are_one s n l u v a c one (o, leads, h) (p, leads', k) =
-      outcome_one p s n u v a c one (subst (λ (x : LineOutcome). StepsBy stage x s n (at_script s.model n u a) u a) (lead_one_way s l o p leads leads') h) k
+      outcome_one p s n u v a c one (subst (λ (x : LineOutcome). StepsBy notation stage x s n (at_script s.model n u a) u a) (lead_one_way s l o p leads leads') h) k
 
-pub model_closes_are_one : (s : ModelSoFar) (n : ℕ) (e f : End) (a c : List ℕ) → ModelCloses s n e a → ModelCloses s n f c → (e ≡ f) × (a ≡ c)
-model_closes_are_one s n e f a c h k = (h.0 ∙ sym k.0, h.1 ∙ sym k.1)
+pub model_closes_are_one : (notation : Notation) (s : ModelSoFar) (n : ℕ) (e f : End) (a c : List ℕ) → ModelCloses notation s n e a → ModelCloses notation s n f c → (e ≡ f) × (a ≡ c)
+model_closes_are_one notation s n e f a c h k = (h.0 ∙ sym k.0, h.1 ∙ sym k.1)
 
 -- ---- the machine of show
 
@@ -73,29 +80,31 @@ show_script_one m n x y a c (v, is, h) (w, is', k) =
     shows_one w m n x y a c (subst (λ (z : Acceptance). ShowsBy z m n x a) (acceptance_is_one m v w is is') h) k
 
 pub show_steps_are_one : (s : ModelSoFar) (n : ℕ) (l : List ℕ) (u v : Next ModelSoFar) (a c : List ℕ) → ShowSteps s n l u a → ShowSteps s n l v c → (u ≡ v) × (a ≡ c)
-show_steps_are_one s n l u v a c h k = model_steps_are_one (λ t. t) ShowsAtScript s n l u v a c (show_script_one s.model n u v a c) h k
+show_steps_are_one s n l u v a c h k = model_steps_are_one Words (λ t. t) ShowsAtScript s n l u v a c (show_script_one s.model n u v a c) h k
 
 -- ---- the machine of run
 
-begins_one : (v : Acceptance) (m : PlantModel) (n : ℕ) (x y : Next RunState) (a c : List ℕ) → BeginsBy v m n x a → BeginsBy v m n y c → AreOne x y a c
-begins_one (RefusedFor r) m n x y a c h k = (h.0 ∙ sym k.0, h.1 ∙ sym k.1)
-begins_one (AcceptedAs b) m n x y a c (inl (plain, h)) (inl (plain', k)) = (h.0 ∙ sym k.0, h.1 ∙ sym k.1)
-begins_one (AcceptedAs b) m n x y a c (inl (plain, h)) (inr (other, k)) = absurd (other plain)
-begins_one (AcceptedAs b) m n x y a c (inr (other, h)) (inl (plain, k)) = absurd (other plain)
-begins_one (AcceptedAs b) m n x y a c (inr (other, h)) (inr (other', k)) = (h.0 ∙ sym k.0, h.1 ∙ sym k.1)
+begins_one : (notation : Notation) (v : Acceptance) (m : PlantModel) (n : ℕ) (x y : Next RunState) (a c : List ℕ) → BeginsBy notation v m n x a → BeginsBy notation v m n y c → AreOne x y a c
+begins_one notation (RefusedFor r) m n x y a c h k = (h.0 ∙ sym k.0, h.1 ∙ sym k.1)
+begins_one notation (AcceptedAs b) m n x y a c h k = (h.0 ∙ sym k.0, h.1 ∙ sym k.1)
 
-run_script_one : (m : PlantModel) (n : ℕ) (x y : Next RunState) (a c : List ℕ) → RunsAtScript m n x a → RunsAtScript m n y c → AreOne x y a c
-run_script_one m n x y a c (v, is, h) (w, is', k) =
-    begins_one w m n x y a c (subst (λ (z : Acceptance). BeginsBy z m n x a) (acceptance_is_one m v w is is') h) k
+run_script_one : (notation : Notation) (m : PlantModel) (n : ℕ) (x y : Next RunState) (a c : List ℕ) → RunsAtScript notation m n x a → RunsAtScript notation m n y c → AreOne x y a c
+run_script_one notation m n x y a c (v, is, h) (w, is', k) =
+    begins_one notation w m n x y a c (subst (λ (z : Acceptance). BeginsBy notation z m n x a) (acceptance_is_one m v w is is') h) k
 
-acts_one : (r : Result (Standing × List ℕ) ℕ) (m : PlantModel) (n : ℕ) (x y : Next RunState) (a c : List ℕ) → ActsBy r m n x a → ActsBy r m n y c → AreOne x y a c
-acts_one (Err code) m n x y a c h k = (h.0 ∙ sym k.0, h.1 ∙ sym k.1)
-acts_one (Ok acted) m n x y a c h k = (h.0 ∙ sym k.0, h.1 ∙ sym k.1)
+acts_one : (r : Result (Option Event) ℕ) (s : ScriptState) (n : ℕ) (x y : Next RunState) (a c : List ℕ) → IsCompiled s.compiled → ActsBy r s n x a → ActsBy r s n y c → AreOne x y a c
+acts_one (Err code) s n x y a c compiled h k = (h.0 ∙ sym k.0, h.1 ∙ sym k.1)
+acts_one (Ok None) s n x y a c compiled h k = (h.0 ∙ sym k.0, h.1 ∙ sym k.1)
+acts_one (Ok (Some e)) s n x y a c compiled (z, report, acts, at, text) (w, other, others, there, words) =
+    let same = acts_are_one s.compiled compiled s.state e z w report other acts others in (
+      at ∙ ap (λ (t : ExecutiveState). GoesOn (InScript (record s { state = t }))) same.0 ∙ sym there,
+      text ∙ ap (λ (t : Option TickReport). reports_in s.notation s.compiled.model (option_to_list t)) same.1 ∙ sym words,
+    )
 
 pub run_steps_are_one : (s : RunState) (n : ℕ) (l : List ℕ) (u v : Next RunState) (a c : List ℕ) → RunSteps s n l u a → RunSteps s n l v c → (u ≡ v) × (a ≡ c)
-run_steps_are_one (InModel s) n l u v a c h k = model_steps_are_one InModel RunsAtScript s n l u v a c (run_script_one s.model n u v a c) h k
-run_steps_are_one (InScript x) n l u v a c h k = acts_one (line_acted x.model x.standing l) x.model n u v a c h k
+run_steps_are_one (InModel notation s) n l u v a c h k = model_steps_are_one notation (InModel notation) (RunsAtScript notation) s n l u v a c (run_script_one notation s.model n u v a c) h k
+run_steps_are_one (InScript x) n l u v a c h k = acts_one (event_line x.compiled.model x.state.pending x.state.mirrored l) x n u v a c h.0 h.1 k.1
 
 pub run_closes_are_one : (s : RunState) (n : ℕ) (e f : End) (a c : List ℕ) → RunCloses s n e a → RunCloses s n f c → (e ≡ f) × (a ≡ c)
-run_closes_are_one (InModel s) n e f a c h k = (h.0 ∙ sym k.0, h.1 ∙ sym k.1)
+run_closes_are_one (InModel notation s) n e f a c h k = (h.0 ∙ sym k.0, h.1 ∙ sym k.1)
 run_closes_are_one (InScript x) n e f a c h k = (h.0 ∙ sym k.0, h.1 ∙ sym k.1)

@@ -3,13 +3,16 @@ use Rattle.std.specs.Prelude.{◌≡◌, ℕ, List, [], ◌∷◌, ◌++◌, Opt
 use Rattle.std.specs.Global.{Global}
 use Rattle.cca_base.specs.declared.events.Refusal.{Refusal}
 use Rattle.cca_base.specs.PlantModel.{PlantModel}
-use Rattle.trace_text.specs.Refusals.{refusal_line}
-use Rattle.trace_text.specs.Reports.{reports_text}
-use Rattle.plain_laws.specs.Executive.{Standing, begin, reports_from}
+use Rattle.titan_top.specs.Notations.{refusal_in, reports_in}
+use Rattle.titan_top.specs.declared.notation.Notation.{Notation}
+use Rattle.titan_top.specs.declared.notation.Notation.TheVariants.{Words}
+use Rattle.cca_base.specs.declared.events.TickReport.{TickReport}
+use Rattle.cca_base.specs.Plans.{Promising}
+use Rattle.cca_base.specs.Runs.{Trace}
 use Rattle.cca_base.specs.Accepted.{CompiledModel}
 use Rattle.trace_text.specs.Compiled.{show_text}
 use Rattle.titan_top.specs.Acceptance.{Acceptance, AcceptedAs, RefusedFor, IsAcceptanceOf}
-use Rattle.titan_top.specs.Document.{Document, DocumentEnd, Complete, RefusedAt, ModelText, Scripted, Stopped, EndsModel, SaysByEnd, IsDocument}
+use Rattle.titan_top.specs.Document.{Document, DocumentEnd, Complete, RefusedAt, ModelText, Scripted, Stopped, EndsModel, SaysScript, IsDocument}
 use Rattle.line_machine.specs.declared.machine.End.{End}
 use Rattle.titan_top.specs.Statuses.{end_status}
 use Rattle.titan_top.specs.Words.{form_of, texts}
@@ -28,25 +31,21 @@ abbrev pub outcome_of : End → List ℕ → Outcome
 outcome_of e text = record { text = text; status = end_status e }
 
 -- the outcome of a refusal
-abbrev pub refusal : PlantModel → ℕ → Refusal → Outcome
-refusal m line r = record { text = refusal_line m line r; status = Refused }
+abbrev pub refusal : Notation → PlantModel → ℕ → Refusal → Outcome
+refusal notation m line r = record { text = refusal_in notation m line r; status = Refused }
 
 -- a text that is printed before the rest
 abbrev pub with_text : List ℕ → Outcome → Outcome
 with_text text o = record { text = text ++ o.text; status = o.status }
 
 -- what is printed for the end of an input, and its status
-abbrev pub ending : PlantModel → DocumentEnd → Outcome
-ending m Complete = record { text = []; status = Ended }
-ending m (RefusedAt line r) = refusal m line r
+abbrev pub ending : Notation → PlantModel → DocumentEnd → Outcome
+ending notation m Complete = record { text = []; status = Ended }
+ending notation m (RefusedAt line r) = refusal notation m line r
 
--- the lines of the reports of a reading's events, from a standing on, and then its ending
-unfoldable pub printed_from : PlantModel → Standing → Document → Outcome
-printed_from m x r = with_text (reports_text m (reports_from m x r.events)) (ending m r.ending)
-
--- what is printed of a reading: the executive makes its events one after the other
-unfoldable pub printed : Document → Outcome
-printed r = printed_from r.model (begin r.model) r
+-- what is printed of a document with these reports: their lines, and the document's end
+unfoldable pub printed : Notation → Document → List TickReport → Outcome
+printed notation r reports = with_text (reports_in notation r.model reports) (ending notation r.model r.ending)
 
 -- the line for words of no form
 abbrev pub usage_text : List ℕ
@@ -67,16 +66,27 @@ shown_model b = record { text = show_text b; status = Ended }
 -- what is shown of a model whose script stands at line n
 abbrev pub shown_acceptance : PlantModel → ℕ → Acceptance → Outcome
 shown_acceptance m n (AcceptedAs b) = shown_model b
-shown_acceptance m n (RefusedFor r) = refusal m n r
+shown_acceptance m n (RefusedFor r) = refusal Words m n r
 
 -- what is shown, by how the model ends
 abbrev pub IsShown : ModelText → Outcome → Type 0
 IsShown (Scripted m n ls) o = (v : Acceptance) × IsAcceptanceOf m v × (o ≡ shown_acceptance m n v)
-IsShown (Stopped m line r) o = o ≡ refusal m line r
+IsShown (Stopped m line r) o = o ≡ refusal Words m line r
+
+-- what is printed of a script behind n lines: its events' reports one after the other, each reply the one that is picked, and each goal that isn't unreachable can be served in time
+abbrev pub PrintsBy : Notation → Acceptance → PlantModel → ℕ → List (List ℕ) → Outcome → Type 0
+PrintsBy notation (AcceptedAs b) m n ls o =
+    (r : Document) × (reports : List TickReport) × SaysScript m [] 0 n ls r × Trace b (Promising b) r.events reports × (o ≡ printed notation r reports)
+PrintsBy notation (RefusedFor r) m n ls o = o ≡ refusal notation m n r
+
+-- what a run prints, by how the model ends
+abbrev pub IsRun : Notation → ModelText → Outcome → Type 0
+IsRun notation (Scripted m n ls) o = (v : Acceptance) × IsAcceptanceOf m v × PrintsBy notation v m n ls o
+IsRun notation (Stopped m line r) o = o ≡ refusal notation m line r
 
 -- the outcome for a form of words, by how the model ends
 abbrev pub IsOutcomeByEnd : Form → ModelText → Outcome → Type 0
-IsOutcomeByEnd Run end o = (r : Document) × SaysByEnd end r × (o ≡ printed r)
+IsOutcomeByEnd (Run notation) end o = IsRun notation end o
 IsOutcomeByEnd Show end o = IsShown end o
 
 -- the outcome for a form of words and an input
@@ -105,13 +115,13 @@ IsRefusedEnd (Stopped m n s) line r = (line ≡ n) × (r ≡ s)
 -- nothing that the form reads is refused: `run` reads the whole input, and `show` its model
 abbrev pub NothingRefused : Option Form → List ℕ → Type 0
 NothingRefused None input = ⊥
-NothingRefused (Some Run) input = (r : Document) × IsDocument input r × (r.ending ≡ Complete)
+NothingRefused (Some (Run notation)) input = (r : Document) × IsDocument input r × (r.ending ≡ Complete)
 NothingRefused (Some Show) input = (end : ModelText) × EndsModel input end × IsAcceptedEnd end
 
 -- the first line that is refused, and why
 abbrev pub SomeRefused : Option Form → List ℕ → Type 0
 SomeRefused None input = ⊥
-SomeRefused (Some Run) input = (r : Document) × IsDocument input r × ((line : ℕ) × (refusal : Refusal) × (r.ending ≡ RefusedAt line refusal))
+SomeRefused (Some (Run notation)) input = (r : Document) × IsDocument input r × ((line : ℕ) × (refusal : Refusal) × (r.ending ≡ RefusedAt line refusal))
 SomeRefused (Some Show) input = (end : ModelText) × EndsModel input end × ((line : ℕ) × (refusal : Refusal) × IsRefusedEnd end line refusal)
 
 -- a status that comes from a fault or from running out of memory

@@ -9,13 +9,14 @@ use Rattle.model_syntax.specs.Lines.{ModelSoFar}
 use Rattle.trace_text.specs.Compiled.{show_text}
 use Rattle.trace_text.specs.Refusals.{refusal_line}
 use Rattle.titan_top.specs.Acceptance.{Acceptance, AcceptedAs, RefusedFor, IsAcceptanceOf}
+use Rattle.titan_top.specs.declared.notation.Notation.TheVariants.{Words}
 use Rattle.titan_top.specs.ModelSteps.{RefusesLine, ModelSteps, ModelCloses}
-use Rattle.titan_top.specs.declared.line.TheConstants.{MAX_LINE}
+use Rattle.titan_top.specs.declared.limits.TheConstants.{MAX_LINE}
 
 -- an accepted model is printed, and the program ends; one that isn't is refused
 abbrev pub ShowsBy : Acceptance → PlantModel → ℕ → Next ModelSoFar → List ℕ → Type 0
 ShowsBy (AcceptedAs b) m n u text = (u ≡ Stops Ended) × (text ≡ show_text b)
-ShowsBy (RefusedFor refusal) m n u text = RefusesLine m n refusal u text
+ShowsBy (RefusedFor refusal) m n u text = RefusesLine Words m n refusal u text
 
 -- what comes of the line `script`
 abbrev pub ShowsAtScript : PlantModel → ℕ → Next ModelSoFar → List ℕ → Type 0
@@ -23,7 +24,7 @@ ShowsAtScript m n u text = (v : Acceptance) × IsAcceptanceOf m v × ShowsBy v m
 
 -- what a line leads to; the machine's state is the model so far
 abbrev pub ShowSteps : ModelSoFar → ℕ → List ℕ → Next ModelSoFar → List ℕ → Type 0
-ShowSteps s n line u text = ModelSteps (λ t. t) ShowsAtScript s n line u text
+ShowSteps s n line u text = ModelSteps Words (λ t. t) ShowsAtScript s n line u text
 
 -- the machine
 abbrev pub show_machine : Ghosts ModelSoFar
@@ -31,6 +32,6 @@ show_machine = record {
   limit_of = λ s. MAX_LINE;
   refusal = λ s n code. refusal_line s.model n (bare code);
   steps = ShowSteps;
-  closes = ModelCloses;
+  closes = ModelCloses Words;
   awaits = λ s n. ⊤;
 }

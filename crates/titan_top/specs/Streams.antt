@@ -18,7 +18,7 @@ use Rattle.titan_top.specs.declared.words.Form.TheVariants.{Run, Show}
 -- all that may be printed fits into so many bytes
 abbrev pub FitsIn : ℕ → Option Form → Option (List ℕ) → Type 0
 FitsIn n None left = length usage_text ≤ n
-FitsIn n (Some Run) left = HasRoomFor run_machine run_first left (Some n)
+FitsIn n (Some (Run notation)) left = HasRoomFor run_machine (run_first notation) left (Some n)
 FitsIn n (Some Show) left = HasRoomFor show_machine nothing_read left (Some n)
 
 -- where the sink's space is known, all that may be printed fits
@@ -27,12 +27,12 @@ HasRoomForWords form left space = IfSome space (λ n. FitsIn n form left)
 
 -- the form's machine was driven, with this answer
 abbrev pub StreamedFor : Form → (left left' out out' : Option (List ℕ)) → Result End Cut → Type 0
-StreamedFor Run left left' out out' result = Streamed run_machine run_first left left' out out' result
+StreamedFor (Run notation) left left' out out' result = Streamed run_machine (run_first notation) left left' out out' result
 StreamedFor Show left left' out out' result = Streamed show_machine nothing_read left left' out out' result
 
 -- the form's machine had the source asked in turn: at each call all that the bytes so far decide had been written, and it was no end
 abbrev pub InTurnFor : Form → (left left' out out' : Option (List ℕ)) → (calls calls' : Option (List Call)) → Result End Cut → Type 0
-InTurnFor Run left left' out out' calls calls' result = DrivenInTurn run_machine run_first left left' out out' calls calls' result
+InTurnFor (Run notation) left left' out out' calls calls' result = DrivenInTurn run_machine (run_first notation) left left' out out' calls calls' result
 InTurnFor Show left left' out out' calls calls' result = DrivenInTurn show_machine nothing_read left left' out out' calls calls' result
 
 -- the form's machine was driven, and the status is its answer's

@@ -2,14 +2,9 @@
 //! input lead to, line by line as the input comes, or after a fault, or out of memory, a front of that text.
 #![tactic(auto)]
 
-mod events;
-mod executive;
-mod item;
 mod laws;
-mod line;
-mod names;
-mod plain;
-mod planner;
+mod limits;
+mod notation;
 mod run;
 mod said;
 mod script;
@@ -18,9 +13,9 @@ mod status;
 mod top;
 mod words;
 
-pub use item::lines_are_spelled;
 pub use laws::{
-    outcomes_are_one, outcomes_fit, printed_texts_read_back, sure_text_begins, texts_are_outcomes,
+    documents_are_one, outcomes_are_one, outcomes_fit, printed_texts_read_back, runs_are_traced,
+    sure_text_begins, texts_are_outcomes,
 };
 pub use status::Status;
 pub use top::titan;

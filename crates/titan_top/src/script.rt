@@ -1,58 +1,36 @@
-//! The script behind a plain model, made line by line.
+//! The script behind an accepted model, made line by line.
 
-ghost use Rattle.std.specs.Prelude.{◌≡◌, ◌≤◌, ◌+◌, ◌<◌, ◌^◌, OnOk, IfOk};
-ghost use Rattle.plain_laws.specs.Executive.{begin};
-ghost use Rattle.plain_laws.specs.Plain.{IsPlain};
+ghost use Rattle.std.specs.Prelude.{◌≡◌, ◌+◌, ◌<◌, ◌≤◌, ◌^◌, ℕ, IfOk, IfSome, option_to_list};
+ghost use Rattle.cca_base.specs.Accepted.{IsCompiled};
+ghost use Rattle.cca_base.specs.Plans.{Promising};
+ghost use Rattle.cca_base.specs.Trace.{start, MayCome};
+ghost use Rattle.formula_syntax.specs.Lookups.{NamesFit};
 ghost use Rattle.line_machine.specs.Next.{next_of};
 ghost use Rattle.line_machine.specs.declared.machine.TheConstants.{MAX_LINES};
-ghost use Rattle.titan_top.specs.Standing.{standing, IsStanding, line_acted};
-ghost use Rattle.titan_top.specs.Results.{AnswersAs};
+ghost use Rattle.script_reader.specs.EventLines.{AnswersAs, event_line};
+ghost use Rattle.titan_top.specs.Notations.{reports_in};
+ghost use Rattle.trace_laws.specs.Events.{Acts};
 
-use crate::events::read_event;
-use crate::executive::{Executive, begin, event};
-use crate::said::refuse_stop;
-use cca_base::{Compiled, List, Model, Stop};
+use crate::notation::{Notation, report_in};
+use crate::said::{nothing, refuse_stop};
+use cca_base::{Compiled, Event, Model, Name, Stop, Subject};
+use executive_loop::Executive;
+use indexmap::IndexMap;
 use line_machine::Said;
+use script_reader::read_named_event;
 use std::alloc::{AllocError, Global};
-use trace_text::line_of;
 
-/// Makes what a line of the script says, and answers what is printed of it.
-fn act(
-    alloc: Global,
-    model: &Model,
-    executive: &mut Executive,
-    line: &[u8],
-) -> Result<List<u8>, Stop>
-    requires plain { IsPlain model.now }
-    requires stands { IsStanding model.now (standing executive.old) }
-    requires room { executive.old.ticks + 1 < 2 ^ 64 }
-    ensures acts { AnswersAs (λ text. (standing executive.new, text)) result (line_acted model.now (standing executive.old) line.now) }
-    ensures stands { IsStanding model.now (standing executive.new) }
-    ensures ticks { executive.new.ticks ≤ executive.old.ticks + 1 }
-{
-    let Some(said) = read_event(alloc, model, line)? else {
-        return Ok(List::new(alloc));
-    };
-    match event(alloc, model, executive, &said)? {
-        Some(report) => {
-            let text = line_of(alloc, model, &report)?;
-            Ok(text)
-        }
-        None => Ok(List::new(alloc)),
-    }
-}
-
-/// An accepted model that is plain, and where its executive stands.
+/// An accepted model, its names, and its executive.
 #[derive(Drop)]
 pub struct Script {
-    compiled: Compiled,
+    notation: Notation,
+    names: IndexMap<Name, Subject>,
     executive: Executive,
 }
 
 impl std::marker::Model for Script {
-    ghost use Rattle.plain_laws.specs.Plain.{IsPlain};
+    ghost use Rattle.formula_syntax.specs.Lookups.{NamesFit};
     ghost use Rattle.titan_top.specs.RunMachine.{ScriptState};
-    ghost use Rattle.titan_top.specs.Standing.{standing, IsStanding};
     ghost use Rattle.cca_base.specs.contracts.formula.Formula as formula;
     ghost use Rattle.std.specs.Coded.{codes};
 
@@ -60,30 +38,81 @@ impl std::marker::Model for Script {
 
     ghost coded = { Prim.hlevel (codes, formula.the_row.coded) };
 
-    ghost view = { λ s. record { model = s.compiled.model; standing = standing s.executive } };
+    ghost view = { λ s. record { notation = s.notation; compiled = s.executive.compiled; state = s.executive.state } };
 
-    ghost invariant = { λ s. IsPlain s.compiled.model × IsStanding s.compiled.model (standing s.executive) };
+    ghost invariant = { λ s. NamesFit s.names s.executive.compiled.model };
+}
+
+/// What a line of the script says, with what the executive has pending and mirrored.
+fn read(
+    alloc: Global,
+    executive: &Executive,
+    names: &IndexMap<Name, Subject>,
+    line: &[u8],
+) -> Result<Option<Event>, Stop>
+    requires fit { NamesFit names.now executive.now.compiled.model }
+    ensures answer { AnswersAs result (event_line executive.now.compiled.model executive.now.state.pending executive.now.state.mirrored line.now) }
+    ensures may_come { IfOk result (λ event. IfSome event (MayCome executive.now.compiled.model executive.now.state.pending executive.now.state.mirrored)) }
+    ensures compiled { IsCompiled executive.now.compiled }
+{
+    let model = executive.compiled().model();
+    read_named_event(
+        alloc,
+        line,
+        model,
+        names,
+        executive.pending(),
+        executive.mirrored(),
+    )
+}
+
+/// Makes an event, and answers what is printed of it.
+fn make(
+    alloc: Global,
+    notation: Notation,
+    executive: &mut Executive,
+    event: &Event,
+) -> Result<Vec<u8>, AllocError>
+    requires may_come { MayCome executive.old.compiled.model executive.old.state.pending executive.old.state.mirrored event.now }
+    requires room { executive.old.state.ticks + 1 < 2 ^ 64 }
+    ensures acts { IfOk result (λ text. (report : _) × Acts executive.old.compiled (Promising executive.old.compiled) executive.old.state event.now executive.new.state report
+        × (text.items ≡ reports_in notation executive.old.compiled.model (option_to_list report))) }
+    ensures compiled { executive.new.compiled ≡ executive.old.compiled }
+{
+    match executive.event(event)? {
+        Some(report) => {
+            let text = report_in(alloc, notation, executive.compiled().model(), &report)?;
+            Ok(text)
+        }
+        None => Ok(Vec::new(alloc)),
+    }
 }
 
 impl Script {
     ghost use Rattle.titan_top.specs.RunMachine.{InScript, RunSteps, RunAwaits};
 
     /// Before the first line of the script.
-    pub fn open(alloc: Global, compiled: Compiled) -> Result<Script, AllocError>
-        requires { IsPlain compiled.model }
-        ensures { IfOk result (λ s. s ≡ record { model = compiled.model; standing = begin compiled.model }) }
+    pub fn open(
+        alloc: Global,
+        notation: Notation,
+        compiled: Compiled,
+        names: IndexMap<Name, Subject>,
+    ) -> Result<Script, AllocError>
+        requires { NamesFit names compiled.model }
+        ensures { IfOk result (λ s. s ≡ record { notation = notation; compiled = compiled; state = start compiled.model 0 }) }
     {
-        let executive = begin(alloc, compiled.model())?;
+        let executive = Executive::open(alloc, compiled)?;
         Ok(Script {
-            compiled,
+            notation,
+            names,
             executive,
         })
     }
 
     pub fn model(&self) -> &Model
-        ensures { result.now ≡ self.now.model }
+        ensures { result.now ≡ self.now.compiled.model }
     {
-        self.compiled.model()
+        self.executive.compiled().model()
     }
 
     /// Makes a line of the script.
@@ -93,13 +122,18 @@ impl Script {
         ensures steps { IfOk result (λ said. RunSteps (InScript self.old) number line.now
             (next_of (InScript self.new) said.end) said.text.items) }
         ensures turn { IfOk result (λ said. RunAwaits (InScript self.new) (number + 1)) }
+        ensures notation { self.new.notation ≡ self.old.notation }
     {
-        match act(alloc, self.compiled.model(), &mut self.executive, line) {
-            Ok(text) => Ok(Said {
-                text: text.into_vec(),
-                end: None,
-            }),
-            Err(stop) => refuse_stop(alloc, self.compiled.model(), number, &stop),
+        match read(alloc, &self.executive, &self.names, line) {
+            Ok(Some(event)) => {
+                let text = make(alloc, self.notation, &mut self.executive, &event)?;
+                Ok(Said { text, end: None })
+            }
+            Ok(None) => Ok(nothing(alloc)),
+            Err(stop) => {
+                let model = self.executive.compiled().model();
+                refuse_stop(alloc, self.notation, model, number, &stop)
+            }
         }
     }
 }

@@ -6,16 +6,17 @@ ghost use Rattle.line_machine.specs.Next.{next_of};
 ghost use Rattle.titan_top.specs.Document.{nothing_read};
 ghost use Rattle.titan_top.specs.ShowMachine.{ShowsAtScript};
 
-use crate::line::MAX_LINE;
-use crate::said::{nothing, refuse_stop, refused};
-use acceptance::{NotAccepted, accept};
+use crate::limits::MAX_LINE;
+use crate::notation::{Notation, refusal_in};
+use crate::said::{not_accepted, nothing, refuse_stop};
+use acceptance::accept;
 use cca_base::codes::ENDS_EARLY;
 use cca_base::{Model, Refusal};
 use line_machine::{End, Machine, Said};
 use model_syntax::{LineEnd, ModelReader};
 use std::alloc::{AllocError, Global};
 use std::mem;
-use trace_text::{refusal_line, show_lines};
+use trace_text::show_lines;
 
 /// A model that is read to be shown.
 #[derive(Drop)]
@@ -67,8 +68,7 @@ fn shown(alloc: Global, model: Model, number: u64) -> Result<Said, AllocError>
                 end: Some(End::Ended),
             })
         }
-        Err(NotAccepted::Refused { refusal, model }) => refused(alloc, &model, number, &refusal),
-        Err(NotAccepted::Memory) => Err(AllocError),
+        Err(stop) => not_accepted(alloc, Notation::Words, number, stop),
     }
 }
 
@@ -76,9 +76,10 @@ impl Machine for Show {
     ghost use Rattle.std.specs.Prelude.{⊤};
     ghost use Rattle.cca_base.specs.Refusals.{bare};
     ghost use Rattle.trace_text.specs.Refusals.{refusal_line};
+    ghost use Rattle.titan_top.specs.declared.notation.Notation.TheVariants.{Words};
     ghost use Rattle.titan_top.specs.ModelSteps.{ModelCloses};
     ghost use Rattle.titan_top.specs.ShowMachine.{ShowSteps};
-    ghost use Rattle.titan_top.specs.declared.line.TheConstants.{MAX_LINE};
+    ghost use Rattle.titan_top.specs.declared.limits.TheConstants.{MAX_LINE};
     ghost use Rattle.titan_top.specs.OneStep.{show_steps_are_one, model_closes_are_one};
 
     ghost limit_of = { λ s. MAX_LINE };
@@ -87,27 +88,26 @@ impl Machine for Show {
 
     ghost steps = { ShowSteps };
 
-    ghost closes = { ModelCloses };
+    ghost closes = { ModelCloses Words };
 
     ghost awaits = { λ s n. ⊤ };
 
     ghost steps_are_one = { show_steps_are_one };
 
-    ghost closes_are_one = { model_closes_are_one };
+    ghost closes_are_one = { model_closes_are_one Words };
 
     fn limit(&self) -> usize {
         MAX_LINE
     }
 
     fn refuse(&self, alloc: Global, number: u64, code: u8) -> Result<Vec<u8>, AllocError> {
-        let text = refusal_line(
+        refusal_in(
             alloc,
+            Notation::Words,
             self.reader.model(),
             number,
             &Refusal::bare(code),
-            false,
-        )?;
-        Ok(text.into_vec())
+        )
     }
 
     fn step(&mut self, alloc: Global, number: u64, line: &[u8]) -> Result<Said, AllocError> {
@@ -117,7 +117,7 @@ impl Machine for Show {
                 let model = self.finish(alloc)?;
                 shown(alloc, model, number)
             }
-            Err(stop) => refuse_stop(alloc, self.reader.model(), number, &stop),
+            Err(stop) => refuse_stop(alloc, Notation::Words, self.reader.model(), number, &stop),
         }
     }
 

@@ -8,6 +8,7 @@ ghost use Rattle.titan_top.specs.Output.{Outcome, IsOutcomeFor, IsOutcome, Nothi
 ghost use Rattle.titan_top.specs.Statuses.{status_of, end_status};
 ghost use Rattle.titan_top.specs.Streams.{HasRoomForWords, StreamedFor, InTurnFor, StreamsAs};
 ghost use Rattle.titan_top.specs.Wire.{Writes, WritesAs};
+ghost use Rattle.titan_top.specs.declared.notation.Notation.{Notation};
 ghost use Rattle.titan_top.specs.Words.{form_of, texts};
 
 use crate::run::Run;
@@ -35,7 +36,7 @@ fn drive_form<S, K: Sink, I: Intake<S, K>>(
     ensures complete { ¬ (Rose (I.faults source.old) (I.faults source.new)) → ¬ (Rose (K.faults sink.old) (K.faults sink.new)) → IfErr result (λ c. c ≡ Cut.Memory) }
 {
     match form {
-        Form::Run => match Run::open(alloc) {
+        Form::Run(notation) => match Run::open(alloc, notation) {
             Ok(mut machine) => drive::<Run, S, K, I>(alloc, &mut machine, source, sink),
             Err(_) => Err(Cut::Memory),
         },
@@ -79,8 +80,8 @@ pub fn titan<S: Source, K: Sink>(
 
     // What is printed of a run: the reports are the trace of what was read, each reply is good, and then comes the ending; or
     // the model is refused.
-    ensures trace { form_of (texts words.now.items) ≡ Some Form.Run → IfSome (S.left source.old) (λ input.
-        (o : Outcome) → IsOutcome words.now.items input o → IsTraceOf input o) }
+    ensures trace { (notation : Notation) → form_of (texts words.now.items) ≡ Some (Form.Run notation) → IfSome (S.left source.old) (λ input.
+        (o : Outcome) → IsOutcome words.now.items input o → IsTraceOf notation input o) }
 
     // The input has no line that is refused, or its first one is named.
     ensures ended { result ≡ Status.Ended → IfSome (S.left source.old) (NothingRefused (form_of (texts words.now.items))) }
@@ -110,7 +111,7 @@ pub fn titan<S: Source, K: Sink>(
     ensures not_rejected { result ≢ Status.Rejected }
 
     // A run that ended has read its input to the end; what is shown was read to the line `script`, and nothing goes out before.
-    ensures whole { form_of (texts words.now.items) ≡ Some Form.Run → result ≡ Status.Ended → IsAtEnd (S.left source.new) }
+    ensures whole { (notation : Notation) → form_of (texts words.now.items) ≡ Some (Form.Run notation) → result ≡ Status.Ended → IsAtEnd (S.left source.new) }
     ensures to_script { form_of (texts words.now.items) ≡ Some Form.Show → result ≡ Status.Ended →
         (taken : List ℕ) × (S.left source.old ≡ prepend_known taken (S.left source.new)) × NothingRefused (Some Form.Show) taken }
     ensures silent { form_of (texts words.now.items) ≡ Some Form.Show → result ≡ Status.ReadFault → K.written sink.new ≡ K.written sink.old }

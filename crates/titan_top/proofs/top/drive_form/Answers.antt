@@ -14,26 +14,26 @@ use Rattle.titan_top.proofs.ShowTexts.{show_reads_models}
 use Rattle.titan_top.proofs.top.drive_form.Goals as goal
 
 pub drive-requires-clause-room : goal.drive-requires-clause-room
-drive-requires-clause-room g c = run_room c.args.form c.in-Ok.machine (g.I.Intake.left c.args.source.now) (g.K.Sink.space c.args.sink.now) c.in-Run.is c.in-Ok.ensures c.requires
+drive-requires-clause-room g c = run_room c.in-Run.notation c.args.form c.in-Ok.machine (g.I.Intake.left c.args.source.now) (g.K.Sink.space c.args.sink.now) c.in-Run.is c.in-Ok.ensures c.requires
 
 pub drive-requires-in-Ok-open-clause-room : goal.drive-requires-in-Ok-open-clause-room
 drive-requires-in-Ok-open-clause-room g c = show_room c.args.form c.in-Ok-open.machine (g.I.Intake.left c.args.source.now) (g.K.Sink.space c.args.sink.now) c.in-Show.is c.in-Ok-open.ensures c.requires
 
 pub returns-in-Ok-clause-text : goal.returns-in-Ok-clause-text
-returns-in-Ok-clause-text g c = form_prints Run run_machine InModel RunsAtScript run_reads_models run_fixed c.in-Ok.machine c.in-Ok.ensures c.args.form c.in-Run.is (g.I.Intake.left c.args.source.now) _ _ c.drive.result c.drive.ensures.text
+returns-in-Ok-clause-text g c = form_prints (Run c.in-Run.notation) run_machine (InModel c.in-Run.notation) (RunsAtScript c.in-Run.notation) (run_reads_models c.in-Run.notation) run_fixed c.in-Ok.machine c.in-Ok.ensures c.args.form c.in-Run.is (g.I.Intake.left c.args.source.now) _ _ c.drive.result c.drive.ensures.text
 
 pub returns-in-Ok-clause-ends : goal.returns-in-Ok-clause-ends
-returns-in-Ok-clause-ends g c = form_ends Run run_machine InModel RunsAtScript run_reads_models run_fixed c.in-Ok.machine c.in-Ok.ensures c.args.form c.in-Run.is (g.I.Intake.left c.args.source.now) c.drive.result c.drive.ensures.ends
+returns-in-Ok-clause-ends g c = form_ends (Run c.in-Run.notation) run_machine (InModel c.in-Run.notation) (RunsAtScript c.in-Run.notation) (run_reads_models c.in-Run.notation) run_fixed c.in-Ok.machine c.in-Ok.ensures c.args.form c.in-Run.is (g.I.Intake.left c.args.source.now) c.drive.result c.drive.ensures.ends
 
 pub returns-in-Err-clause-streamed : goal.returns-in-Err-clause-streamed
 returns-in-Err-clause-streamed g c =
     subst (λ f. StreamedFor f (g.I.Intake.left c.args.source.now) (g.I.Intake.left c.args.source.now) (g.K.Sink.written c.args.sink.now) (g.K.Sink.written c.args.sink.now) (Err Memory)) (sym c.in-Run.is)
-    (no_memory_streams run_machine run_first (g.I.Intake.left c.args.source.now) (g.K.Sink.written c.args.sink.now))
+    (no_memory_streams run_machine (run_first c.in-Run.notation) (g.I.Intake.left c.args.source.now) (g.K.Sink.written c.args.sink.now))
 
 pub returns-in-Err-clause-order : goal.returns-in-Err-clause-order
 returns-in-Err-clause-order g c =
     subst (λ f. InTurnFor f (g.I.Intake.left c.args.source.now) (g.I.Intake.left c.args.source.now) (g.K.Sink.written c.args.sink.now) (g.K.Sink.written c.args.sink.now) (g.I.Intake.calls c.args.source.now) (g.I.Intake.calls c.args.source.now) (Err Memory)) (sym c.in-Run.is)
-    (no_calls run_machine run_first (g.I.Intake.left c.args.source.now) (g.K.Sink.written c.args.sink.now) (g.I.Intake.calls c.args.source.now))
+    (no_calls run_machine (run_first c.in-Run.notation) (g.I.Intake.left c.args.source.now) (g.K.Sink.written c.args.sink.now) (g.I.Intake.calls c.args.source.now))
 
 pub returns-in-Err-clause-text : goal.returns-in-Err-clause-text
 returns-in-Err-clause-text g c = no_memory_prints (IsOutcomeFor c.args.form) (g.I.Intake.left c.args.source.now) (g.K.Sink.written c.args.sink.now)

@@ -22,7 +22,7 @@ returns-in-Some-clause-text g c =
     (subst (λ t. IfSome (g.S.Source.left c.args.source.now) (λ input. WritesAs t (g.K.Sink.written c.args.sink.now) (g.K.Sink.written c.drive_form.new.sink) (IsOutcomeFor c.in-Some.form input))) (sym c.status_of.ensures) c.drive_form.ensures.text)
 
 pub returns-in-Some-clause-trace : goal.returns-in-Some-clause-trace
-returns-in-Some-clause-trace g c = run_is_traced c.args.words.now.items _
+returns-in-Some-clause-trace g c notation = run_is_traced notation c.args.words.now.items _
 
 pub returns-in-Some-clause-ended : goal.returns-in-Some-clause-ended
 returns-in-Some-clause-ended g c e =
@@ -38,13 +38,13 @@ pub returns-in-Some-clause-ended_where : goal.returns-in-Some-clause-ended_where
 returns-in-Some-clause-ended_where g c read write =
     let is = rw c.deref.ensures.value at c.in-Some.ensures in
     rw c.status_of.ensures (subst (λ f. IfSome (g.S.Source.left c.args.source.now) (λ input. NothingRefused f input → (status_of c.drive_form.result ≡ Ended) ⊎ (status_of c.drive_form.result ≡ Memory))) is
-    (ended_where c.in-Some.form _ c.drive_form.result c.drive_form.ensures.ends (c.drive_form.ensures.complete read write)))
+    (ended_where c.in-Some.form _ c.drive_form.result _ _ c.drive_form.ensures.text (c.drive_form.ensures.complete read write)))
 
 pub returns-in-Some-clause-refused_where : goal.returns-in-Some-clause-refused_where
 returns-in-Some-clause-refused_where g c read write =
     let is = rw c.deref.ensures.value at c.in-Some.ensures in
     rw c.status_of.ensures (subst (λ f. IfSome (g.S.Source.left c.args.source.now) (λ input. SomeRefused f input → (status_of c.drive_form.result ≡ Refused) ⊎ (status_of c.drive_form.result ≡ Memory))) is
-    (refused_where c.in-Some.form _ c.drive_form.result c.drive_form.ensures.ends (c.drive_form.ensures.complete read write)))
+    (refused_where c.in-Some.form _ c.drive_form.result _ _ c.drive_form.ensures.text (c.drive_form.ensures.complete read write)))
 
 pub returns-in-Some-clause-complete : goal.returns-in-Some-clause-complete
 returns-in-Some-clause-complete g c read write =
@@ -55,8 +55,8 @@ pub returns-in-Some-clause-not_rejected : goal.returns-in-Some-clause-not_reject
 returns-in-Some-clause-not_rejected g c e = never_rejected c.in-Some.form _ _ _ _ c.drive_form.result c.drive_form.ensures.streamed (sym c.status_of.ensures ∙ e)
 
 pub returns-in-Some-clause-whole : goal.returns-in-Some-clause-whole
-returns-in-Some-clause-whole g c run e =
-    run_at_end c.in-Some.form _ _ _ _ c.drive_form.result (the_form c.args.words.now.items c.in-Some.form (rw c.deref.ensures.value at c.in-Some.ensures) Run run) c.drive_form.ensures.streamed (sym c.status_of.ensures ∙ e)
+returns-in-Some-clause-whole g c notation run e =
+    run_at_end notation c.in-Some.form _ _ _ _ c.drive_form.result (the_form c.args.words.now.items c.in-Some.form (rw c.deref.ensures.value at c.in-Some.ensures) (Run notation) run) c.drive_form.ensures.streamed (sym c.status_of.ensures ∙ e)
 
 pub returns-in-Some-clause-to_script : goal.returns-in-Some-clause-to_script
 returns-in-Some-clause-to_script g c show e =
