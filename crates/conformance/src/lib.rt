@@ -14,6 +14,12 @@ mod compile;
 mod conflicts;
 #[cfg(test)]
 mod estimates;
+#[cfg(test)]
+mod events;
+#[cfg(test)]
+mod executives;
+#[cfg(test)]
+mod json;
 mod limits;
 #[cfg(test)]
 mod parts;

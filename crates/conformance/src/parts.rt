@@ -29,10 +29,8 @@ fn takes(reader: &mut ModelReader, line: &str) -> bool {
     reader.line(line.as_bytes()).is_ok()
 }
 
-/// The model of this text.
-pub fn model_of(alloc: Global, text: &str) -> Option<Model>
-    ensures { IfSome result (λ m. IsComplete m) }
-{
+/// A reader that has read the model of this text.
+pub fn reader_of(alloc: Global, text: &str) -> Option<ModelReader> {
     let Ok(mut reader) = ModelReader::open(alloc) else {
         return None;
     };
@@ -41,7 +39,17 @@ pub fn model_of(alloc: Global, text: &str) -> Option<Model>
             return None;
         }
     }
-    Some(reader.finish())
+    Some(reader)
+}
+
+/// The model of this text.
+pub fn model_of(alloc: Global, text: &str) -> Option<Model>
+    ensures { IfSome result (λ m. IsComplete m) }
+{
+    match reader_of(alloc, text) {
+        Some(reader) => Some(reader.finish()),
+        None => None,
+    }
 }
 
 /// What is compiled of the model.
@@ -101,7 +109,7 @@ pub fn has_mode(model: &Model, component: u16, mode: u8) -> bool
         && (mode as usize) < components.get(component as usize).modes.len()
 }
 
-fn has_value(model: &Model, v: u16, value: u8) -> bool
+pub fn has_value(model: &Model, v: u16, value: u8) -> bool
     ensures { IsTrue result → HasValue model.now v value }
 {
     let variables = model.variables();

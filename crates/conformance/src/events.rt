@@ -1,0 +1,292 @@
+//! Lines of a script that are read by themselves, with observations pending and variables mirrored.
+
+use crate::parts::{Pairs, model_of, reader_of, seen};
+use cca_base::*;
+use model_syntax::ModelReader;
+use script_reader::{read_event, read_named_event};
+use std::alloc::Global;
+use std::test::*;
+
+/// A valve that sticks, with the driver that it needs, a sensor for the flow and one for heat, and a load that nothing senses.
+const SENSED_VALVE: &str = "titan 1
+component drv = off, on start off
+component valve = closed, open, stuck start closed
+var flow = none, some sensed
+var load = low, high
+var heat = low, high sensed
+rule flow = some iff valve = open
+move drv off -> on by drv_on when true
+move drv on -> off by drv_off when true
+move valve closed -> open by v_open when drv = on
+move valve open -> closed by v_close when drv = on
+repair valve stuck -> closed by v_reset when drv = on
+fail valve closed -> stuck cost 4
+fail valve open -> stuck cost 6";
+
+/// What a line is answered.
+#[derive(Clone, Copy)]
+enum Answer<'a> {
+    Nothing,
+    Goal(Pairs<'a>),
+    Clear,
+    Observe(Pairs<'a>),
+    Fault(u16, u8),
+    Mirror(u16),
+    Reset,
+    Tick,
+    Refused(u8),
+}
+
+fn are_pairs(pairs: &[Pair], wanted: Pairs<'_>) -> bool {
+    if pairs.len() != wanted.len() {
+        return false;
+    }
+    for i in 0..pairs.len() {
+        if (pairs[i].item, pairs[i].value) != wanted[i] {
+            return false;
+        }
+    }
+    true
+}
+
+fn is_event(event: &Event, wanted: Answer<'_>) -> bool {
+    match (event, wanted) {
+        (Event::Goal(pairs), Answer::Goal(wanted)) => are_pairs(pairs.as_slice(), wanted),
+        (Event::Observe(pairs), Answer::Observe(wanted)) => are_pairs(pairs.as_slice(), wanted),
+        (Event::Fault(pair), Answer::Fault(c, mode)) => pair.item == c && pair.value == mode,
+        (Event::Mirror(v), Answer::Mirror(wanted)) => *v == wanted,
+        (Event::Clear, Answer::Clear) | (Event::Reset, Answer::Reset) => true,
+        (Event::Tick, Answer::Tick) => true,
+        _ => false,
+    }
+}
+
+fn is_answer(read: &Result<Option<Event>, Stop>, wanted: Answer<'_>) -> bool {
+    match (read, wanted) {
+        (Ok(None), Answer::Nothing) => true,
+        (Ok(Some(event)), wanted) => is_event(event, wanted),
+        (Err(Stop::Refused(refusal)), Answer::Refused(code)) => refusal.code == code,
+        _ => false,
+    }
+}
+
+/// The set of these variables.
+fn set_of(variables: &[u16]) -> VarSet {
+    let mut set = VarSet::empty();
+    for v in variables {
+        if (*v as usize) < MAX_VARIABLES {
+            set = set.with(*v);
+        }
+    }
+    set
+}
+
+/// Whether the line is answered so.
+fn answers(
+    alloc: Global,
+    model: &Model,
+    pending: &Seen,
+    mirrored: VarSet,
+    row: (&str, Answer<'_>),
+) -> bool {
+    let read = read_event(alloc, row.0.as_bytes(), model, pending, mirrored);
+    is_answer(&read, row.1)
+}
+
+/// How many lines, from the first on, are answered as their rows say.
+fn rows_answered(
+    alloc: Global,
+    model: &Model,
+    pending: &Seen,
+    mirrored: VarSet,
+    rows: &[(&str, Answer<'_>)],
+) -> usize {
+    for i in 0..rows.len() {
+        if !answers(alloc, model, pending, mirrored, rows[i]) {
+            return i;
+        }
+    }
+    rows.len()
+}
+
+/// The same over the valve's model, with these values pending and these variables mirrored.
+fn valve_rows(
+    alloc: Global,
+    pending: Pairs<'_>,
+    mirrored: &[u16],
+    rows: &[(&str, Answer<'_>)],
+) -> Option<usize> {
+    let Some(model) = model_of(alloc, SENSED_VALVE) else {
+        return None;
+    };
+    match seen(alloc, &model, pending) {
+        Some(pending) => Some(rows_answered(alloc, &model, &pending, set_of(mirrored), rows)),
+        None => None,
+    }
+}
+
+#[test]
+fn each_form_is_an_event(rt: HostRuntime) {
+    let rows: [(&str, Answer<'_>); 14] = [
+        ("", Answer::Nothing),
+        (" \t", Answer::Nothing),
+        ("# goal valve = open", Answer::Nothing),
+        ("goal valve = open", Answer::Goal(&[(1, 1)])),
+        (
+            "goal valve=closed,drv=on # both",
+            Answer::Goal(&[(1, 0), (0, 1)]),
+        ),
+        ("clear", Answer::Clear),
+        ("observe heat = high", Answer::Observe(&[(2, 1)])),
+        (
+            "observe heat = low, flow = some",
+            Answer::Observe(&[(2, 0), (0, 1)]),
+        ),
+        ("fault drv = off", Answer::Fault(0, 0)),
+        ("fault valve = stuck", Answer::Fault(1, 2)),
+        ("mirror flow", Answer::Mirror(0)),
+        ("mirror heat", Answer::Mirror(2)),
+        ("reset", Answer::Reset),
+        ("\ttick", Answer::Tick),
+    ];
+    assert!(rt; valve_rows(rt.alloc(), &[], &[], &rows) == Some(14));
+}
+
+/// The lines of no form, and those whose names are unknown.
+#[test]
+fn a_malformed_line_comes_before_an_unknown_name(rt: HostRuntime) {
+    let rows: [(&str, Answer<'_>); 34] = [
+        ("trace", Answer::Refused(1)),
+        ("script", Answer::Refused(1)),
+        (";", Answer::Refused(1)),
+        ("goal", Answer::Refused(1)),
+        ("goal valve = stuck,", Answer::Refused(1)),
+        ("goal true = on", Answer::Refused(1)),
+        ("clear valve", Answer::Refused(1)),
+        ("observe drv", Answer::Refused(1)),
+        ("observe load = low high", Answer::Refused(1)),
+        ("observe heat = 07", Answer::Refused(1)),
+        ("fault pump = on, drv = on", Answer::Refused(1)),
+        ("fault drv = start", Answer::Refused(1)),
+        ("mirror flow, heat", Answer::Refused(1)),
+        ("mirror heat = high", Answer::Refused(1)),
+        ("reset,", Answer::Refused(1)),
+        ("tick 1", Answer::Refused(1)),
+        ("goal pump = on", Answer::Refused(2)),
+        ("goal valve = on", Answer::Refused(2)),
+        ("goal flow = some", Answer::Refused(2)),
+        ("goal valve = stuck, drv = stuck", Answer::Refused(2)),
+        ("goal drv = on, drv = on, pump = on", Answer::Refused(2)),
+        ("observe wind = low", Answer::Refused(2)),
+        ("observe drv = on", Answer::Refused(2)),
+        ("observe flow = low", Answer::Refused(2)),
+        ("observe load = low, flow = low", Answer::Refused(2)),
+        (
+            "observe flow = none, flow = none, flow = high",
+            Answer::Refused(2),
+        ),
+        ("fault pump = on", Answer::Refused(2)),
+        ("fault drv = stuck", Answer::Refused(2)),
+        ("fault flow = some", Answer::Refused(2)),
+        (
+            "fault a23456789012345678901234567890123 = on",
+            Answer::Refused(2),
+        ),
+        ("mirror wind", Answer::Refused(2)),
+        ("mirror valve", Answer::Refused(2)),
+        ("mirror open", Answer::Refused(2)),
+        (
+            "mirror a23456789012345678901234567890123",
+            Answer::Refused(2),
+        ),
+    ];
+    assert!(rt; valve_rows(rt.alloc(), &[(2, 1)], &[0, 2], &rows) == Some(34));
+}
+
+/// Heat is pending and mirrored, the flow is mirrored.
+#[test]
+fn codes_of_known_names_come_in_order(rt: HostRuntime) {
+    let rows: [(&str, Answer<'_>); 20] = [
+        ("observe load = low", Answer::Refused(13)),
+        ("mirror load", Answer::Refused(13)),
+        ("observe load = low, load = low", Answer::Refused(13)),
+        ("observe heat = low, load = low", Answer::Refused(13)),
+        ("observe flow = none, load = low", Answer::Refused(13)),
+        ("goal valve = stuck", Answer::Refused(14)),
+        ("goal drv = on, valve = stuck", Answer::Refused(14)),
+        ("goal valve = stuck, valve = stuck", Answer::Refused(14)),
+        (
+            "goal drv = on, drv = off, valve = stuck",
+            Answer::Refused(14),
+        ),
+        ("goal drv = on, drv = off", Answer::Refused(15)),
+        ("goal drv = on, valve = open, drv = on", Answer::Refused(15)),
+        ("observe heat = high", Answer::Refused(15)),
+        ("observe flow = none, heat = low", Answer::Refused(15)),
+        ("observe flow = none, flow = none", Answer::Refused(15)),
+        ("mirror heat", Answer::Refused(15)),
+        ("observe flow = none", Answer::Refused(16)),
+        ("mirror flow", Answer::Refused(16)),
+        ("fault valve = stuck", Answer::Fault(1, 2)),
+        ("goal valve = open", Answer::Goal(&[(1, 1)])),
+        ("reset", Answer::Reset),
+    ];
+    assert!(rt; valve_rows(rt.alloc(), &[(2, 1)], &[0, 2], &rows) == Some(20));
+}
+
+/// What is pending alone, or mirrored alone; and both for a variable that isn't sensed.
+#[test]
+fn pending_and_mirrored_variables_are_told_apart(rt: HostRuntime) {
+    let pending = [
+        ("observe flow = some", Answer::Refused(15)),
+        ("mirror flow", Answer::Refused(15)),
+        ("observe heat = low", Answer::Observe(&[(2, 0)])),
+        (
+            "observe heat = low, flow = none, heat = high",
+            Answer::Refused(15),
+        ),
+        ("mirror heat", Answer::Mirror(2)),
+    ];
+    let mirrored = [
+        ("observe flow = none", Answer::Refused(16)),
+        ("mirror flow", Answer::Refused(16)),
+        ("observe heat = low, flow = none", Answer::Refused(16)),
+        ("observe heat = low, heat = high", Answer::Refused(15)),
+        ("mirror heat", Answer::Mirror(2)),
+    ];
+    let unsensed = [
+        ("observe load = low", Answer::Refused(13)),
+        ("mirror load", Answer::Refused(13)),
+    ];
+    assert!(rt; valve_rows(rt.alloc(), &[(0, 0)], &[], &pending) == Some(5));
+    assert!(rt; valve_rows(rt.alloc(), &[], &[0], &mirrored) == Some(5));
+    assert!(rt; valve_rows(rt.alloc(), &[(1, 0)], &[1], &unsensed) == Some(2));
+}
+
+/// Whether the line is answered so by the map of the reader's names.
+fn named_answers(alloc: Global, reader: ModelReader, row: (&str, Answer<'_>)) -> bool {
+    let (model, names) = reader.finish_named();
+    let pending = Seen {
+        pairs: List::new(alloc),
+    };
+    let line = row.0.as_bytes();
+    let read = read_named_event(alloc, line, &model, &names, &pending, VarSet::empty());
+    is_answer(&read, row.1)
+}
+
+fn valve_answers_by_names(alloc: Global, row: (&str, Answer<'_>)) -> bool {
+    match reader_of(alloc, SENSED_VALVE) {
+        Some(reader) => named_answers(alloc, reader, row),
+        None => false,
+    }
+}
+
+#[test]
+fn names_are_found_by_the_map_too(rt: HostRuntime) {
+    let goal = (
+        "goal valve = open, drv = on",
+        Answer::Goal(&[(1, 1), (0, 1)]),
+    );
+    assert!(rt; valve_answers_by_names(rt.alloc(), goal));
+    assert!(rt; valve_answers_by_names(rt.alloc(), ("mirror load", Answer::Refused(13))));
+}
