@@ -1,10 +1,12 @@
 -- What repairs lead to: next modes, and mended modes.
-use Rattle.std.proofs.Common.{◌≡◌, ◌==◌, ◌&&◌, ℕ, zero, suc, true, false, List, Contains, refl, sym, subst}
+use Rattle.std.proofs.Common.{◌≡◌, ◌==◌, ◌&&◌, ◌<◌, ℕ, zero, suc, true, false, List, length, Contains, refl, subst}
 use Rattle.std.proofs.lemmas.Bool.{eq-eqb, eqb-true, both_ways, and_parts, and_from}
 use Rattle.std.proofs.lemmas.List.Elements.{All-contains}
-use Rattle.std.proofs.lemmas.List.Folds.{list_any-from_Any}
+use Rattle.std.proofs.lemmas.List.Folds.{list_any-from_Any, Any-from_list_any}
 use Rattle.cca_base.specs.declared.model.Move.{Move}
-use Rattle.cca_base.specs.Model.{is_broken, is_repair_of, IsNext, IsMended, RepairChain, RepairsFit}
+use Rattle.cca_base.specs.PlantModel.{PlantModel}
+use Rattle.cca_base.specs.Model.{WellFormed, IsMove, is_broken, is_repair_of, IsNext, IsMended, RepairChain, RepairsFit}
+use Rattle.cca_base.proofs.Within.{mode_within}
 
 pub repair_of : (c mode : ℕ) (move : Move) → move.repair ≡ true → move.component ≡ c → move.source ≡ mode → is_repair_of c mode move ≡ true
 repair_of c mode move repair own source =
@@ -47,3 +49,11 @@ module _ (moves : List Move) (fit : RepairsFit moves) where
   -- a mode has one mended mode
   pub one_mended : (c mode a b : ℕ) → IsMended moves c mode a → IsMended moves c mode b → a ≡ b
   one_mended c mode a b h k = fit.one_target c mode a b (next_of_mended c mode a h) (next_of_mended c mode b k)
+
+-- only a component of the model has a broken mode
+pub broken_within : (m : PlantModel) → WellFormed m → (c mode : ℕ) → is_broken m.moves c mode ≡ true → c < length m.components
+broken_within m good c mode h =
+    let some = Any-from_list_any (is_repair_of c mode) m.moves h in
+    let among : Contains m.moves some.1 = (some.0, some.2, some.3) in
+    subst (λ d. d < length m.components) (repair_parts c mode some.1 some.4).1
+    (mode_within m some.1.component some.1.source (All-contains (IsMove m) m.moves some.1 good.moves among).source)

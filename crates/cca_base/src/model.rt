@@ -2,10 +2,12 @@
 
 ghost use Rattle.std.specs.Prelude.{◌≡◌, ◌↔◌, [], ◌∷◌, ◌++◌, ◌-◌, ◌<◌, false, length, Contains, IfSome, IsNone, OnOk, OnErr, IsTrue};
 ghost use Rattle.cca_base.specs.Model.{WellFormed, IsMended, is_broken, is_used, empty_model, with_component, with_variable, with_rule, with_command, without_last_command, with_move, with_failure};
+ghost use Rattle.cca_base.specs.Repairs.{Mending};
 
 use crate::formula::Formula;
 use crate::list::List;
 use crate::name::Name;
+use crate::state::State;
 use std::alloc::{AllocError, Global};
 
 /// A part of the plant that stands in one of its modes.
@@ -253,6 +255,36 @@ impl Model {
             }
         }
         None
+    }
+
+    /// Whether the other mode is the mended mode of the component's mode. No component has a number past the last one.
+    fn mends(&self, component: usize, mode: u8, other: u8) -> bool
+        ensures { IsTrue result ↔ IsMended self.now.moves component mode other }
+    {
+        if component >= self.components().len() {
+            return false;
+        }
+        match self.mended(component as u16, mode) {
+            Some(mended) => mended == other,
+            None => false,
+        }
+    }
+
+    /// Whether each component stands in the second state as in the first, or was broken there and stands in its mended mode.
+    pub fn is_mending(&self, from: &State, to: &State) -> bool
+        ensures { IsTrue result ↔ Mending self.now from.now.modes to.now.modes }
+    {
+        if to.modes.len() != from.modes.len() {
+            return false;
+        }
+        for component in 0..from.modes.len() {
+            let mode = *from.modes.get(component);
+            let other = *to.modes.get(component);
+            if mode != other && !self.mends(component, mode, other) {
+                return false;
+            }
+        }
+        true
     }
 
     /// The component that a command moves.
