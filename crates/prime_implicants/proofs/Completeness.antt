@@ -1,15 +1,16 @@
 -- Blocked cubes make a row false.
-use Rattle.elimination.specs.Partial.{IsWithin, HasFrom, IsTotal}
-use Rattle.elimination.specs.DenseClauses.{fits, row_unfalsified, all_unfalsified, any_below, mentions}
+use Rattle.prime_implicants.specs.Partial.{IsWithin, HasFrom, IsTotal}
+use Rattle.prime_implicants.specs.DenseClauses.{fits, row_unfalsified, all_unfalsified, any_below, mentions}
 use Rattle.prime_implicants.specs.Found.{CoversAt, Covers, IsBlockedByRows}
 use Rattle.std.proofs.Common.{◌≡◌, ℕ, zero, suc, ◌<◌, ◌≤◌, Bool, true, false, not, cond, ◌&&◌, ◌||◌, eqb, List, [], ◌∷◌, length, Option, Some, None, refl, sym, ◌∙◌, ap, subst, arith, set, get_or, ◌⊎◌, inl, inr}
 use Rattle.std.specs.List.{filter}
 use Rattle.std.proofs.lemmas.Bool.{and_parts, eqb-true, not-false}
 use Rattle.cca_base.specs.Sets.{has}
 use Rattle.cca_base.proofs.SetLaws.{has-empty}
-use Rattle.elimination.proofs.DenseClauseLaws.{list_all-filter, list_all_implies, either_so}
-use Rattle.elimination.proofs.DenseClauseLaws.{length-within}
-use Rattle.elimination.proofs.ProjectionExact.{within-set, some_below}
+use Rattle.prime_implicants.proofs.DenseClauseLaws.{list_all-filter, list_all_implies, either_so}
+use Rattle.prime_implicants.proofs.DenseClauseLaws.{length-within}
+use Rattle.prime_implicants.proofs.PartialValueLaws.{within-set}
+use Rattle.prime_implicants.proofs.DenseClauseLaws.{some_below}
 
 -- ---- the cases of a subject's value
 
@@ -50,7 +51,7 @@ blocked-set sizes rows q k v e b a w t h = b a w t (extends-set a q k v e h)
 -- ---- rows that don't mention a subject
 
 -- a value of a subject that a row doesn't mention, where there was none
-row_unfalsified-other : (q : List (Option ℕ)) (row : List ℕ) (k v : ℕ) → get_or q k None ≡ None → mentions k row ≡ false → row_unfalsified (set q k (Some v)) row ≡ row_unfalsified q row
+pub row_unfalsified-other : (q : List (Option ℕ)) (row : List ℕ) (k v : ℕ) → get_or q k None ≡ None → mentions k row ≡ false → row_unfalsified (set q k (Some v)) row ≡ row_unfalsified q row
 row_unfalsified-other [] row k v e m = refl
 row_unfalsified-other (o ∷ q) [] zero v e m = refl
 row_unfalsified-other (o ∷ q) [] (suc k) v e m = refl
@@ -139,7 +140,7 @@ not_empty : (s v : ℕ) (b : Bool) → eqb s 0 ≡ b → has s v ≡ true → no
 not_empty s v true e h = let none : has s v ≡ false = ap (λ z. has z v) (eqb-true s 0 e) ∙ has-empty v in cc
 not_empty s v false e h = refl
 
-fits_wider : (o p : Option ℕ) (s : ℕ) → CoversAt o p → fits o s ≡ true → fits p s ≡ true
+pub fits_wider : (o p : Option ℕ) (s : ℕ) → CoversAt o p → fits o s ≡ true → fits p s ≡ true
 fits_wider o (Some v) s e h = ap (λ z. fits z s) (sym e) ∙ h
 fits_wider None None s e h = h
 fits_wider (Some v) None s e h = not_empty s v (eqb s 0) refl h

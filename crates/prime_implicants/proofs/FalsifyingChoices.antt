@@ -1,26 +1,21 @@
 -- Choices of values that make a row false.
-use Rattle.elimination.specs.Partial.{IsWithin, IsTotal}
-use Rattle.elimination.specs.DenseClauses.{fits, row_unfalsified, all_unfalsified}
-use Rattle.prime_implicants.specs.Found.{CoversAt, Covers, all_below, is_needed, IsFoundable, AgreesTo, IsChoice, IsChoiceFrom, IsBlockedByRows, IsPrimeByRows}
+use Rattle.prime_implicants.specs.Partial.{IsWithin, IsTotal}
+use Rattle.prime_implicants.specs.DenseClauses.{fits, row_unfalsified, all_unfalsified, is_zero}
+use Rattle.prime_implicants.specs.Found.{CoversAt, Covers, all_below, is_needed, IsFoundable, AgreesTo, IsChoice, IsChoiceFrom, IsBlockedByRows, IsPrimeByRows, Key, key_of}
 use Rattle.std.proofs.Common.{◌≡◌, ℕ, zero, suc, ◌+◌, ◌<◌, ◌≤◌, ◌≢◌, Bool, true, false, ◌&&◌, ◌||◌, eqb, List, [], ◌∷◌, length, Option, Some, None, refl, sym, ◌∙◌, ap, subst, arith, set, get_or, ◌⊎◌, inl, inr}
 use Rattle.std.specs.List.{list_all}
 use Rattle.std.specs.Option.{is_none}
 use Rattle.std.specs.Prelude.{MatchOption}
 use Rattle.std.proofs.Common.{get_or-set_other, get_or-set_same}
-use Rattle.elimination.proofs.DenseClauseLaws.{length-within}
+use Rattle.prime_implicants.proofs.DenseClauseLaws.{length-within}
 use mathlib.Core.Bool.{and-false}
 use Rattle.cca_base.specs.Sets.{has}
-use Rattle.elimination.proofs.PartialValueLaws.{within_nothing}
+use Rattle.prime_implicants.proofs.PartialValueLaws.{within_nothing}
 use Rattle.prime_implicants.proofs.Completeness.{all_unfalsified_wider, false_if, blocked_if, extends_self}
 use Rattle.std.proofs.lemmas.List.Folds.{list_all_at}
 use Rattle.std.proofs.lemmas.Bool.{not-false, or_parts, and_parts, eqb-true}
 use Rattle.std.proofs.lemmas.List.{ext_get_or}
 use Rattle.std.proofs.Common.{replicate}
-
-pub set_back : (q : List (Option ℕ)) (i : ℕ) → set (set q i None) i (get_or q i None) ≡ q
-set_back [] i = refl
-set_back (o ∷ q) zero = refl
-set_back (o ∷ q) (suc i) = ap (λ z. o ∷ z) (set_back q i)
 
 pub fails_below : (n : ℕ) (t : ℕ → Bool) (i : ℕ) → i < n → t i ≡ false → all_below n t ≡ false
 fails_below zero t i h e = absurd (omega arith)
@@ -90,11 +85,18 @@ agrees_extends (suc at) (o ∷ p) (s ∷ q) e a f =
 
 -- ---- the cases of `choose`
 
-pub whole : (sizes : List ℕ) (rows : List (List ℕ)) (at : ℕ) (p q : List (Option ℕ)) → IsWithin sizes q → IsFoundable sizes rows p → AgreesTo at q p
+whole : (sizes : List ℕ) (rows : List (List ℕ)) (at : ℕ) (p q : List (Option ℕ)) → IsWithin sizes q → IsFoundable sizes rows p → AgreesTo at q p
     → ((i : ℕ) → at ≤ i → i < length q → get_or q i None ≡ None) → all_unfalsified q rows ≡ false → p ≡ q
 whole sizes rows at p q w f a free blocked =
     let long : length p ≡ length q = length-within sizes p f.within ∙ sym (length-within sizes q w) in
     part_is_whole rows p q (agrees_extends at p q long a free) blocked f.minimal
+
+pub whole_found : (sizes : List ℕ) (rows : List (List ℕ)) (at : ℕ) (p q : List (Option ℕ)) → IsWithin sizes q → IsFoundable sizes rows p → AgreesTo at q p
+    → ((i : ℕ) → at ≤ i → i < length q → get_or q i None ≡ None) → all_unfalsified q rows ≡ false
+    → (t : Key → Bool) → (all_below (length q) (is_needed rows q) ≡ true → t (key_of q) ≡ true) → t (key_of p) ≡ true
+whole_found sizes rows at p q w f a free blocked t there =
+    let same : p ≡ q = whole sizes rows at p q w f a free blocked in
+    ap (λ z. t (key_of z)) same ∙ there (subst (λ z. all_below (length z) (is_needed rows z) ≡ true) same f.minimal)
 
 pub ended : (sizes : List ℕ) (rows : List (List ℕ)) (at : ℕ) (p q : List (Option ℕ)) → IsWithin sizes q → IsFoundable sizes rows p → length q ≤ at → AgreesTo at q p
     → all_unfalsified q rows ≡ true → ⊥
@@ -103,20 +105,22 @@ ended sizes rows at p q w f l a o =
     let same : p ≡ q = ext_get_or None p q long (λ i h. a i (omega arith)) in
     let no : all_unfalsified q rows ≡ false = subst (λ z. all_unfalsified z rows ≡ false) same f.refuted in cc
 
-one_more : (at : ℕ) (p q : List (Option ℕ)) → AgreesTo at q p → get_or p at None ≡ get_or q at None → AgreesTo (at + 1) q p
-one_more at p q a e i h =
-    let cases : (i < at) ⊎ (i ≡ at) = grind arith in
-    elim cases [ inl l ↦ a i l | inr s ↦ subst (λ z. get_or p z None ≡ get_or q z None) (sym s) e ]
-
 no_choice : (o : Option ℕ) (s : ℕ) → s ≡ 0 → IsChoice o s → o ≡ None
 no_choice None s e c = refl
 no_choice (Some v) s e c = absurd (c.0 e)
 
-pub step_empty : (at : ℕ) (row : List ℕ) (p q : List (Option ℕ)) → get_or row at 0 ≡ 0 → at < length p → get_or q at None ≡ None → AgreesTo at q p → IsChoiceFrom at row p → AgreesTo (at + 1) q p
-step_empty at row p q e l free a c = one_more at p q a (no_choice (get_or p at None) (get_or row at 0) e (c at (omega arith) l) ∙ sym free)
+-- p has no value of the subjects that the row doesn't name, as q
+pub agrees_to_next : (at x : ℕ) (row : List ℕ) (p q : List (Option ℕ)) → x ≤ length p → length p ≡ length q → ((i : ℕ) → at ≤ i → i < x → is_zero i row ≡ true)
+    → ((i : ℕ) → at ≤ i → i < length q → get_or q i None ≡ None) → AgreesTo at q p → IsChoiceFrom at row p → AgreesTo x q p
+agrees_to_next at x row p q h long unnamed free a c i l =
+    let cases : (i < at) ⊎ (at ≤ i) = grind arith in
+    elim cases [
+      | inl k ↦ a i k
+      | inr k ↦ no_choice (get_or p i None) (get_or row i 0) (eqb-true (get_or row i 0) 0 (unnamed i k l)) (c i k (omega arith)) ∙ sym (free i k (omega arith))
+    ]
 
-pub later : (at : ℕ) (row : List ℕ) (p : List (Option ℕ)) → IsChoiceFrom at row p → IsChoiceFrom (at + 1) row p
-later at row p c i h l = c i (omega arith) l
+pub later : (at x : ℕ) (row : List ℕ) (p : List (Option ℕ)) → at ≤ x → IsChoiceFrom at row p → IsChoiceFrom x row p
+later at x row p h c i k l = c i (omega arith) l
 
 -- a choice from a set that has members
 pub chosen : (o : Option ℕ) (s : ℕ) → s ≢ 0 → IsChoice o s → (v : ℕ) × (o ≡ Some v) × (has s v ≡ false)
@@ -155,6 +159,14 @@ set_none (suc at) v (o ∷ q) e = ap (λ z. o ∷ z) (set_none at v q e)
 
 pub nothing_within : (sizes : List ℕ) (q : List (Option ℕ)) → q ≡ replicate (length sizes) None → IsWithin sizes q
 nothing_within sizes q e = subst (IsWithin sizes) (sym e) (within_nothing sizes)
+
+nothing_at : (n i : ℕ) → let none : List (Option ℕ) = replicate n None in get_or none i None ≡ None
+nothing_at zero i = refl
+nothing_at (suc n) zero = refl
+nothing_at (suc n) (suc i) = nothing_at n i
+
+pub nothing_free : (n : ℕ) (q : List (Option ℕ)) → q ≡ replicate n None → (i : ℕ) → 0 ≤ i → i < length q → get_or q i None ≡ None
+nothing_free n q e i h k = ap (λ z. get_or z i None) e ∙ nothing_at n i
 
 fits_at : (p : List (Option ℕ)) (r : List ℕ) (i : ℕ) → length r ≡ length p → i < length p → row_unfalsified p r ≡ false → fits (get_or p i None) (get_or r i 0) ≡ false
 fits_at [] r i e h o = absurd (omega arith)

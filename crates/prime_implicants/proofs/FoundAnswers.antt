@@ -10,8 +10,8 @@ use Rattle.list_laws.proofs.Elements.{contains_map}
 use Rattle.cca_base.specs.declared.cube.Pair.{Pair}
 use Rattle.cca_base.proofs.Members.{all_from, contains_cases, contains_here, contains_there, contains_none}
 use Rattle.clause_form.specs.declared.clause.Clauses.{Clauses}
-use Rattle.elimination.specs.DenseClauses.{all_unfalsified, row_unfalsified, is_zero}
-use Rattle.elimination.proofs.DenseClauseLaws.{list_all_get}
+use Rattle.prime_implicants.specs.DenseClauses.{all_unfalsified, row_unfalsified, is_zero}
+use Rattle.prime_implicants.proofs.DenseClauseLaws.{list_all_get}
 use Rattle.prime_implicants.specs.Found.{IsFoundable, is_needed, Key, key_from, key_of, all_keys, pairs_of_key, are_listed_from, is_proper, cubes_of_keys, AreOrdered, AreMany}
 use Rattle.prime_implicants.specs.Primes.{IsPrime, AreAllPrimes, AreMorePrimes}
 use Rattle.prime_implicants.proofs.FalsifyingChoices.{AreComplete, prime_if, found_if, below_size, passes_below, find_false, row_unfalsified-drop}

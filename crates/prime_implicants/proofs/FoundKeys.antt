@@ -13,9 +13,9 @@ use Rattle.std.proofs.lemmas.Bool.{and_parts, eqb-true, ltb-true, not-true, or_l
 use Rattle.cca_base.specs.declared.cube.Pair.{Pair}
 use Rattle.cca_base.specs.Cube.{IsBeforeCube, AreInCubeOrder, cube_cmp, pair_cmp}
 use Rattle.cca_base.proofs.Members.{all_from, contains_cases, contains_here, contains_there, contains_none}
-use Rattle.elimination.specs.Partial.{IsWithin}
-use Rattle.elimination.specs.DenseClauses.{all_unfalsified}
-use Rattle.elimination.proofs.DenseClauseLaws.{length-within, list_all_get}
+use Rattle.prime_implicants.specs.Partial.{IsWithin}
+use Rattle.prime_implicants.specs.DenseClauses.{all_unfalsified}
+use Rattle.prime_implicants.proofs.DenseClauseLaws.{length-within, list_all_get}
 use Rattle.prime_implicants.specs.Found.{IsFoundable, all_below, is_needed, Key, key_from, key_of, all_keys, pairs_listed, pairs_of_key, cubes_of_keys, AreOrdered}
 use Rattle.prime_implicants.proofs.PartialPairs.{pair_of, given_pairs, values_in, length-values_in, matches_values, matches_given, rising_given, rising_agree, partial_same, some_inside}
 

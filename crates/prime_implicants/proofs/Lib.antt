@@ -1,5 +1,10 @@
+pub mod DenseClauseLaws
+pub mod PartialValueLaws
+pub mod PureSubjects
 pub mod FalsifyingChoices
 pub mod Completeness
+pub mod NamedRows
+pub mod NeededValues
 pub mod KeySets
 pub mod PartialPairs
 pub mod ListedPairs

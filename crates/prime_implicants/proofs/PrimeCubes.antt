@@ -8,10 +8,10 @@ use Rattle.cca_base.specs.Cube.{IsPart}
 use Rattle.cca_base.proofs.Members.{all_from}
 use Rattle.clause_form.specs.declared.clause.Clauses.{Clauses}
 use Rattle.clause_form.specs.Clauses.{all_met}
-use Rattle.elimination.specs.Partial.{IsWithin, given}
-use Rattle.elimination.specs.DenseClauses.{all_unfalsified}
-use Rattle.elimination.proofs.DenseClauseLaws.{length-within}
-use Rattle.elimination.proofs.PartialValueLaws.{within_values, values_given, total_given, given_of, length_given}
+use Rattle.prime_implicants.specs.Partial.{IsWithin, given}
+use Rattle.prime_implicants.specs.DenseClauses.{all_unfalsified}
+use Rattle.prime_implicants.proofs.DenseClauseLaws.{length-within}
+use Rattle.prime_implicants.proofs.PartialValueLaws.{within_values, values_given, total_given, given_of, length_given}
 use Rattle.prime_implicants.specs.Found.{Covers, IsBlockedByRows, IsPrimeByRows}
 use Rattle.prime_implicants.specs.Primes.{IsBlocked, IsPrime}
 use Rattle.prime_implicants.proofs.FalsifyingChoices.{below_size, same_length}

@@ -9,8 +9,8 @@ use Rattle.std.specs.List.{list_all}
 use Rattle.cca_base.specs.declared.limits.TheConstants.{MAX_ROWS}
 use Rattle.cca_base.specs.Sets.{has}
 use Rattle.cca_base.specs.declared.cube.Pair.{Pair}
-use Rattle.elimination.specs.Partial.{IsTotal, IsWithin}
-use Rattle.elimination.specs.DenseClauses.{all_unfalsified}
+use Rattle.prime_implicants.specs.Partial.{IsTotal, IsWithin}
+use Rattle.prime_implicants.specs.DenseClauses.{all_unfalsified, mentions}
 
 -- the first has the second's value, if it has one
 abbrev pub CoversAt : Option ℕ → Option ℕ → Type 0
@@ -42,6 +42,10 @@ all_below (suc n) test = all_below n test && test n
 -- the subject has no value, or all rows may be true without it
 abbrev pub is_needed : List (List ℕ) → List (Option ℕ) → ℕ → Bool
 is_needed rows q i = is_none (slice_index_or q i None) || all_unfalsified (slice_set q i None) rows
+
+-- the row names each subject that has a value
+abbrev pub names_all : List (Option ℕ) → List ℕ → Bool
+names_all q row = all_below (length q) (λ i. is_none (slice_index_or q i None) || mentions i row)
 
 -- in range, with a row that is false, and each value needed
 pub record IsFoundable (sizes : List ℕ) (rows : List (List ℕ)) (q : List (Option ℕ)) : Type 0 where

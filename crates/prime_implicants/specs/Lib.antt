@@ -1,2 +1,4 @@
+pub mod DenseClauses
 pub mod Found
+pub mod Partial
 pub mod Primes

@@ -1,15 +1,15 @@
 //! Partial values that falsify some clause, chosen literal by literal.
 
-ghost use Rattle.std.specs.Prelude.{◌≡◌, ℕ, Bool, true, ◌<◌, ◌≤◌, length, OnOk, IfOk, IfSome, MatchOption, None, replicate, slice_index_or};
+ghost use Rattle.std.specs.Prelude.{◌≡◌, ℕ, Bool, true, ◌+◌, ◌<◌, ◌≤◌, length, OnOk, IfOk, IfSome, MatchOption, None, filter, replicate, slice_index_or};
 ghost use Rattle.std.specs.List.{list_all};
 ghost use Rattle.std.specs.BTreeSet.{btree_set_len};
-ghost use Rattle.elimination.specs.Partial.{IsWithin, Partial};
-ghost use Rattle.elimination.specs.DenseClauses.{is_wide};
+ghost use Rattle.prime_implicants.specs.Partial.{IsWithin, Partial};
+ghost use Rattle.prime_implicants.specs.DenseClauses.{all_unfalsified, is_wide, is_zero};
 ghost use Rattle.prime_implicants.specs.Found.{AgreesTo, AreMany, AreOrdered, IsChoiceFrom, IsFoundable, Key, all_keys, key_of};
 
+use crate::dense_clause::{DenseClause, are_named_unfalsified, are_unfalsified, next_named};
 use crate::found::Found;
 use crate::minimal::add_minimal;
-use elimination::{DenseClause, are_unfalsified};
 use std::alloc::{AllocError, Global};
 use std::collections::BTreeSet;
 
@@ -63,8 +63,21 @@ fn choose_row(
         → IsFoundable sizes.now rows.now p → IsChoiceFrom 0 row.now p
         → (t : Key → Bool) → all_keys t found.new.keys ≡ true → t (key_of p) ≡ true) }
 {
-    let mut q = nothing(alloc, sizes.len())?;
-    choose(alloc, sizes, rows, row, 0, q.as_mut_slice(), found, most)?;
+    let mut partial = nothing(alloc, sizes.len())?;
+    if !are_unfalsified(partial.as_slice(), rows) {
+        add_minimal(alloc, rows, partial.as_slice(), found)?;
+        return Ok(());
+    }
+    choose(
+        alloc,
+        sizes,
+        rows,
+        row,
+        0,
+        partial.as_mut_slice(),
+        found,
+        most,
+    )?;
     Ok(())
 }
 
@@ -74,7 +87,8 @@ fn nothing(alloc: Global, n: usize) -> Result<Vec<Option<u8>>, AllocError>
     vec![in alloc; None; n]
 }
 
-// Adds the minimal ones that have the values of `q` and from `at` on make the row false and no more.
+// Adds the minimal ones that have the values of `partial` and from `at` on make the row false and no more.
+#[cycle(choosing)]
 fn choose(
     alloc: Global,
     sizes: &[u8],
@@ -89,6 +103,7 @@ fn choose(
     requires within { IsWithin sizes.now partial.old }
     requires wide { length row.now ≡ length partial.old }
     requires free { (i : ℕ) → at ≤ i → i < length partial.old → slice_index_or partial.old i None ≡ None }
+    requires unfalsified { all_unfalsified partial.old rows.now ≡ true }
     ensures same { OnOk result (partial.new ≡ partial.old) }
     ensures sound { OnOk result ((t : Key → Bool) → all_keys t found.old.keys ≡ true
         → ((p : Partial) → IsFoundable sizes.now rows.now p → t (key_of p) ≡ true)
@@ -99,23 +114,51 @@ fn choose(
         → IsFoundable sizes.now rows.now p → AgreesTo at partial.old p → IsChoiceFrom at row.now p
         → (t : Key → Bool) → all_keys t found.new.keys ≡ true → t (key_of p) ≡ true) }
 {
-    if !are_unfalsified(partial, rows) {
+    let x = next_named(row, at);
+    if x == partial.len() {
+        return Ok(());
+    }
+    for v in 0..sizes[x] {
+        if !row.get(x).has(v) && found.len() <= most {
+            partial[x] = Some(v);
+            choose_after(alloc, sizes, rows, row, x, partial, found, most)?;
+            partial[x] = None;
+        }
+    }
+    Ok(())
+}
+
+// The same once the subject `x` has its value, with which only rows that name it may have become false.
+#[cycle(choosing)]
+fn choose_after(
+    alloc: Global,
+    sizes: &[u8],
+    rows: &[DenseClause],
+    row: &DenseClause,
+    x: usize,
+    partial: &mut [Option<u8>],
+    found: &mut Found,
+    most: usize,
+) -> Result<(), AllocError>
+    requires subject { x < length partial.old }
+    requires within { IsWithin sizes.now partial.old }
+    requires wide { length row.now ≡ length partial.old }
+    requires free { (i : ℕ) → x + 1 ≤ i → i < length partial.old → slice_index_or partial.old i None ≡ None }
+    requires others { all_unfalsified partial.old (filter (is_zero x) rows.now) ≡ true }
+    ensures same { OnOk result (partial.new ≡ partial.old) }
+    ensures sound { OnOk result ((t : Key → Bool) → all_keys t found.old.keys ≡ true
+        → ((p : Partial) → IsFoundable sizes.now rows.now p → t (key_of p) ≡ true)
+        → all_keys t found.new.keys ≡ true) }
+    ensures grown { OnOk result ((t : Key → Bool) → all_keys t found.new.keys ≡ true
+        → all_keys t found.old.keys ≡ true) }
+    ensures found { OnOk result (btree_set_len found.new ≤ most → (p : Partial)
+        → IsFoundable sizes.now rows.now p → AgreesTo (x + 1) partial.old p → IsChoiceFrom (x + 1) row.now p
+        → (t : Key → Bool) → all_keys t found.new.keys ≡ true → t (key_of p) ≡ true) }
+{
+    if !are_named_unfalsified(partial, rows, x) {
         add_minimal(alloc, rows, partial, found)?;
         return Ok(());
     }
-    if at == partial.len() {
-        return Ok(());
-    }
-    if row.get(at).is_empty() {
-        choose(alloc, sizes, rows, row, at + 1, partial, found, most)?;
-        return Ok(());
-    }
-    for v in 0..sizes[at] {
-        if !row.get(at).has(v) && found.len() <= most {
-            partial[at] = Some(v);
-            choose(alloc, sizes, rows, row, at + 1, partial, found, most)?;
-            partial[at] = None;
-        }
-    }
+    choose(alloc, sizes, rows, row, x + 1, partial, found, most)?;
     Ok(())
 }

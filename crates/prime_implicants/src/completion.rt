@@ -3,11 +3,14 @@
 ghost use Rattle.std.specs.Prelude.{◌≡◌, ℕ, true, false, ◌≤◌, ◌<◌, ◌&&◌, length, OnOk, All, Some, slice_set, slice_index, filter};
 ghost use Rattle.std.specs.List.{list_all};
 ghost use Rattle.cca_base.specs.declared.limits.TheConstants.{MAX_CHOICES};
-ghost use Rattle.elimination.specs.Partial.{IsTotal, IsWithin, Partial};
-ghost use Rattle.elimination.specs.DenseClauses.{all_unfalsified, any_below, is_wide, is_zero, mentions};
+ghost use Rattle.prime_implicants.specs.Partial.{IsTotal, IsWithin, Partial};
+ghost use Rattle.prime_implicants.specs.DenseClauses.{all_unfalsified, any_below, is_wide, is_zero, mentions};
 ghost use Rattle.prime_implicants.specs.Found.{IsBlockedByRows};
 
-use elimination::{DenseClause, add_all, gather, naming};
+use crate::dense_clause::DenseClause;
+use crate::dense_clauses::{add_all, naming};
+use crate::gathering::gather;
+use crate::purity::is_pure;
 use std::alloc::{AllocError, Global};
 
 /// Adds rows that follow from the others until each blocked cube makes one false.
@@ -46,6 +49,9 @@ fn saturate(
         ≡ (all_unfalsified q rows.old.items && any_below (slice_index sizes.now x) (λ v.
         all_unfalsified (slice_set q x (Some v)) (filter (mentions x) rows.old.items)))) }
 {
+    if is_pure(sizes[x], rows.as_slice(), x) {
+        return Ok(());
+    }
     let with = naming(alloc, rows.as_slice(), x)?;
     let more = gather(alloc, sizes, with.as_slice(), x)?;
     add_all(alloc, sizes.len(), rows, more.as_slice())?;

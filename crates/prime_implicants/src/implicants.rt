@@ -8,8 +8,8 @@ use crate::answer::Primes;
 use crate::choices::all_minimal;
 use crate::completion::complete;
 use crate::cubes::cubes_of;
+use crate::rows::least_rows_of;
 use clause_form::Clauses;
-use elimination::least_rows_of;
 use std::alloc::{AllocError, Global};
 
 /// All minimal cubes over the clauses' subjects that no values meeting all clauses extend, in cube order; or `More`,

@@ -6,9 +6,14 @@ mod answer;
 mod choices;
 mod completion;
 mod cubes;
+mod dense_clause;
+mod dense_clauses;
 mod found;
+mod gathering;
 mod implicants;
 mod minimal;
+mod purity;
+mod rows;
 
 pub use answer::Primes;
 pub use implicants::primes;

@@ -1,7 +1,7 @@
-use Rattle.elimination.specs.DenseClauses.{is_wide, row_unfalsified}
+use Rattle.prime_implicants.specs.DenseClauses.{is_wide, row_unfalsified}
 use Rattle.prime_implicants.specs.Found.{IsChoiceFrom}
 use Rattle.std.proofs.Common.{rules, arith, length, ◌≡◌, ◌<◌, ◌≤◌, ◌⊎◌, inl, inr, ap, sym, subst, ◌∙◌, false, get_or, []}
-use Rattle.elimination.proofs.DenseClauseLaws.{list_all_get, length-within}
+use Rattle.prime_implicants.proofs.DenseClauseLaws.{list_all_get, length-within}
 use Rattle.prime_implicants.proofs.FalsifyingChoices.{is_choice, find_false}
 use Rattle.std.specs.BTreeSet.{btree_set_len}
 use Rattle.std.proofs.lemmas.List.{get_or_read}

@@ -1,5 +1,5 @@
-use Rattle.elimination.specs.Partial.{Partial}
-use Rattle.elimination.specs.DenseClauses.{row_unfalsified}
+use Rattle.prime_implicants.specs.Partial.{Partial}
+use Rattle.prime_implicants.specs.DenseClauses.{row_unfalsified}
 use Rattle.prime_implicants.specs.Found.{IsFoundable, Key, key_of, all_keys}
 use Rattle.std.proofs.Common.{◌≡◌, ℕ, Bool, true, false, ◌<◌, ◌≤◌, get_or, []}
 use Rattle.std.specs.BTreeSet.{btree_set_len}

@@ -1,5 +1,5 @@
 use Rattle.std.proofs.Common.{refl, arith, ◌∙◌, add-one}
-use Rattle.elimination.proofs.DenseClauseLaws.{length-within}
+use Rattle.prime_implicants.proofs.DenseClauseLaws.{length-within}
 use Rattle.prime_implicants.proofs.Completeness.{start, complete_step, same_step, from_end, IsClosed}
 use Rattle.prime_implicants.proofs.completion.complete.Goals as goal
 

@@ -1,5 +1,5 @@
-use Rattle.elimination.specs.Partial.{IsWithin, Partial, IsTotal, HasFrom}
-use Rattle.elimination.specs.DenseClauses.{all_unfalsified, is_wide, is_zero}
+use Rattle.prime_implicants.specs.Partial.{IsWithin, Partial, IsTotal, HasFrom}
+use Rattle.prime_implicants.specs.DenseClauses.{all_unfalsified, is_wide, is_zero}
 use Rattle.prime_implicants.specs.Found.{IsBlockedByRows}
 use Rattle.std.proofs.Common.{◌≡◌, ℕ, true, false, length}
 use Rattle.std.specs.List.{list_all}
