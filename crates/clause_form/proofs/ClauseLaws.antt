@@ -20,7 +20,7 @@ and_true : (a : Bool) → (a && (true && true)) ≡ a
 and_true true = refl
 and_true false = refl
 
-or_swap : (a b c : Bool) → ((a || b) || c) ≡ ((a || c) || b)
+pub or_swap : (a b c : Bool) → ((a || b) || c) ≡ ((a || c) || b)
 or_swap true b c = refl
 or_swap false true true = refl
 or_swap false true false = refl
@@ -43,6 +43,22 @@ met_both xs literals i one more both h is same subject values =
     (subst (λ (l : Literal). is_true xs both ≡ (is_true xs l || is_true xs more)) is
     (ap (λ s. has both.values (slice_index xs s)) subject
     ∙ (values (slice_index xs one.subject) ∙ ap (λ s. has one.values (slice_index xs one.subject) || has more.values (slice_index xs s)) same)))
+
+-- one more clause of several that one literal list is put into
+pub row_step : (k o a b : Bool) → ((k && (o || a)) && (o || b)) ≡ (k && (o || (a && b)))
+row_step false o a b = refl
+row_step true true a b = refl
+row_step true false a b = refl
+
+-- one more of several clauses that others are put into
+pub rows_step : (a b all : Bool) → ((a || all) && (b || all)) ≡ ((a && b) || all)
+rows_step true true all = refl
+rows_step true false false = refl
+rows_step true false true = refl
+rows_step false true true = refl
+rows_step false true false = refl
+rows_step false false true = refl
+rows_step false false false = refl
 
 -- ---- a list of clauses that keeps some of those gone through
 

@@ -1,3 +1,5 @@
 pub mod ClauseLaws
+pub mod ConditionedClauses
+pub mod MergedLiterals
 pub mod Subjects
 pub mod ModelSizes

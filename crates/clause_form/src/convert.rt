@@ -8,7 +8,7 @@ ghost use Rattle.clause_form.specs.Clauses.{AreValues, all_met, AllBelow};
 ghost use Rattle.clause_form.specs.Formulas.{subject_number, Means, MeansAmong};
 
 use crate::clause::{Clause, Literal};
-use crate::join::{join, with_clause};
+use crate::combination::{combined, with_clause};
 use cca_base::{Formula, List, Subject, ValueSet};
 use std::alloc::{AllocError, Global};
 
@@ -125,7 +125,7 @@ pub fn clauses_where(
             let mut out = constant(alloc, wanted)?;
             for part in parts.as_slice() {
                 let more = clauses_where(alloc, components, sizes, part, wanted)?;
-                out = join(alloc, sizes, wanted, &out, &more)?;
+                out = combined(alloc, sizes, wanted, &out, &more)?;
             }
             Ok(out)
         }
@@ -133,23 +133,23 @@ pub fn clauses_where(
             let mut out = constant(alloc, !wanted)?;
             for part in parts.as_slice() {
                 let more = clauses_where(alloc, components, sizes, part, wanted)?;
-                out = join(alloc, sizes, !wanted, &out, &more)?;
+                out = combined(alloc, sizes, !wanted, &out, &more)?;
             }
             Ok(out)
         }
         Formula::Implies(a, b) => {
             let first = clauses_where(alloc, components, sizes, a.get(), !wanted)?;
             let second = clauses_where(alloc, components, sizes, b.get(), wanted)?;
-            join(alloc, sizes, !wanted, &first, &second)
+            combined(alloc, sizes, !wanted, &first, &second)
         }
         Formula::Iff(a, b) => {
             let without = clauses_where(alloc, components, sizes, a.get(), false)?;
             let same = clauses_where(alloc, components, sizes, b.get(), wanted)?;
-            let one = join(alloc, sizes, false, &without, &same)?;
+            let one = combined(alloc, sizes, false, &without, &same)?;
             let with = clauses_where(alloc, components, sizes, a.get(), true)?;
             let other = clauses_where(alloc, components, sizes, b.get(), !wanted)?;
-            let two = join(alloc, sizes, false, &with, &other)?;
-            join(alloc, sizes, true, &one, &two)
+            let two = combined(alloc, sizes, false, &with, &other)?;
+            combined(alloc, sizes, true, &one, &two)
         }
     }
 }

@@ -5,6 +5,7 @@ ghost use Rattle.cca_base.specs.declared.limits.TheConstants.{MAX_CHOICES};
 ghost use Rattle.clause_form.specs.Clauses.{AreValues, is_true, is_met, AreBelow};
 
 use crate::clause::Literal;
+use crate::literals::skip;
 use cca_base::ValueSet;
 
 /// Whether the second is of the same subject, and has the first one's values.
@@ -14,24 +15,18 @@ fn is_part(one: &Literal, other: &Literal) -> bool
     one.subject == other.subject && one.values.is_within(other.values)
 }
 
-/// Whether one of the literals is true wherever this one is.
-fn covers(literals: &[Literal], literal: &Literal) -> bool
-    ensures { IsTrue result → (xs : List ℕ) → IsTrue (is_true xs literal.now) → IsTrue (is_met xs literals.now) }
-{
-    for other in literals {
-        if is_part(literal, other) {
-            return true;
-        }
-    }
-    false
-}
-
-/// Whether the narrow clause subsumes the wide one, which is then true wherever the narrow one is.
-pub fn subsumes(narrow: &[Literal], wide: &[Literal]) -> bool
+/// Whether the narrow clause subsumes the wide one, which is then true wherever the narrow one is. Both are gone through
+/// once, in the order of subjects; a clause that isn't in this order may be missed.
+pub(crate) fn subsumes(narrow: &[Literal], wide: &[Literal]) -> bool
     ensures { IsTrue result → (xs : List ℕ) → IsTrue (is_met xs narrow.now) → IsTrue (is_met xs wide.now) }
 {
+    if narrow.len() > wide.len() {
+        return false;
+    }
+    let mut at = 0;
     for literal in narrow {
-        if !covers(wide, literal) {
+        at = skip(wide, at, literal.subject);
+        if at >= wide.len() || !is_part(literal, &wide[at]) {
             return false;
         }
     }
@@ -39,7 +34,7 @@ pub fn subsumes(narrow: &[Literal], wide: &[Literal]) -> bool
 }
 
 /// Whether some literal has every value of its subject.
-pub fn is_always_met(sizes: &[u8], literals: &[Literal]) -> bool
+pub(crate) fn is_always_met(sizes: &[u8], literals: &[Literal]) -> bool
     requires few { All (λ n. n ≤ MAX_CHOICES) sizes.now }
     requires below { AreBelow (length sizes.now) literals.now }
     ensures { IsTrue result → (xs : List ℕ) → AreValues sizes.now xs → IsTrue (is_met xs literals.now) }

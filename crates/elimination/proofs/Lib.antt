@@ -1,5 +1,5 @@
-pub mod ProjectionExact
-pub mod DenseClauseLaws
-pub mod PartialValueLaws
-pub mod Projected
-pub mod SubjectProjected
+mod SomeValue
+mod OtherSubjects
+mod Projecting
+mod SubjectProjected
+pub mod KeptSubjects

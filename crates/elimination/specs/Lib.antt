@@ -1,3 +1,1 @@
-pub mod Partial
 pub mod Projection
-pub mod DenseClauses

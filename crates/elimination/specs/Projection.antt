@@ -1,10 +1,10 @@
 -- Subjects projected away.
-use Rattle.std.specs.Prelude.{◌≡◌, ◌<◌, ℕ, true, IsTrue, ◌↔◌, ◌++◌, List, Some, length, take, drop, slice_index, slice_set}
-use Rattle.std.specs.List.{list_all}
+use Rattle.std.specs.Prelude.{◌≡◌, ◌==◌, ◌<◌, ◌≤◌, ◌⊎◌, ℕ, Bool, false, IsTrue, ◌↔◌, ◌++◌, List, All, length, take, drop, slice_index, slice_set}
+use Rattle.std.specs.List.{list_any}
+use Rattle.cca_base.specs.Flags.{IsSet, is_set}
+use Rattle.clause_form.specs.declared.clause.Clause.{Clause}
 use Rattle.clause_form.specs.declared.clause.Clauses.{Clauses}
-use Rattle.clause_form.specs.Clauses.{AreValues, all_met}
-use Rattle.elimination.specs.Partial.{Partial, IsWithin}
-use Rattle.elimination.specs.DenseClauses.{all_unfalsified, any_below, fix_row, is_wide, is_zero}
+use Rattle.clause_form.specs.Clauses.{AllBelow, AreValues, all_met}
 
 -- with some values of the subjects from keep on, all clauses are true
 abbrev pub CanBeMet : Clauses → ℕ → List ℕ → Type 0
@@ -14,13 +14,41 @@ CanBeMet all keep xs = (ys : List ℕ) × AreValues (drop keep all.sizes) ys × 
 abbrev pub IsProjection : Clauses → ℕ → Clauses → Type 0
 IsProjection all keep kept = (xs : List ℕ) → AreValues (take keep all.sizes) xs → IsTrue (all_met xs kept.clauses) ↔ CanBeMet all keep xs
 
--- the new rows don't name x, nor another that the old ones don't name, and may be true exactly where some value of x lets the old ones be true
-pub record Projects (sizes : List ℕ) (x : ℕ) (old new : List (List ℕ)) : Type 0 where
-  pub wide : list_all (is_wide (length sizes)) new ≡ true
-  pub zero : (y : ℕ) → list_all (λ row. is_zero y (fix_row x row)) old ≡ true → list_all (is_zero y) new ≡ true
-  pub unfalsified : (q : Partial) → IsWithin sizes q → all_unfalsified q new ≡ any_below (slice_index sizes x) (λ v. all_unfalsified (slice_set q x (Some v)) old)
-
 -- true exactly where some value of the subject makes all of the first clauses true
 abbrev pub IsWithout : Clauses → ℕ → Clauses → Type 0
 IsWithout all x rest = (xs : List ℕ) → AreValues all.sizes xs
     → IsTrue (all_met xs rest.clauses) ↔ ((v : ℕ) × (v < slice_index all.sizes x) × IsTrue (all_met (slice_set xs x v) all.clauses))
+
+-- a subject from keep on that isn't marked
+pub record IsLeft (sizes : List ℕ) (keep : ℕ) (marks : List Bool) (x : ℕ) : Type 0 where
+  pub above : keep ≤ x
+  pub below : x < length sizes
+  pub unmarked : is_set marks x ≡ false
+
+-- a subject below keep, or a marked one
+abbrev pub IsDone : ℕ → List Bool → ℕ → Type 0
+IsDone keep marks x = (x < keep) ⊎ IsSet marks x
+
+-- each subject that a clause names is below keep or marked
+abbrev pub AreAllDone : ℕ → List Bool → List Clause → Type 0
+AreAllDone keep marks clauses = All (λ clause. All (λ literal. IsDone keep marks literal.subject) clause.literals) clauses
+
+-- the second values are the first but at marked subjects
+abbrev pub DifferAtMarks : List Bool → List ℕ → List ℕ → Type 0
+DifferAtMarks marks xs ys = (x : ℕ) → is_set marks x ≡ false → slice_index ys x ≡ slice_index xs x
+
+-- the new clauses are true exactly where other values of the marked subjects make all of the old ones true
+abbrev pub IsProjectedSoFar : List ℕ → List Bool → List Clause → List Clause → Type 0
+IsProjectedSoFar sizes marks old new = (xs : List ℕ) → AreValues sizes xs
+    → IsTrue (all_met xs new) ↔ ((ys : List ℕ) × AreValues sizes ys × DifferAtMarks marks xs ys × IsTrue (all_met ys old))
+
+-- the new clauses are over the subjects below keep, and true exactly where other values of some of those from keep on make all of the old ones true
+pub record AreProjected (sizes : List ℕ) (keep : ℕ) (old new : List Clause) : Type 0 where
+  pub marks : List Bool
+  pub above : (x : ℕ) → IsSet marks x → keep ≤ x
+  pub exact : IsProjectedSoFar sizes marks old new
+  pub below : AllBelow keep new
+
+-- a subject from keep on has no value
+abbrev pub has_empty : List ℕ → ℕ → Bool
+has_empty sizes keep = list_any (λ n. n == 0) (drop keep sizes)

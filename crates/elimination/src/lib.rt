@@ -2,16 +2,12 @@
 //! values of the others make the given ones true.
 #![tactic(auto)]
 
-mod convert;
-mod dense_clause;
-mod dense_clauses;
-mod gathering;
+mod cost;
+mod kept;
+mod next;
 mod projection;
+mod removal;
 mod subject;
 
-pub use convert::least_rows_of;
-pub use dense_clause::{DenseClause, are_unfalsified};
-pub use dense_clauses::{add_all, naming};
-pub use gathering::gather;
 pub use projection::project;
 pub use subject::project_subject;

@@ -5,9 +5,9 @@ ghost use Rattle.cca_base.specs.declared.limits.TheConstants.{MAX_SUBJECTS};
 ghost use Rattle.clause_form.specs.Clauses.{AreClauses};
 ghost use Rattle.elimination.specs.Projection.{IsWithout};
 
-use crate::convert::{clauses_of, rows_of};
-use crate::projection::project_one;
-use clause_form::Clauses;
+use crate::removal::without;
+use cca_base::List;
+use clause_form::{Clauses, copies};
 use std::alloc::{AllocError, Global};
 
 /// Clauses that are true exactly where some value of this subject makes all of the given ones true. The error
@@ -24,12 +24,11 @@ pub fn project_subject(
     ensures sizes { IfOk result (λ r. r.sizes ≡ clauses.now.sizes) }
     ensures exact { IfOk result (IsWithout clauses.now subject) }
 {
-    let mut rows = rows_of(alloc, clauses)?;
-    project_one(alloc, clauses.sizes.as_slice(), &mut rows, subject as usize)?;
+    let all = copies(alloc, clauses.clauses.as_slice())?;
+    let rest = without(alloc, clauses.sizes.as_slice(), all, subject)?;
     let sizes = clauses.sizes.copy(alloc)?;
-    let rest = clauses_of(alloc, rows.as_slice(), clauses.sizes.len() as u16)?;
     Ok(Clauses {
         sizes,
-        clauses: rest,
+        clauses: List::of(rest),
     })
 }

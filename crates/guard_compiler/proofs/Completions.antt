@@ -10,6 +10,7 @@ use Rattle.std.proofs.lemmas.List.Elements.{All-contains}
 use Rattle.cca_base.proofs.Members.{all_from}
 use Rattle.prime_implicants.proofs.FoundKeys.{list_all_if}
 use Rattle.clause_form.specs.Clauses.{AreValues, meets, all_met}
+use Rattle.elimination.proofs.KeptSubjects.{rest_of_values, same_front}
 use Rattle.guard_compiler.specs.Naming.{IsOver}
 use Rattle.guard_compiler.specs.Rules.{clauses_in, is_one_of, is_none_or_one_of, AreCompletable, DifferAtOwners}
 use Rattle.guard_compiler.specs.declared.rules.RuleClause.{RuleClause}
@@ -24,25 +25,6 @@ pub all_of_them : (xs : List ℕ) (rules : List RuleClause) → ((rule : RuleCla
 all_of_them xs rules h = list_all-map (meets xs) (λ r. r.clause) rules ∙ list_all_if (λ r. meets xs r.clause) rules h
 
 -- ---- values of the components, and behind them those of the variables
-
-rest_of_values : (counts sizes s r : List ℕ) → length s ≡ length counts → AreValues (counts ++ sizes) (s ++ r) → AreValues sizes r
-rest_of_values counts sizes s r e h =
-    let all = h.full in
-    record {
-      full = omega (arith, all, e, length-append s r, length-append counts sizes);
-      values = λ i l.
-          let there : get_or (s ++ r) (length counts + i) 0 < get_or (counts ++ sizes) (length counts + i) 0 = h.values (length counts + i) (omega (arith, l, length-append counts sizes)) in
-          let mine : get_or (s ++ r) (length counts + i) 0 ≡ get_or r i 0 = subst (λ k. get_or (s ++ r) (k + i) 0 ≡ get_or r i 0) e (get_or-append-add s r i 0) in
-          let theirs = get_or-append-add counts sizes i 0 in
-          omega (arith, there, mine, theirs);
-    }
-
-same_front : (n : ℕ) (s z ys : List ℕ) → length s ≡ n → ((u : ℕ) → u < n → get_or ys u 0 ≡ get_or (s ++ z) u 0) → n ≤ length ys → ys ≡ s ++ drop n ys
-same_front n s z ys full same long =
-    let front : take n ys ≡ s = same_number_lists (take n ys) s (omega (arith, full, length-take-le n ys long)) (λ u l.
-    let below : u < n = omega (arith, l, length-take-le n ys long) in
-    get_or-take n ys u 0 below ∙ same u below ∙ get_or_append_left s z 0 u (omega (arith, full, below))) in
-    sym (take-append-drop n ys) ∙ ap (λ xs. xs ++ drop n ys) front
 
 not_below : (n u : ℕ) (owner : Option ℕ) → ForSome owner (λ x. n ≤ x) → owner ≡ Some u → n ≤ u
 not_below n u owner h e = h u e

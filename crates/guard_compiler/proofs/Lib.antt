@@ -1,4 +1,3 @@
-pub mod ConditionedClauses
 pub mod MarkLaws
 pub mod Completions
 pub mod RelevantExact

@@ -13,7 +13,8 @@ use Rattle.clause_form.specs.declared.clause.Literal.{Literal}
 use Rattle.clause_form.specs.declared.clause.Clause.{Clause}
 use Rattle.clause_form.specs.Clauses.{AreValues, is_true, is_met, meets, all_met}
 use Rattle.guard_compiler.proofs.Completions.{met_one, all_of_them, completed_world}
-use Rattle.guard_compiler.specs.Naming.{names_one, IsOver}
+use Rattle.guard_compiler.specs.Naming.{IsOver}
+use Rattle.clause_form.specs.Clauses.{names_one}
 use Rattle.guard_compiler.specs.Relevant.{bears, bears_by, IsWithRelevant}
 use Rattle.guard_compiler.specs.Rules.{clauses_in, is_one_of, is_none_or_one_of, AreCompletable}
 use Rattle.guard_compiler.specs.declared.rules.RuleClause.{RuleClause}

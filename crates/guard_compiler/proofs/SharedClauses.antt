@@ -21,7 +21,8 @@ use Rattle.clause_form.specs.Clauses.{AreValues, AreBelow, AllBelow, is_true, is
 use Rattle.clause_form.specs.declared.clause.Clauses.{Clauses}
 use Rattle.clause_form.specs.Formulas.{AreClausesOf}
 use Rattle.guard_compiler.specs.declared.rules.RuleClause.{RuleClause}
-use Rattle.guard_compiler.specs.Naming.{names_one, IsOver}
+use Rattle.guard_compiler.specs.Naming.{IsOver}
+use Rattle.clause_form.specs.Clauses.{names_one}
 use Rattle.guard_compiler.specs.Rules.{clauses_in, AreRulesBelow, AreRulesOf, AreCompletable, DifferAtOwners, is_one_of, is_none_or_one_of}
 use Rattle.guard_compiler.specs.Shared.{unowned, owned_by, AreShared, AreSharedOut}
 

@@ -29,7 +29,7 @@ use Rattle.prime_implicants.specs.Primes.{IsBlocked, IsPrime, AreAllPrimes, AreM
 use Rattle.prime_implicants.proofs.PartialPairs.{one_of_each}
 use Rattle.prime_implicants.proofs.Counting.{not_among_fewer}
 use Rattle.prime_implicants.proofs.FoundKeys.{list_all_if}
-use Rattle.elimination.proofs.DenseClauseLaws.{list_all_get}
+use Rattle.prime_implicants.proofs.DenseClauseLaws.{list_all_get}
 use Rattle.elimination.specs.Projection.{IsProjection}
 use Rattle.guard_compiler.specs.Ways.{HasManyWays}
 

@@ -1,7 +1,8 @@
 -- Which of the rules' clauses bear on a guard.
 use Rattle.std.specs.Prelude.{◌≡◌, ℕ, Bool, IsTrue, List, ◌++◌, Option, Some, None, All, filter}
 use Rattle.clause_form.specs.declared.clause.Clause.{Clause}
-use Rattle.guard_compiler.specs.Naming.{names_one, IsOver}
+use Rattle.guard_compiler.specs.Naming.{IsOver}
+use Rattle.clause_form.specs.Clauses.{names_one}
 use Rattle.guard_compiler.specs.Rules.{clauses_in}
 use Rattle.guard_compiler.specs.declared.rules.RuleClause.{RuleClause}
 

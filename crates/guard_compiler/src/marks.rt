@@ -1,10 +1,10 @@
 //! Marks of subjects, set one by one.
 
 ghost use Rattle.std.specs.Prelude.{◌≡◌, ◌<◌, All, MatchBool, length};
-ghost use Rattle.clause_form.specs.Clauses.{AreBelow, AllBelow};
+ghost use Rattle.clause_form.specs.Clauses.{AreBelow, AllBelow, names_one};
 ghost use Rattle.guard_compiler.specs.Marks.{SetsMore};
 ghost use Rattle.cca_base.specs.Flags.{is_set, unset};
-ghost use Rattle.guard_compiler.specs.Naming.{IsOver, names_one};
+ghost use Rattle.guard_compiler.specs.Naming.{IsOver};
 ghost use Rattle.guard_compiler.specs.Relevant.{IsClosed, bears};
 ghost use Rattle.guard_compiler.specs.Rules.{AreRulesBelow};
 ghost use Rattle.std.specs.Option.{ForSome};

@@ -1,61 +1,16 @@
 //! Clauses of the rules that one variable owns: where the others are true, its value makes them true.
 
-ghost use Rattle.std.specs.Prelude.{◌≡◌, ◌++◌, ◌<◌, ◌≤◌, ◌==◌, All, IfOk, List, MatchBool, OnOk, filter, length};
+ghost use Rattle.std.specs.Prelude.{◌≡◌, ◌++◌, ◌<◌, ◌≤◌, All, IfOk, List, MatchBool, OnOk, length};
 ghost use Rattle.cca_base.specs.declared.limits.TheConstants.{MAX_CHOICES, MAX_SUBJECTS};
 ghost use Rattle.clause_form.specs.Clauses.{AllBelow};
 ghost use Rattle.clause_form.specs.declared.clause.Clause.{Clause};
-ghost use Rattle.guard_compiler.specs.Naming.{names_one};
 ghost use Rattle.guard_compiler.specs.Shared.{AreSharedOut, owned_by};
 
 use crate::rules::RuleClause;
 use cca_base::List;
-use clause_form::{Clause, Clauses};
+use clause_form::{Clause, Clauses, keep_others, naming};
 use elimination::project_subject;
 use std::alloc::{AllocError, Global};
-
-/// The same clause.
-pub(crate) fn copy_of(alloc: Global, clause: &Clause) -> Result<Clause, AllocError>
-    ensures { IfOk result (λ r. r ≡ clause.now) }
-{
-    Ok(Clause {
-        literals: clause.literals.copy(alloc)?,
-    })
-}
-
-/// The same clauses.
-pub(crate) fn copies(alloc: Global, clauses: &[Clause]) -> Result<Vec<Clause>, AllocError>
-    ensures { IfOk result (λ r. r.items ≡ clauses.now) }
-{
-    let mut all = Vec::new(alloc);
-    for clause in clauses {
-        all.push(copy_of(alloc, clause)?)?;
-    }
-    Ok(all)
-}
-
-/// Whether the clause names the subject.
-fn names(clause: &Clause, x: u16) -> bool
-    ensures { result ≡ names_one (λ u. u == x) clause.now }
-{
-    clause
-        .literals
-        .as_slice()
-        .iter()
-        .any(|literal| literal.subject == x)
-}
-
-/// The clauses that name the subject.
-fn naming(alloc: Global, clauses: &[Clause], x: u16) -> Result<List<Clause>, AllocError>
-    ensures { IfOk result (λ r. r ≡ filter (names_one (λ u. u == x)) clauses.now) }
-{
-    let mut with = List::new(alloc);
-    for clause in clauses {
-        if names(clause, x) {
-            with.push(copy_of(alloc, clause)?)?;
-        }
-    }
-    Ok(with)
-}
 
 /// Adds the clauses, which belong to the subject.
 fn push_owned(
@@ -69,7 +24,7 @@ fn push_owned(
     for clause in clauses {
         rules.push(RuleClause {
             owner: Some(x),
-            clause: copy_of(alloc, clause)?,
+            clause: clause.copy(alloc)?,
         })?;
     }
     Ok(())
@@ -98,7 +53,7 @@ fn share(
         → AreSharedOut sizes.now components given rules.old left.old.items
         → AreSharedOut sizes.now components given rules.new left.new.items) }
 {
-    let with = naming(alloc, left.as_slice(), x)?;
+    let with = List::of(naming(alloc, left.as_slice(), x)?);
     if with.len() == 0 || with.len() > most {
         return Ok(false);
     }
@@ -109,7 +64,7 @@ fn share(
     if project_subject(alloc, &with, x)?.clauses.len() > 0 {
         return Ok(false);
     }
-    left.retain(|clause| !names(clause, x));
+    keep_others(left, x);
     push_owned(alloc, with.clauses.as_slice(), x, rules)?;
     Ok(true)
 }

@@ -8,7 +8,6 @@ ghost use Rattle.guard_compiler.specs.Rules.{AreRulesBelow, clauses_in};
 ghost use Rattle.guard_compiler.specs.Relevant.{IsRelevantSet, IsWithRelevant, bears};
 
 use crate::marks::{bears, mark_all, spread};
-use crate::owners::copy_of;
 use crate::rules::RuleClause;
 use cca_base::List;
 use clause_form::{Clause, Clauses};
@@ -60,7 +59,7 @@ fn add_marked(
 {
     for rule in rules {
         if bears(rule, marks) {
-            clauses.push(copy_of(alloc, &rule.clause)?)?;
+            clauses.push(rule.clause.copy(alloc)?)?;
         }
     }
     Ok(())

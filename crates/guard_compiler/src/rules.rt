@@ -6,9 +6,9 @@ ghost use Rattle.clause_form.specs.Clauses.{AllBelow};
 ghost use Rattle.guard_compiler.specs.Rules.{AreRulesOf};
 ghost use Rattle.guard_compiler.specs.Shared.{AreShared, unowned};
 
-use crate::owners::{copies, copy_of, share_round};
+use crate::owners::share_round;
 use cca_base::{List, Model};
-use clause_form::{Clause, clauses_of};
+use clause_form::{Clause, clauses_of, copies};
 use std::alloc::{AllocError, Global};
 
 /// A variable that more clauses name isn't tried as their owner.
@@ -28,7 +28,7 @@ fn push_left(alloc: Global, left: &[Clause], rules: &mut List<RuleClause>) -> Re
     for clause in left {
         rules.push(RuleClause {
             owner: None,
-            clause: copy_of(alloc, clause)?,
+            clause: clause.copy(alloc)?,
         })?;
     }
     Ok(())

@@ -4,7 +4,6 @@ ghost use Rattle.std.specs.Prelude.{◌≡◌, IfOk, filter};
 ghost use Rattle.guard_compiler.specs.Rules.{AreRulesOf, clauses_in, is_unowned};
 ghost use Rattle.guard_compiler.specs.Worlds.{AreStateClauses};
 
-use crate::owners::copy_of;
 use crate::rules::RuleClause;
 use cca_base::{List, Model};
 use clause_form::{Clause, Clauses, sizes_of};
@@ -18,7 +17,7 @@ fn unowned_of(alloc: Global, rules: &[RuleClause]) -> Result<List<Clause>, Alloc
     let mut clauses = List::new(alloc);
     for rule in rules {
         if rule.owner.is_none() {
-            clauses.push(copy_of(alloc, &rule.clause)?)?;
+            clauses.push(rule.clause.copy(alloc)?)?;
         }
     }
     Ok(clauses)

@@ -18,12 +18,12 @@ returns-in_ok-second-in-Implies-clause-means t c =
     let f = c.args.formula.now in
     let a = c.get-in-Implies.result.now in
     let b = c.get-in-Implies-2.result.now in
-    IfOk-weaker c.join-in-Implies.result _ _
+    IfOk-weaker c.combined-in-Implies.result _ _
     (λ r says. means_implies n sizes f a b c.args.wanted c.deref-in-Implies.result.now c.deref-in-Implies-2.result.now r.items
     (λ modes values. truth_implies modes values f a b (c.in-Implies.is ∙ (ap (λ x. Implies x c.in-Implies.b) (sym c.get-in-Implies.ensures) ∙ ap (λ y. Implies a y) (sym c.get-in-Implies-2.ensures))))
     (subst (Means n sizes a (not c.args.wanted)) (sym c.deref-in-Implies.ensures.value) c.in_ok-first-in-Implies.ensures.means)
     (subst (Means n sizes b c.args.wanted) (sym c.deref-in-Implies-2.ensures.value) c.in_ok-second-in-Implies.ensures.means) says)
-    c.join-in-Implies.ensures.met
+    c.combined-in-Implies.ensures.met
 
 pub returns-in_ok-two-in-Iff-clause-means : goal.returns-in_ok-two-in-Iff-clause-means
 returns-in_ok-two-in-Iff-clause-means t c =
@@ -32,7 +32,7 @@ returns-in_ok-two-in-Iff-clause-means t c =
     let f = c.args.formula.now in
     let a = c.get-in-Iff.result.now in
     let b = c.get-in-Iff-2.result.now in
-    IfOk-weaker c.join-in-Iff-3.result _ _
+    IfOk-weaker c.combined-in-Iff-3.result _ _
     (λ r says. means_iff n sizes f a b c.args.wanted
     c.deref-in-Iff.result.now c.deref-in-Iff-2.result.now c.deref-in-Iff-5.result.now c.deref-in-Iff-3.result.now c.deref-in-Iff-4.result.now c.deref-in-Iff-6.result.now r.items
     (λ modes values. truth_iff modes values f a b (c.in-Iff.is ∙ (ap (λ x. Iff x c.in-Iff.b) (sym c.get-in-Iff.ensures) ∙ ap (λ y. Iff a y) (sym c.get-in-Iff-2.ensures))))
@@ -43,4 +43,4 @@ returns-in_ok-two-in-Iff-clause-means t c =
     (subst2 (Means n sizes) (not c.args.wanted) (c.get-in-Iff-4.ensures ∙ sym c.get-in-Iff-2.ensures) (sym c.deref-in-Iff-4.ensures.value) c.in_ok-other-in-Iff.ensures.means)
     (subst (Says sizes (λ xs. combine false (all_met xs c.deref-in-Iff-3.result.now) (all_met xs c.deref-in-Iff-4.result.now))) (sym c.deref-in-Iff-6.ensures.value) c.in_ok-two-in-Iff.ensures.met)
     says)
-    c.join-in-Iff-3.ensures.met
+    c.combined-in-Iff-3.ensures.met

@@ -1,10 +1,8 @@
 use Rattle.std.proofs.Common.{rules, ◌≡◌, ◌<◌, ◌≤◌, ◌++◌, ◌==◌, ◌∙◌, ℕ, List, Bool, All, [], not, length, get_or, set, filter, true, ap, sym, subst, arith}
-use Rattle.std.proofs.lemmas.Fn.{filter_same}
 use Rattle.std.proofs.lemmas.List.Elements.{All-filter}
 use Rattle.cca_base.specs.declared.limits.TheConstants.{MAX_CHOICES}
 use Rattle.clause_form.specs.declared.clause.Clause.{Clause}
-use Rattle.clause_form.specs.Clauses.{AreValues, AreBelow, AllBelow, all_met}
-use Rattle.guard_compiler.specs.Naming.{names_one}
+use Rattle.clause_form.specs.Clauses.{AreValues, AreBelow, AllBelow, all_met, names_one}
 use Rattle.guard_compiler.specs.Shared.{AreSharedOut, owned_by}
 use Rattle.guard_compiler.proofs.SharedClauses.{shared_more, fewer_named, empty}
 use Rattle.guard_compiler.proofs.owners.share.Goals as goal
@@ -12,35 +10,32 @@ use Rattle.guard_compiler.proofs.owners.share.Goals as goal
 pub project_subject-requires-clause-clauses : goal.project_subject-requires-clause-clauses
 project_subject-requires-clause-clauses c =
     let test : Clause → Bool = names_one (λ u. u == c.args.x) in
-    let named : c.in_ok-with.with ≡ filter test c.args.left.now.items = c.in_ok-with.ensures ∙ ap (filter test) c.as_slice.ensures.value in
+    let named : c.of-with.result ≡ filter test c.args.left.now.items = c.of-with.ensures ∙ c.in_ok-naming.ensures ∙ ap (filter test) c.as_slice.ensures.value in
     let same : c.in_ok-copy.field-0 ≡ c.args.sizes.now = c.in_ok-copy.ensures in
     record {
       few = subst (All (λ n. n ≤ MAX_CHOICES)) (sym same) c.requires.sizes;
-      subjects = subst (λ (z : List ℕ). AllBelow (length z) c.in_ok-with.with) (sym same)
+      subjects = subst (λ (z : List ℕ). AllBelow (length z) c.of-with.result) (sym same)
           (subst (AllBelow (length c.args.sizes.now)) (sym named) (All-filter test (λ (z : Clause). AreBelow (length c.args.sizes.now) z.literals) c.args.left.now.items c.requires.below));
     }
 
-others : (c : goal.After-drop-with-3) → c.retain.new.self.items ≡ filter (λ z. not (names_one (λ u. u == c.args.x) z)) c.args.left.now.items
-others c = filter_same _ _ _ (λ x b f' k. search rules) _ _ c.retain.ensures.filtered
-
 named_some : (c : goal.After-drop-with-3) → 0 < length (filter (names_one (λ u. u == c.args.x)) c.args.left.now.items)
 named_some c =
-    let count : length c.in_ok-with.with ≡ length (filter (names_one (λ u. u == c.args.x)) c.args.left.now.items) = ap length (c.in_ok-with.ensures ∙ ap (filter (names_one (λ u. u == c.args.x))) c.as_slice.ensures.value) in
+    let count : length c.of-with.result ≡ length (filter (names_one (λ u. u == c.args.x)) c.args.left.now.items) = ap length (c.of-with.ensures ∙ c.in_ok-naming.ensures ∙ ap (filter (names_one (λ u. u == c.args.x))) c.as_slice.ensures.value) in
     omega (arith, count, c.len.ensures, c.if-len-eq0.false)
 
 pub returns-clause-below : goal.returns-clause-below
-returns-clause-below c = subst (AllBelow (length c.args.sizes.now)) (sym (others c))
+returns-clause-below c = subst (AllBelow (length c.args.sizes.now)) (sym c.keep_others.ensures)
     (All-filter (λ z. not (names_one (λ u. u == c.args.x) z)) (λ (z : Clause). AreBelow (length c.args.sizes.now) z.literals) c.args.left.now.items c.requires.below)
 
 pub returns-clause-fewer : goal.returns-clause-fewer
-returns-clause-fewer c = subst (λ (z : List Clause). length z < length c.args.left.now.items) (sym (others c)) (fewer_named c.args.left.now.items c.args.x (named_some c))
+returns-clause-fewer c = subst (λ (z : List Clause). length z < length c.args.left.now.items) (sym c.keep_others.ensures) (fewer_named c.args.left.now.items c.args.x (named_some c))
 
 pub returns-clause-shared : goal.returns-clause-shared
 returns-clause-shared c given h =
     let test : Clause → Bool = names_one (λ u. u == c.args.x) in
     let sizes = c.args.sizes.now in
     let left = c.args.left.now.items in
-    let named : c.in_ok-with.with ≡ filter test left = c.in_ok-with.ensures ∙ ap (filter test) c.as_slice.ensures.value in
+    let named : c.of-with.result ≡ filter test left = c.of-with.ensures ∙ c.in_ok-naming.ensures ∙ ap (filter test) c.as_slice.ensures.value in
     let none : c.in_ok-project_subject.field-0.clauses ≡ [] = empty c.in_ok-project_subject.field-0.clauses (omega (arith, c.len-2.ensures, c.if-len-gt0.false)) in
     let rules : c.push_owned.new.rules ≡ c.args.rules.now ++ owned_by c.args.x (filter test left) =
     c.in_ok-push_owned.ensures ∙ ap (λ z. c.args.rules.now ++ owned_by c.args.x z) (c.as_slice-2.ensures ∙ named) in
@@ -49,6 +44,6 @@ returns-clause-shared c given h =
     let same : c.in_ok-copy.field-0 ≡ sizes = c.in_ok-copy.ensures in
     let found = (c.in_ok-project_subject.ensures.exact xs (subst (λ z. AreValues z xs) (sym same) k)).0 (ap (all_met xs) none) in
     (found.0, subst (λ z. found.0 < get_or z c.args.x 0) same found.1, subst (λ z. all_met (set xs c.args.x found.0) z ≡ true) named found.2) in
-    subst (λ z. AreSharedOut sizes c.args.components given z c.retain.new.self.items) (sym rules)
-    (subst (AreSharedOut sizes c.args.components given (c.args.rules.now ++ owned_by c.args.x (filter test left))) (sym (others c))
+    subst (λ z. AreSharedOut sizes c.args.components given z c.keep_others.new.clauses.items) (sym rules)
+    (subst (AreSharedOut sizes c.args.components given (c.args.rules.now ++ owned_by c.args.x (filter test left))) (sym c.keep_others.ensures)
     (shared_more sizes c.args.components given c.args.rules.now left c.args.x h c.requires.variable c.requires.subject (named_some c) choose))

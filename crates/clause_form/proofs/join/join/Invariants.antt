@@ -1,9 +1,0 @@
-use Rattle.std.proofs.Common.{◌≡◌, ℕ, List, ◌||◌, take, length}
-use Rattle.clause_form.specs.Clauses.{AreValues, all_met, AllBelow}
-use Rattle.clause_form.proofs.join.join.Given as goal
-
-abbrev pub invariant-loop-clause : goal.invariant-loop-clause
-invariant-loop-clause l = record {
-  met : (xs : List ℕ) → AreValues l.sizes xs → all_met xs l.out.items ≡ (all_met xs (take l.clause-index l.a) || all_met xs l.b);
-  below : AllBelow (length l.sizes) l.out.items;
-}

@@ -1,5 +1,0 @@
-use Rattle.std.proofs.Common.{◌≡◌, replicate}
-use Rattle.elimination.proofs.dense_clause.never.Given as goal
-
-abbrev pub invariant-loop : goal.invariant-loop
-invariant-loop l = l.row ≡ replicate l.counter 0

@@ -1,6 +1,0 @@
-use Rattle.std.proofs.Common.{◌≡◌, take}
-use Rattle.elimination.specs.DenseClauses.{union_rows}
-use Rattle.elimination.proofs.dense_clause.union.Given as goal
-
-abbrev pub invariant-loop-i : goal.invariant-loop-i
-invariant-loop-i l = l.both ≡ union_rows (take l.i l.a) (take l.i l.b)

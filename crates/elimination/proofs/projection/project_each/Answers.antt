@@ -1,0 +1,56 @@
+use Rattle.std.proofs.Common.{◌≡◌, ◌∙◌, ℕ, List, Bool, Option, true, false, length, ap, sym, subst, length-set, MatchOption}
+use Rattle.std.proofs.Common.{Some, None}
+use Rattle.std.proofs.lemmas.List.{length-replicate}
+use Rattle.elimination.specs.Projection.{AreAllDone, IsLeft}
+use Rattle.elimination.proofs.Projecting.{none_projected, none_marked, one_more, above_still, gone_still, all_below}
+use Rattle.elimination.proofs.projection.project_each.Goals as goal
+
+is_left : (c : goal.After-marks-in-Some-2-1) → IsLeft c.args.sizes.now c.args.keep c.subjects.marks.items c.from.result
+is_left c =
+    let sizes = c.args.sizes.now in
+    let keep = c.args.keep in
+    let of_some : (o : Option ℕ) (x : ℕ) → o ≡ Some x → MatchOption o (AreAllDone keep c.deref-in-subjects.result.now c.deref.result.now) (IsLeft sizes keep c.deref-in-subjects.result.now) → IsLeft sizes keep c.deref-in-subjects.result.now x =
+    λ o x is h. subst (λ z. MatchOption z (AreAllDone keep c.deref-in-subjects.result.now c.deref.result.now) (IsLeft sizes keep c.deref-in-subjects.result.now)) is h in
+    subst (λ z. IsLeft sizes keep c.subjects.marks.items z) (sym c.from.ensures)
+    (subst (λ (z : List Bool). IsLeft sizes keep z c.in-Some.subject) c.deref-in-subjects.ensures.value (of_some c.in_ok-subject.field-0 c.in-Some.subject c.in-Some.is c.in_ok-subject.ensures))
+
+pub subjects-init : goal.subjects-init
+subjects-init c = record {
+  full = ap length c.in_ok-marks.ensures ∙ length-replicate (length c.args.sizes.now) false;
+  above = λ x h. absurd (none_marked (length c.args.sizes.now) x (rw c.in_ok-marks.ensures at h));
+  gone = λ x h. absurd (none_marked (length c.args.sizes.now) x (rw c.in_ok-marks.ensures at h));
+  exact = rw c.in_ok-marks.ensures (none_projected c.args.sizes.now (length c.args.sizes.now) c.args.clauses.items);
+  below = c.requires.below;
+}
+
+pub subjects-preserved : goal.subjects-preserved
+subjects-preserved c =
+    let sizes = c.args.sizes.now in
+    let keep = c.args.keep in
+    let x = c.from.result in
+    let marks = c.subjects.marks.items in
+    let left = c.subjects.left.items in
+    let new = c.in_ok-left.left.items in
+    let inv = c.subjects.invariant in
+    let without = rw (sym c.from.ensures) at c.in_ok-left.ensures in
+    record {
+      full = length-set marks x true ∙ inv.full;
+      above = above_still sizes keep x marks c.args.clauses.items left new inv.full (is_left c) inv.exact without.met inv.above;
+      gone = gone_still sizes keep x marks c.args.clauses.items left new inv.full (is_left c) inv.exact without.met inv.gone without.names without.gone;
+      exact = one_more sizes keep x marks c.args.clauses.items left new inv.full (is_left c) inv.exact without.met;
+      below = without.below;
+    }
+
+pub returns : goal.returns
+returns c =
+    let none : (o : Option ℕ) → o ≡ None → MatchOption o (AreAllDone c.args.keep c.deref-in-subjects.result.now c.deref.result.now) (IsLeft c.args.sizes.now c.args.keep c.deref-in-subjects.result.now)
+    → AreAllDone c.args.keep c.deref-in-subjects.result.now c.deref.result.now =
+    λ o is h. subst (λ z. MatchOption z (AreAllDone c.args.keep c.deref-in-subjects.result.now c.deref.result.now) (IsLeft c.args.sizes.now c.args.keep c.deref-in-subjects.result.now)) is h in
+    let done : AreAllDone c.args.keep c.subjects.marks.items c.subjects.left.items =
+    rw (c.deref-in-subjects.ensures.value, c.deref.ensures.value) at (none c.in_ok-subject.field-0 c.in_default.is c.in_ok-subject.ensures) in
+    record {
+      marks = c.subjects.marks.items;
+      above = c.subjects.invariant.above;
+      exact = c.subjects.invariant.exact;
+      below = all_below c.args.keep c.subjects.marks.items c.subjects.left.items done c.subjects.invariant.gone;
+    }

@@ -1,0 +1,72 @@
+use Rattle.std.proofs.Common.{◌≡◌, ◌==◌, ◌&&◌, ℕ, Bool, List, not, length, filter, ap, ◌∙◌, sym, subst, set, get_or}
+use Rattle.std.proofs.lemmas.List.Elements.{All-filter}
+use Rattle.std.proofs.lemmas.Result.{IfOk-weaker}
+use Rattle.clause_form.specs.declared.clause.Clause.{Clause}
+use Rattle.clause_form.specs.Clauses.{AllOthers, AreBelow, AreOthers, AreValues, all_met, meets, names_one, any_below}
+use Rattle.elimination.proofs.SomeValue.{any_same, any_and}
+use Rattle.elimination.proofs.OtherSubjects.{all_met_others, all_parted, others_unnamed}
+use Rattle.elimination.proofs.removal.without.Goals as goal
+
+pub resolvents-requires-clause-below : goal.resolvents-requires-clause-below
+resolvents-requires-clause-below c =
+    let test : Clause → Bool = names_one (λ u. u == c.args.subject) in
+    let named : c.deref-2.result.now ≡ filter test c.args.clauses.items = c.deref-2.ensures.value ∙ c.in_ok-named.ensures ∙ ap (filter test) c.deref.ensures.value in
+    rw named (All-filter test (λ (z : Clause). AreBelow (length c.args.sizes.now) z.literals) c.args.clauses.items c.requires.below)
+
+pub with_all-requires-clause-below : goal.with_all-requires-clause-below
+with_all-requires-clause-below c =
+    rw c.keep_others.ensures (All-filter (λ z. not (names_one (λ u. u == c.args.subject) z)) (λ (z : Clause). AreBelow (length c.args.sizes.now) z.literals) c.args.clauses.items c.requires.below)
+
+pub with_all-requires-clause-more : goal.with_all-requires-clause-more
+with_all-requires-clause-more c = rw c.deref-3.ensures.value c.in_ok-more.ensures.below
+
+-- what is left of the clauses, and what took the place of the others
+module _ (sizes : List ℕ) (x : ℕ) (clauses left named more : List Clause) (is_left : left ≡ filter (λ z. not (names_one (λ u. u == x) z)) clauses)
+    (is_named : named ≡ filter (names_one (λ u. u == x)) clauses)
+    (met : (xs : List ℕ) → AreValues sizes xs → all_met xs more ≡ any_below (get_or sizes x 0) (λ v. all_met (set xs x v) named)) where
+  abbrev test : Clause → Bool
+  test = names_one (λ u. u == x)
+
+  others : AllOthers x left
+  others = subst (AllOthers x) (sym is_left) (others_unnamed x clauses)
+
+  parted : (xs : List ℕ) (v : ℕ) → (all_met xs left && all_met (set xs x v) named) ≡ all_met (set xs x v) clauses
+  parted xs v =
+      ap (λ b. b && all_met (set xs x v) named) (sym (all_met_others x v xs left others))
+      ∙ ap (λ (z : List Clause). all_met (set xs x v) z && all_met (set xs x v) named) is_left
+      ∙ ap (λ (z : List Clause). all_met (set xs x v) (filter (λ z. not (test z)) clauses) && all_met (set xs x v) z) is_named
+      ∙ sym (all_parted (meets (set xs x v)) test clauses)
+
+  all_without : (r : List Clause) → ((xs : List ℕ) → AreValues sizes xs → all_met xs r ≡ (all_met xs left && all_met xs more))
+      → (xs : List ℕ) → AreValues sizes xs → all_met xs r ≡ any_below (get_or sizes x 0) (λ v. all_met (set xs x v) clauses)
+  all_without r says xs h =
+      let n = get_or sizes x 0 in
+      says xs h ∙ ap (λ b. all_met xs left && b) (met xs h) ∙ sym (any_and n (all_met xs left) (λ v. all_met (set xs x v) named))
+      ∙ any_same n _ _ (parted xs)
+
+named_are : (c : goal.After-drop-named-2) → c.deref-2.result.now ≡ filter (names_one (λ u. u == c.args.subject)) c.args.clauses.items
+named_are c = c.deref-2.ensures.value ∙ c.in_ok-named.ensures ∙ ap (filter (names_one (λ u. u == c.args.subject))) c.deref.ensures.value
+
+pub returns-clause-met : goal.returns-clause-met
+returns-clause-met c =
+    IfOk-weaker c.with_all.result _ _
+    (λ r says. all_without c.args.sizes.now c.args.subject c.args.clauses.items c.keep_others.new.clauses.items c.deref-2.result.now c.in_ok-more.more.items c.keep_others.ensures (named_are c)
+    c.in_ok-more.ensures.met r.items (λ xs h. says xs h ∙ ap (λ (z : List Clause). all_met xs c.keep_others.new.clauses.items && all_met xs z) c.deref-3.ensures.value))
+    c.with_all.ensures.met
+
+pub returns-clause-gone : goal.returns-clause-gone
+returns-clause-gone c =
+    let x = c.args.subject in
+    IfOk-weaker c.with_all.result _ _
+    (λ r names. names x (subst (AllOthers x) (sym c.keep_others.ensures) (others_unnamed x c.args.clauses.items)) (subst (AllOthers x) (sym c.deref-3.ensures.value) c.in_ok-more.ensures.gone))
+    c.with_all.ensures.names
+
+pub returns-clause-names : goal.returns-clause-names
+returns-clause-names c =
+    let x = c.args.subject in
+    IfOk-weaker c.with_all.result _ _
+    (λ r names y h. names y
+    (subst (AllOthers y) (sym c.keep_others.ensures) (All-filter (λ z. not (names_one (λ u. u == x) z)) (λ (z : Clause). AreOthers y z.literals) c.args.clauses.items h))
+    (subst (AllOthers y) (sym c.deref-3.ensures.value) (c.in_ok-more.ensures.names y
+    (subst (AllOthers y) (sym (named_are c)) (All-filter (names_one (λ u. u == x)) (λ (z : Clause). AreOthers y z.literals) c.args.clauses.items h)))))
+    c.with_all.ensures.names

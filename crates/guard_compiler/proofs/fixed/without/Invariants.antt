@@ -1,7 +1,0 @@
-use Rattle.std.proofs.Common.{◌≡◌, take}
-use Rattle.std.specs.List.{filter}
-use Rattle.guard_compiler.proofs.ConditionedClauses.{is_other}
-use Rattle.guard_compiler.proofs.fixed.without.Given as goal
-
-abbrev pub invariant-loop-literal : goal.invariant-loop-literal
-invariant-loop-literal l = l.literals ≡ filter (is_other l.subject) (take l.literal-index l.clause.literals)
