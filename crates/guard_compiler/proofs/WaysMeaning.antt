@@ -72,27 +72,27 @@ guard_within m move k =
     subst (λ n. is_within n (length m.variables) move.guard ≡ true) (length-map m.components (λ c. length c.modes))
     (subst (λ n. is_within (length (mode_counts m)) n move.guard ≡ true) (length-map m.variables (λ v. length v.values)) (fits_within (mode_counts m) (value_counts m) move.guard k.guard.fits))
 
-pub component_inside : (m : PlantModel) (move : Move) (sizes : List ℕ) → IsMove m move → sizes ≡ mode_counts m ++ value_counts m → move.component < length sizes
-component_inside m move sizes k e =
-    omega (arith, ap length e, length-append (mode_counts m) (value_counts m), place_within (mode_counts m) move.component (omega (arith, k.source)))
+pub component_inside : (m : PlantModel) (component mode : ℕ) (sizes : List ℕ) → HasMode m component mode → sizes ≡ mode_counts m ++ value_counts m → component < length sizes
+component_inside m component mode sizes source e =
+    omega (arith, ap length e, length-append (mode_counts m) (value_counts m), place_within (mode_counts m) component (omega (arith, source)))
 
 -- what the calls before the primes give
 pub record AreSteps (m : PlantModel) (move : Move) (asked fixed states : Clauses) (n : ℕ) : Type 0 where
   pub count : n ≡ length m.components
-  pub is_move : IsMove m move
+  pub source : HasMode m move.component move.source
   pub asks : AreAskedOf m move.guard asked
   pub fixed_sizes : fixed.sizes ≡ asked.sizes
   pub fixes : (xs : List ℕ) → length xs ≡ length asked.sizes → all_met xs fixed.clauses ≡ all_met (set xs move.component move.source) asked.clauses
   pub states_sizes : states.sizes ≡ take n fixed.sizes
   pub projects : IsProjection fixed n states
 
-fixed_means : (m : PlantModel) (move : Move) (asked fixed : Clauses) (s w : List ℕ) → IsMove m move → AreAskedOf m move.guard asked
+fixed_means : (m : PlantModel) (move : Move) (asked fixed : Clauses) (s w : List ℕ) → HasMode m move.component move.source → AreAskedOf m move.guard asked
     → ((xs : List ℕ) → length xs ≡ length asked.sizes → all_met xs fixed.clauses ≡ all_met (set xs move.component move.source) asked.clauses)
     → AreValues (mode_counts m) s → AreValues (value_counts m) w
     → all_met (s ++ w) fixed.clauses ≡ all_met (set s move.component move.source ++ w) asked.clauses
-fixed_means m move asked fixed s w k a f v u =
+fixed_means m move asked fixed s w source a f v u =
     let c = move.component in
-    let inside : c < length s = omega (arith, place_within (mode_counts m) c (omega (arith, k.source)), v.full) in
+    let inside : c < length s = omega (arith, place_within (mode_counts m) c (omega (arith, source)), v.full) in
     let long : length (s ++ w) ≡ length asked.sizes =
     omega (arith, length-append s w, ap length a.sizes, length-append (mode_counts m) (value_counts m), v.full, u.full) in
     f (s ++ w) long ∙ ap (λ z. all_met z asked.clauses) (set-append_left s w c move.source inside)
@@ -106,14 +106,14 @@ states_of m move asked fixed states n k =
     let rest : drop n fixed.sizes ≡ value_counts m =
     ap (drop n) all ∙ ap (λ z. drop z (mode_counts m ++ value_counts m)) long ∙ drop-append_seam (mode_counts m) (value_counts m) in
     record {
-      source = k.is_move.source;
+      source = k.source;
       sizes = k.states_sizes ∙ first;
       meaning = λ s v.
           let there = k.projects s (subst (λ z. AreValues z s) (sym first) v) in
-          let asks = k.asks.meaning (set s move.component move.source) (set_values (mode_counts m) s move.component move.source v k.is_move.source) in (
+          let asks = k.asks.meaning (set s move.component move.source) (set_values (mode_counts m) s move.component move.source v k.source) in (
             (λ t. let r = there.0 t in let u = subst (λ z. AreValues z r.0) rest r.1 in
-                asks.0 (r.0, u, sym (fixed_means m move asked fixed s r.0 k.is_move k.asks k.fixes v u) ∙ r.2)),
-            (λ r. let q = asks.1 r in there.1 (q.0, subst (λ z. AreValues z q.0) (sym rest) q.1, fixed_means m move asked fixed s q.0 k.is_move k.asks k.fixes v q.1 ∙ q.2)),
+                asks.0 (r.0, u, sym (fixed_means m move asked fixed s r.0 k.source k.asks k.fixes v u) ∙ r.2)),
+            (λ r. let q = asks.1 r in there.1 (q.0, subst (λ z. AreValues z q.0) (sym rest) q.1, fixed_means m move asked fixed s q.0 k.source k.asks k.fixes v q.1 ∙ q.2)),
           );
     }
 
@@ -268,6 +268,14 @@ many_ways m move states of a = record {
   cubes = a.cubes;
   in_order = a.in_order;
   primes = λ k d l. implicant_of m move states _ of (a.primes k d l);
+  many = a.many;
+}
+
+pub many_primes : (m : PlantModel) (move : Move) (states : Clauses) → AreStatesOf m move states → HasManyWays m move → AreMorePrimes states MAX_WAYS
+many_primes m move states of a = record {
+  cubes = a.cubes;
+  in_order = a.in_order;
+  primes = λ k d l. prime_of m move states _ of (a.primes k d l);
   many = a.many;
 }
 

@@ -1,4 +1,7 @@
 pub mod Asked
+pub mod Conjunctions
+pub mod Cover
+pub mod LeastUnions
 pub mod Marks
 pub mod Naming
 pub mod Relevant

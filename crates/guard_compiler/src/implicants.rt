@@ -1,40 +1,55 @@
 //! The prime implicants of a move's guard, over states that have a world.
 
-ghost use Rattle.std.specs.Prelude.{◌<◌, ◌≤◌, IfErr, IfOk, IsErr, IsTrue, length};
+ghost use Rattle.std.specs.Prelude.{◌<◌, ◌≤◌, ◌↔◌, IfErr, IfOk, IsErr, IsTrue, length};
 ghost use Rattle.cca_base.specs.Accepted.{AreWays};
 ghost use Rattle.cca_base.specs.Formula.{is_within};
+ghost use Rattle.cca_base.specs.Model.{HasMode};
+ghost use Rattle.cca_base.specs.State.{HasWorlds};
 ghost use Rattle.cca_base.specs.declared.limits.TheConstants.{MAX_WAYS};
-ghost use Rattle.guard_compiler.specs.Asked.{AreAskedOf};
 ghost use Rattle.guard_compiler.specs.Rules.{AreRulesOf};
 ghost use Rattle.guard_compiler.specs.Ways.{AtMove, HasManyWays, IsStop};
-ghost use Rattle.cca_base.specs.State.{HasWorlds};
+ghost use Rattle.prime_implicants.specs.Primes.{IfEvery, IsMore};
 
-use crate::fixed::with_value;
-use crate::relevant::with_relevant;
+use crate::conjunctions::{conjunction_implicants, names_variable};
+use crate::guards::guard_implicants;
 use crate::rules::{RuleClause, rules_of};
 use cca_base::codes::WAYS;
-use cca_base::{Cube, Detail, Formula, List, MAX_WAYS, Model, Refusal, Stop};
-use clause_form::{Clauses, denied_clauses};
-use elimination::project;
-use prime_implicants::{Primes, primes};
+use cca_base::{Cube, Detail, Formula, List, Model, Move, Refusal, Stop};
+use prime_implicants::Primes;
 use std::alloc::{AllocError, Global};
 
-/// Clauses that can be met with the modes of a state exactly where a world of the state has the guard false.
-fn asked_of(
+/// All prime implicants of the move, in cube order; or `More`, exactly where there are more than `MAX_WAYS`. A conjunction that
+/// names a variable is taken part by part, if that stays small. The error is want of memory.
+fn implicants_of(
     alloc: Global,
     model: &Model,
     rules: &List<RuleClause>,
-    guard: &Formula,
-) -> Result<Clauses, AllocError>
+    the_move: &Move,
+) -> Result<Primes, AllocError>
     requires worlds { HasWorlds model.now }
     requires rules { AreRulesOf model.now rules.now }
-    requires guard { IsTrue (is_within (length model.now.components) (length model.now.variables) guard.now) }
-    ensures { IfOk result (AreAskedOf model.now guard.now) }
+    requires source { HasMode model.now the_move.now.component the_move.now.source }
+    requires guard { IsTrue (is_within (length model.now.components) (length model.now.variables) the_move.now.guard) }
+    ensures every { IfOk result (λ r. IfEvery r (AreWays model.now the_move.now)) }
+    ensures few { IfOk result (λ r. IfEvery r (λ cubes. length cubes ≤ MAX_WAYS)) }
+    ensures more { IfOk result (λ r. IsMore r ↔ HasManyWays model.now the_move.now) }
 {
-    let denied = denied_clauses(alloc, model, guard)?;
-    let components = model.components().len() as u16;
-    let asked = with_relevant(alloc, components, rules.as_slice(), denied)?;
-    Ok(asked)
+    let guard = &the_move.guard;
+    if let Formula::All(parts) = guard {
+        if names_variable(guard) {
+            if let Some(cubes) = conjunction_implicants(
+                alloc,
+                model,
+                rules,
+                the_move,
+                parts.as_slice(),
+            )? {
+                return Ok(Primes::Every(cubes));
+            }
+        }
+    }
+    let found = guard_implicants(alloc, model, rules, the_move, guard)?;
+    Ok(found)
 }
 
 /// Exactly the prime implicants of a move, in cube order, by the clauses of the model's rules, for a model whose states all
@@ -55,10 +70,7 @@ pub fn ways_of(
     ensures many { AtMove model.now move_number (λ move. HasManyWays model.now move → IsErr result) }
 {
     let the_move = model.moves().get(move_number as usize);
-    let asked = asked_of(alloc, model, rules, &the_move.guard)?;
-    let fixed = with_value(alloc, asked, the_move.component, the_move.source)?;
-    let states = project(alloc, &fixed, model.components().len() as u16)?;
-    match primes(alloc, &states, MAX_WAYS as u32)? {
+    match implicants_of(alloc, model, rules, the_move)? {
         Primes::Every(cubes) => Ok(cubes),
         Primes::More => Err(Stop::Refused(Refusal {
             code: WAYS,

@@ -3,12 +3,17 @@
 //! in cube order, or hears that there are too many.
 #![tactic(auto)]
 
+mod conjunctions;
+mod cover;
 mod fixed;
+mod guards;
 mod implicants;
 mod marks;
 mod owners;
 mod relevant;
 mod rules;
+mod union;
+mod unions;
 mod worlds;
 
 pub use implicants::{ways, ways_of};

@@ -3,7 +3,7 @@ use Rattle.guard_compiler.specs.Relevant.{IsWithRelevant}
 use Rattle.guard_compiler.specs.Rules.{AreRulesBelow}
 use Rattle.guard_compiler.specs.declared.rules.RuleClause.{RuleClause}
 use Rattle.guard_compiler.proofs.AskedOfState.{asked, same_subjects}
-use Rattle.guard_compiler.proofs.implicants.asked_of.Goals as goal
+use Rattle.guard_compiler.proofs.guards.asked_of.Goals as goal
 
 pub with_relevant-requires-clause-rules : goal.with_relevant-requires-clause-rules
 with_relevant-requires-clause-rules c =
