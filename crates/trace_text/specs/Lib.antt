@@ -2,6 +2,11 @@ pub mod Compiled
 pub mod Json
 pub mod JsonExamples
 pub mod JsonLaws
+pub mod LineExamples
+pub mod LineWords
 pub mod Names
+pub mod ProofLines
 pub mod Refusals
 pub mod Reports
+pub mod TraceLines
+pub mod Words

@@ -4,12 +4,30 @@ use Rattle.std.specs.Option.{option_map_or}
 use Rattle.cca_base.specs.declared.cube.Pair.{Pair}
 use Rattle.cca_base.specs.declared.model.Component.{Component}
 use Rattle.cca_base.specs.declared.model.Move.{Move}
+use Rattle.cca_base.specs.declared.model.Variable.{Variable}
 use Rattle.cca_base.specs.PlantModel.{PlantModel}
 pub use Rattle.model_syntax.specs.Printing.{name_at}
 
+-- NAME=CHOICE, by a name and the names of its choices
+abbrev pub choice_text : List ℕ → List (List ℕ) → ℕ → List ℕ
+choice_text name choices k = name ++ 61 ∷ name_at choices k
+
+-- a name with the names of its choices
+pub record Row : Type 0 where
+  pub name : List ℕ
+  pub choices : List (List ℕ)
+
+-- a component with its modes
+abbrev pub mode_row : Component → Row
+mode_row c = record { name = c.name; choices = c.modes }
+
+-- a variable with its values
+abbrev pub value_row : Variable → Row
+value_row v = record { name = v.name; choices = v.values }
+
 -- NAME=MODE
 abbrev pub pair_text : Component → ℕ → List ℕ
-pair_text component mode = component.name ++ 61 ∷ name_at component.modes mode
+pair_text component mode = choice_text component.name component.modes mode
 
 -- the pair of a component of the model
 abbrev pub pair_text_at : List Component → ℕ → ℕ → List ℕ

@@ -1,16 +1,25 @@
-//! The lines that are printed: reports of ticks, refusals, and what was compiled of a model. A caller gets exactly the
-//! texts of the definitions, by the names of the model that is passed.
+//! The lines that are printed: reports of ticks and their proofs, refusals, and what was compiled of a model. A caller gets
+//! exactly the texts of the definitions, by the names of the model that is passed, and reads lines of a trace back.
 #![tactic(auto)]
 
+mod commands;
 mod compiled;
 mod json;
 pub mod json_laws;
+pub mod line_laws;
 mod members;
 mod names;
+mod proof_lines;
+mod read_parts;
+mod read_report;
 mod refusal;
 mod report;
+mod trace_line;
+mod words;
 
 pub use compiled::show_lines;
 pub use json::json_of;
+pub use proof_lines::{route_lines, world_line};
 pub use refusal::refusal_line;
 pub use report::line_of;
+pub use trace_line::{LineFault, TraceLine, read_line};

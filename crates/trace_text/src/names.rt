@@ -2,7 +2,7 @@
 
 ghost use Rattle.std.specs.Prelude.{◌≡◌, ◌++◌, ◌∷◌, OnOk};
 ghost use Rattle.std.specs.Fmt.{decimal};
-ghost use Rattle.trace_text.specs.Names.{name_at, pair_text, pair_text_at, pairs_text, component_name, components_text, source_text, source_text_at, move_text, move_text_at};
+ghost use Rattle.trace_text.specs.Names.{name_at, choice_text, pair_text, pair_text_at, pairs_text, component_name, components_text, source_text, source_text_at, move_text, move_text_at};
 
 use cca_base::{Component, Model, Move, Name, Pair};
 use std::alloc::{AllocError, Global};
@@ -24,12 +24,25 @@ pub fn push_name(out: &mut Vec<u8>, names: &[Name], at: usize) -> Result<(), All
     Ok(())
 }
 
+/// A name with one of its choices.
+pub fn push_choice(
+    out: &mut Vec<u8>,
+    name: &[u8],
+    choices: &[Name],
+    at: u8,
+) -> Result<(), AllocError>
+    ensures { OnOk result (out.new.items ≡ out.old.items ++ choice_text name.now choices.now at) }
+{
+    out.extend_from_slice(name)?;
+    out.push(b'=')?;
+    push_name(out, choices, at as usize)
+}
+
 pub fn push_pair(out: &mut Vec<u8>, component: &Component, mode: u8) -> Result<(), AllocError>
     ensures { OnOk result (out.new.items ≡ out.old.items ++ pair_text component.now mode) }
 {
-    out.extend_from_slice(component.name.bytes())?;
-    out.push(b'=')?;
-    push_name(out, component.modes.as_slice(), mode as usize)
+    let modes = component.modes.as_slice();
+    push_choice(out, component.name.bytes(), modes, mode)
 }
 
 pub fn push_pair_at(

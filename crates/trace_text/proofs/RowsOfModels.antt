@@ -1,0 +1,122 @@
+-- States and values of a model are choices of its rows.
+use Rattle.std.proofs.Common.{◌≡◌, ◌≢◌, ℕ, ◌<◌, List, [], ◌∷◌, length, map, get_or, All, slice_get, slice_index, Option, Some, None, refl, sym, ap, ◌∙◌, subst}
+use Rattle.std.specs.declared.alloc.AllocError.{AllocError}
+use Rattle.std.specs.Prelude.{Result, Ok, Err, IfOk}
+use Rattle.std.specs.Option.{option_map}
+use Rattle.std.proofs.lemmas.Simd.{map-map}
+use Rattle.std.proofs.lemmas.Option.{slice_get-map, slice_get_read}
+use Rattle.std.proofs.lemmas.List.{length-map}
+use Rattle.std.proofs.lemmas.List.Elements.{All-cons, All-head, All-nil, All-tail}
+use Rattle.list_laws.proofs.Elements.{all_left, all_right}
+use Rattle.cca_base.specs.declared.model.Component.{Component}
+use Rattle.cca_base.specs.declared.model.Variable.{Variable}
+use Rattle.cca_base.specs.PlantModel.{PlantModel}
+use Rattle.cca_base.specs.Names.{AreNames}
+use Rattle.cca_base.specs.Model.{WellFormed, IsComponent, AreChoices, mode_counts, value_counts}
+use Rattle.cca_base.specs.State.{IsState}
+use Rattle.trace_text.specs.Names.{Row, mode_row, value_row}
+use Rattle.trace_text.specs.TraceLines.{HasValues}
+use Rattle.trace_text.specs.ProofLines.{choice_words, value_words}
+use Rattle.trace_text.specs.LineWords.{AreChosen, IsReadFrom, mode_words}
+use Rattle.trace_text.proofs.ModelNames.{IsName}
+use Rattle.trace_text.proofs.ChosenRows.{chosen_at_places, chosen_from_places, too_many_or_few}
+
+mode_sizes : (cs : List Component) → map (λ (row : Row). length row.choices) (map mode_row cs) ≡ map (λ (c : Component). length c.modes) cs
+mode_sizes cs = map-map (λ (row : Row). length row.choices) mode_row cs
+
+value_sizes : (vs : List Variable) → map (λ (row : Row). length row.choices) (map value_row vs) ≡ map (λ (v : Variable). length v.values) vs
+value_sizes vs = map-map (λ (row : Row). length row.choices) value_row vs
+
+pub state_is_chosen : (m : PlantModel) (s : List ℕ) → IsState m s → AreChosen (map mode_row m.components) s
+state_is_chosen m s h =
+    let sizes : map (λ (row : Row). length row.choices) (map mode_row m.components) ≡ mode_counts m = mode_sizes m.components in
+    let many : length (map mode_row m.components) ≡ length m.components = length-map m.components mode_row in
+    chosen_from_places (map mode_row m.components) s (h.full ∙ sym many)
+    (λ c lt. subst (λ (counts : List ℕ). slice_index s c < slice_index counts c) (sym sizes) (h.modes c (subst (λ n. c < n) many lt)))
+
+pub chosen_is_state : (m : PlantModel) (s : List ℕ) → AreChosen (map mode_row m.components) s → IsState m s
+chosen_is_state m s h =
+    let sizes : map (λ (row : Row). length row.choices) (map mode_row m.components) ≡ mode_counts m = mode_sizes m.components in
+    let many : length (map mode_row m.components) ≡ length m.components = length-map m.components mode_row in
+    let parts = chosen_at_places (map mode_row m.components) s h in
+    record {
+      full = parts.0 ∙ many;
+      modes = λ c lt. subst (λ (counts : List ℕ). slice_index s c < slice_index counts c) sizes (parts.1 c (subst (λ n. c < n) (sym many) lt));
+    }
+
+pub values_are_chosen : (m : PlantModel) (w : List ℕ) → HasValues m w → AreChosen (map value_row m.variables) w
+values_are_chosen m w h =
+    let sizes : map (λ (row : Row). length row.choices) (map value_row m.variables) ≡ value_counts m = value_sizes m.variables in
+    let many : length (map value_row m.variables) ≡ length m.variables = length-map m.variables value_row in
+    chosen_from_places (map value_row m.variables) w (h.full ∙ sym many)
+    (λ v lt. subst (λ (counts : List ℕ). slice_index w v < slice_index counts v) (sym sizes) (h.each v (subst (λ n. v < n) many lt)))
+
+pub chosen_are_values : (m : PlantModel) (w : List ℕ) → AreChosen (map value_row m.variables) w → HasValues m w
+chosen_are_values m w h =
+    let sizes : map (λ (row : Row). length row.choices) (map value_row m.variables) ≡ value_counts m = value_sizes m.variables in
+    let many : length (map value_row m.variables) ≡ length m.variables = length-map m.variables value_row in
+    let parts = chosen_at_places (map value_row m.variables) w h in
+    record {
+      full = parts.0 ∙ many;
+      each = λ v lt. subst (λ (counts : List ℕ). slice_index w v < slice_index counts v) sizes (parts.1 v (subst (λ n. v < n) (sym many) lt));
+    }
+
+-- a row's name and those of its choices
+pub record HasRowNames (row : Row) : Type 0 where
+  pub name : IsName row.name
+  pub choices : AreNames row.choices
+
+component_row : (c : Component) → IsName c.name × IsComponent c → HasRowNames (mode_row c)
+component_row c h = record { name = h.0; choices = h.1.modes.names }
+
+variable_row : (v : Variable) → IsName v.name × AreChoices v.values → HasRowNames (value_row v)
+variable_row v h = record { name = h.0; choices = h.1.names }
+
+pub mode_rows : (m : PlantModel) → WellFormed m → All HasRowNames (map mode_row m.components)
+mode_rows m h =
+    let names : All IsName (map (λ (c : Component). c.name) m.components) = all_left IsName (map (λ (c : Component). c.name) m.components) (map (λ (v : Variable). v.name) m.variables) h.names.each in
+    go m.components names h.components
+  where
+    go : (cs : List Component) → All IsName (map (λ (c : Component). c.name) cs) → All IsComponent cs → All HasRowNames (map mode_row cs)
+    go [] p q = All-nil HasRowNames
+    go (c ∷ cs) p q =
+        All-cons HasRowNames (mode_row c) (map mode_row cs) (component_row c (All-head IsName c.name (map (λ (x : Component). x.name) cs) p, All-head IsComponent c cs q))
+        (go cs (All-tail IsName c.name (map (λ (x : Component). x.name) cs) p) (All-tail IsComponent c cs q))
+
+pub value_rows : (m : PlantModel) → WellFormed m → All HasRowNames (map value_row m.variables)
+value_rows m h =
+    let names : All IsName (map (λ (v : Variable). v.name) m.variables) = all_right IsName (map (λ (c : Component). c.name) m.components) (map (λ (v : Variable). v.name) m.variables) h.names.each in
+    go m.variables names h.variables
+  where
+    go : (vs : List Variable) → All IsName (map (λ (v : Variable). v.name) vs) → All (λ (v : Variable). AreChoices v.values) vs → All HasRowNames (map value_row vs)
+    go [] p q = All-nil HasRowNames
+    go (v ∷ vs) p q =
+        All-cons HasRowNames (value_row v) (map value_row vs) (variable_row v (All-head IsName v.name (map (λ (x : Variable). x.name) vs) p, All-head (λ (x : Variable). AreChoices x.values) v vs q))
+        (go vs (All-tail IsName v.name (map (λ (x : Variable). x.name) vs) p) (All-tail (λ (x : Variable). AreChoices x.values) v vs q))
+
+-- ---- rows by place
+
+pub mode_row_at : (cs : List Component) (i : ℕ) (x : Component) → i < length cs → x ≡ get_or cs i x → slice_get (map mode_row cs) i ≡ Some (mode_row x)
+mode_row_at cs i x lt is = slice_get-map mode_row cs i ∙ ap (λ o. option_map mode_row o) (slice_get_read cs (length cs) i x refl lt is)
+
+pub value_row_at : (vs : List Variable) (i : ℕ) (x : Variable) → i < length vs → x ≡ get_or vs i x → slice_get (map value_row vs) i ≡ Some (value_row x)
+value_row_at vs i x lt is = slice_get-map value_row vs i ∙ ap (λ o. option_map value_row o) (slice_get_read vs (length vs) i x refl lt is)
+
+-- ---- what is read as choices is read as a state, or as the values of a world
+
+pub state_is_read : (m : PlantModel) (cs : List Component) (ws : List (List ℕ)) (r : Result (Option (List ℕ)) AllocError) → cs ≡ m.components
+    → IfOk r (IsReadFrom ws (AreChosen (map mode_row cs)) (choice_words (map mode_row cs))) → IfOk r (IsReadFrom ws (IsState m) (mode_words m.components))
+state_is_read m cs ws (Ok (Some s)) is h = let k = rw is at h in (chosen_is_state m s k.0, k.1)
+state_is_read m cs ws (Ok None) is h = λ s fits e. (rw is at h) s (state_is_chosen m s fits) e
+state_is_read m cs ws (Err x) is h = tt
+
+pub values_are_read : (m : PlantModel) (vs : List Variable) (ws : List (List ℕ)) (r : Result (Option (List ℕ)) AllocError) → vs ≡ m.variables
+    → IfOk r (IsReadFrom ws (AreChosen (map value_row vs)) (choice_words (map value_row vs))) → IfOk r (IsReadFrom ws (HasValues m) (value_words m.variables))
+values_are_read m vs ws (Ok (Some s)) is h = let k = rw is at h in (chosen_are_values m s k.0, k.1)
+values_are_read m vs ws (Ok None) is h = λ s fits e. (rw is at h) s (values_are_chosen m s fits) e
+values_are_read m vs ws (Err x) is h = tt
+
+pub other_count : (m : PlantModel) (ws : List (List ℕ)) → (length ws ≡ length m.variables → ⊥) → (values : List ℕ) → HasValues m values → value_words m.variables values ≢ ws
+other_count m ws differ values h e =
+    let many : length (map value_row m.variables) ≡ length m.variables = length-map m.variables value_row in
+    too_many_or_few (map value_row m.variables) ws (λ k. differ (k ∙ many)) values (values_are_chosen m values h) e

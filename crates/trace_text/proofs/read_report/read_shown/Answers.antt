@@ -1,0 +1,7 @@
+use Rattle.std.proofs.Common.{Bor, List, ℕ, []}
+use Rattle.trace_text.proofs.WordsByPlace.{one_word}
+use Rattle.trace_text.proofs.read_report.read_shown.Goals as goal
+
+pub returns-in-len1 : goal.returns-in-len1
+returns-in-len1 c =
+    let none : Bor (List ℕ) = record { ref_ptr = (0, 0); now = [] } in rw (one_word c.args.words.now none c.in-len1.len_at_least c.in-len1.len_below) (c.read_bare_shown.ensures c.args.model.now)

@@ -1,0 +1,15 @@
+-- A line as words with single spaces between them.
+use Rattle.std.specs.Prelude.{◌≡◌, ◌≢◌, ℕ, ◌∷◌, List, All, flat_map}
+
+-- words, each behind a space
+abbrev pub behind_spaces : List (List ℕ) → List ℕ
+behind_spaces words = flat_map (λ word. 32 ∷ word) words
+
+-- no byte of the word is a space
+abbrev pub HasNoSpace : List ℕ → Type 0
+HasNoSpace word = All (λ b. b ≢ 32) word
+
+-- the line's words: none has a space, and single spaces stand between them
+pub record AreWords (line : List ℕ) (words : List (List ℕ)) : Type 0 where
+  pub spaced : behind_spaces words ≡ 32 ∷ line
+  pub apart : All HasNoSpace words
