@@ -15,3 +15,5 @@ pub mod BackboneLaws
 pub mod Excluded
 pub mod Answered
 pub mod DeniedClauses
+pub mod JoinedPairs
+pub mod ObservedPairs

@@ -7,3 +7,4 @@ pub mod Conflict
 pub mod Worlds
 pub mod Forced
 pub mod Cores
+pub mod Observed

@@ -30,7 +30,7 @@ use Rattle.trace_laws.proofs.StaysRight.{stays}
 -- ---- steps
 
 -- a state has what a move may lean on in it
-supported : (m : PlantModel) (s : List ℕ) (k : ℕ) (t : List ℕ) → (step : Step m s k t) → Extends s (support m s step.move)
+pub supported : (m : PlantModel) (s : List ℕ) (k : ℕ) (t : List ℕ) → (step : Step m s k t) → Extends s (support m s step.move)
 supported m s k t step =
     let Stands : Pair → Type 0 = λ p. slice_get s p.item ≡ Some p.value in
     All-cons Stands (record { item = step.move.component; value = step.move.source }) _ step.source

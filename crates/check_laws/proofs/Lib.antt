@@ -1,0 +1,3 @@
+pub mod MendingLaws
+pub mod StepsAgain
+pub mod CheckedPlans

@@ -1,0 +1,86 @@
+-- A step is made again from a mending of where it began, or is a repair that is already made; and so are runs.
+use Rattle.std.proofs.Common.{◌≡◌, ◌⊎◌, ◌<◌, ℕ, true, List, [], ◌∷◌, length, slice_index, slice_set, refl, sym, subst, ◌∙◌, inl, inr}
+use Rattle.std.proofs.lemmas.Bool.{cases_eq}
+use Rattle.std.proofs.lemmas.List.Elements.{All-contains}
+use Rattle.list_laws.proofs.Places.{get_at}
+use Rattle.cca_base.specs.PlantModel.{PlantModel}
+use Rattle.cca_base.specs.Model.{RepairsFit, is_broken, IsMended}
+use Rattle.cca_base.specs.Repairs.{Mending}
+use Rattle.cca_base.specs.Steps.{Step}
+use Rattle.cca_base.proofs.NextModes.{one_mended}
+use Rattle.reach_laws.proofs.Facts.{step_within, step_source, step_target, step_other, step_length}
+use Rattle.check_laws.specs.Laws.{MadeAgain, RunsAreMadeAgain}
+use Rattle.check_laws.proofs.MendingLaws.{Mends, still_follows, step_mends}
+
+module _ (m : PlantModel) (fit : RepairsFit m.moves) (s t u : List ℕ) (k : ℕ) (h : Mending m s u) (step : Step m s k t) where
+  -- the components that the step leaves alone stand as they did
+  others_mended : (w : List ℕ) → ((d : ℕ) → (d ≡ step.move.component → ⊥) → slice_index w d ≡ slice_index u d) → (d : ℕ) → d < length t → (d ≡ step.move.component → ⊥)
+      → Mends m d (slice_index t d) (slice_index w d)
+  others_mended w same d within ne =
+      subst (Mends m d (slice_index t d)) (sym (same d ne))
+      (subst (λ x. Mends m d x (slice_index u d)) (sym (step_other m s t k step d ne)) (h.each d (subst (λ n. d < n) (step_length m s t k step) within)))
+
+  -- the repair is already made
+  pub already_made : IsMended m.moves step.move.component (slice_index s step.move.component) (slice_index u step.move.component) → (step.move.repair ≡ true) × Mending m t u
+  already_made mended =
+      let c : ℕ = step.move.component in
+      let broken : is_broken m.moves c step.move.source ≡ true = subst (λ x. is_broken m.moves c x ≡ true) (step_source m s t k step) mended.broken in
+      let repair : step.move.repair ≡ true =
+      All-contains (λ x. is_broken m.moves x.component x.source ≡ true → x.repair ≡ true) m.moves step.move fit.only_repairs_leave step.of_model broken in
+      let same : slice_index u c ≡ step.move.target =
+      one_mended m.moves fit c (slice_index s c) (slice_index u c) step.move.target mended (step_mends m fit s t k step repair) in (
+        repair,
+        record {
+          full = h.full ∙ sym (step_length m s t k step);
+          each = λ d within. elim (cases_eq d c) [
+            | inl e ↦ subst (λ x. Mends m x (slice_index t x) (slice_index u x)) (sym e) (inl (same ∙ sym (step_target m s t k step)))
+            | inr ne ↦ others_mended u (λ _ _. refl) d within ne
+          ];
+        },
+      )
+
+  -- the step, where the component stands as it did
+  pub made_again : slice_index u step.move.component ≡ slice_index s step.move.component → (w : List ℕ) × Step m u k w × Mending m t w
+  made_again same =
+      let c : ℕ = step.move.component in
+      let w : List ℕ = slice_set u c step.move.target in
+      let within : c < length u = subst (λ n. c < n) (sym h.full) (step_within m s t k step) in
+      let again : Step m u k w = record {
+        move = step.move;
+        of_model = step.of_model;
+        command = step.command;
+        source = get_at u c step.move.source within (same ∙ step_source m s t k step);
+        guard = still_follows m s u h step.move step.guard;
+        gives = refl;
+      } in (
+        w,
+        again,
+        record {
+          full = step_length m u w k again ∙ (h.full ∙ sym (step_length m s t k step));
+          each = λ d inside. elim (cases_eq d c) [
+            | inl e ↦ subst (λ x. Mends m x (slice_index t x) (slice_index w x)) (sym e) (inl (step_target m u w k again ∙ sym (step_target m s t k step)))
+            | inr ne ↦ others_mended w (step_other m u w k again) d inside ne
+          ];
+        },
+      )
+
+  pub step_again : ((step.move.repair ≡ true) × Mending m t u) ⊎ ((w : List ℕ) × Step m u k w × Mending m t w)
+  step_again = elim (h.each step.move.component (step_within m s t k step)) [ inl same ↦ inr (made_again same) | inr mended ↦ inl (already_made mended) ]
+
+-- a run is made again from a mending of its start
+pub run_again : RunsAreMadeAgain
+run_again m fit s u v [] h r = record { left = []; last = u; run = refl; mends = subst (λ x. Mending m x u) (sym r) h; of_them = refl }
+run_again m fit s u v (k ∷ ks) h r = elim (step_again m fit s r.0 u k h r.1) [
+  | inl already ↦
+      let rest : MadeAgain m u ks v = run_again m fit r.0 u v ks already.1 r.2 in
+      record { left = rest.left; last = rest.last; run = rest.run; mends = rest.mends; of_them = inl ((r.1.move, r.1.of_model, already.0, r.1.command), rest.of_them) }
+  | inr again ↦
+      let rest : MadeAgain m again.0 ks v = run_again m fit r.0 again.0 v ks again.2 r.2 in
+      record {
+        left = k ∷ rest.left;
+        last = rest.last;
+        run = (again.0, again.1, rest.run);
+        mends = rest.mends;
+        of_them = inr (rest.left, refl, rest.of_them);
+      }
+]

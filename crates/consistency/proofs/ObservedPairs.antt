@@ -1,0 +1,41 @@
+-- What is pending, and what the worlds of the plant's state agree on of the mirrored variables, are what a tick observes.
+use Rattle.std.proofs.Common.{◌≡◌, ◌<◌, ◌≢◌, ℕ, true, false, List, All, Contains, inl, inr, sym, subst, arith}
+use Rattle.std.proofs.lemmas.Bool.{both_ways}
+use Rattle.std.proofs.lemmas.List.Elements.{All-contains}
+use Rattle.cca_base.specs.declared.cube.Pair.{Pair}
+use Rattle.cca_base.specs.PlantModel.{PlantModel}
+use Rattle.cca_base.specs.Cube.{IsCube, IsRising, IsUnion, Lacks}
+use Rattle.cca_base.specs.Sets.{has}
+use Rattle.cca_base.specs.State.{HasValue}
+use Rattle.cca_base.proofs.Members.{all_from}
+use Rattle.consistency.specs.Forced.{AreForced}
+use Rattle.consistency.specs.Observed.{IsObserved}
+
+pub rising_once : (pairs : List Pair) → IsRising pairs → IsCube pairs
+rising_once pairs rising = λ i j d before within same. (let lt = rising i j d before within in omega (arith, lt, same))
+
+-- what the worlds agree on of the mirrored variables names none that is pending
+pub forced_new : (m : PlantModel) (s : List ℕ) (mirrored : ℕ) (pending forced : List Pair) → All (λ p. has mirrored p.item ≡ false) pending → AreForced m s mirrored forced
+    → All (λ p. Lacks p.item pending) forced
+forced_new m s mirrored pending forced unmirrored h = all_from (λ p. Lacks p.item pending) forced (λ p among. all_from (λ q. q.item ≢ p.item) pending (λ q there same.
+    both_ways (has mirrored q.item) (All-contains (λ r. has mirrored r.item ≡ false) pending q unmirrored there)
+    (subst (λ v. has mirrored v ≡ true) (sym same) ((h.each p).0 among).0)))
+
+-- the pending pairs, and the pairs of the mirrored variables on which the worlds agree
+pub observed : (m : PlantModel) (plant : List ℕ) (mirrored : ℕ) (pending forced both : List Pair) → AreForced m plant mirrored forced
+    → IsUnion (Contains pending) (Contains forced) both → IsObserved m plant mirrored pending both
+observed m plant mirrored pending forced both h union = record {
+  rising = union.rising;
+  each = λ p. (
+    (λ among. elim ((union.each p).0 among) [ inl before ↦ inl before | inr one ↦ inr ((h.each p).0 one) ]),
+    (λ either. (union.each p).1 (elim either [ inl before ↦ inl before | inr one ↦ inr ((h.each p).1 one) ])),
+  );
+}
+
+-- all that are observed are values of the model
+pub observed_values : (m : PlantModel) (pending forced both : List Pair) → All (λ p. HasValue m p.item p.value) pending → All (λ p. HasValue m p.item p.value) forced
+    → IsUnion (Contains pending) (Contains forced) both → All (λ p. HasValue m p.item p.value) both
+observed_values m pending forced both old new union = all_from (λ p. HasValue m p.item p.value) both (λ p among. elim ((union.each p).0 among) [
+  | inl before ↦ All-contains (λ q. HasValue m q.item q.value) pending p old before
+  | inr one ↦ All-contains (λ q. HasValue m q.item q.value) forced p new one
+])

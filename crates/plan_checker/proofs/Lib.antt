@@ -1,0 +1,10 @@
+pub mod EventsFit
+pub mod GuardLaws
+pub mod NamedMoves
+pub mod RunLaws
+pub mod CostSums
+pub mod RouteLaws
+pub mod WorldParts
+pub mod YesShows
+pub mod TakesFit
+pub mod SureFormulas

@@ -1,0 +1,10 @@
+use Rattle.std.proofs.Common.{drop}
+use Rattle.cca_base.specs.State.{IsState}
+use Rattle.plan_checker.proofs.RunLaws.{IsOnWay}
+use Rattle.plan_checker.proofs.run.run.Given as goal
+
+abbrev pub invariant-loop-command : goal.invariant-loop-command
+invariant-loop-command l = record {
+  on_way : IsOnWay l.model l.initial.state.modes l.commands l.state.modes (drop l.command-index l.commands);
+  state : IsState l.model l.state.modes;
+}

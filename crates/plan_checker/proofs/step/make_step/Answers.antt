@@ -1,0 +1,24 @@
+use Rattle.std.proofs.Common.{sym, subst}
+use Rattle.std.proofs.lemmas.Bool.{both_ways}
+use Rattle.cca_base.specs.State.{IsState}
+use Rattle.cca_base.specs.Steps.{Step}
+use Rattle.plan_checker.proofs.NamedMoves.{step_of, no_guard, named_within, named_state}
+use Rattle.plan_checker.proofs.step.make_step.Goals as goal
+
+pub returns-then-not-branch-clause-step : goal.returns-then-not-branch-clause-step
+returns-then-not-branch-clause-step c =
+    no_guard c.args.model.now c.args.state.now.modes c.args.command c.named.ensures.well_formed.commands c.in-Some.step.now c.in-Some.ensures.some
+    (λ follows. both_ways c.in_ok-guard_follows.field-0 c.if-not-branch.true (c.in_ok-guard_follows.ensures.1 follows))
+
+pub set-requires : goal.set-requires
+set-requires c = named_within c.args.model.now c.args.state.now.modes c.args.command c.in-Some.step.now c.in-Some.ensures.some
+
+pub returns-clause-step : goal.returns-clause-step
+returns-clause-step c =
+    subst (Step c.args.model.now c.args.state.now.modes c.args.command) (sym c.set.ensures)
+    (step_of c.args.model.now c.args.state.now.modes c.args.command c.in-Some.step.now c.in-Some.ensures.some (c.in_ok-guard_follows.ensures.0 c.if-not-branch.false))
+
+pub returns-clause-state : goal.returns-clause-state
+returns-clause-state c =
+    subst (IsState c.args.model.now) (sym c.set.ensures)
+    (named_state c.args.model.now c.args.state.now.modes c.args.command c.in-Some.step.now c.in-Some.ensures.some c.named.ensures.well_formed c.requires.state)

@@ -1,0 +1,54 @@
+//! Whether what is shown fits the goal, and whether the checker is holding.
+
+ghost use Rattle.std.specs.Prelude.{◌≡◌, ◌↔◌, IsTrue, Contains};
+ghost use Rattle.plan_checker.specs.Reasons.{FitsGoal, AnswersGoal};
+ghost use Rattle.plan_checker.specs.Standing.{state_of};
+
+use crate::standing::Standing;
+use crate::states::stand_in;
+use cca_base::{List, Pair, Reply, Shown, State};
+
+/// Whether the pair is one of these.
+fn is_among(pairs: &[Pair], pair: Pair) -> bool
+    ensures { IsTrue result ↔ Contains pairs.now pair }
+{
+    for other in pairs {
+        if *other == pair {
+            return true;
+        }
+    }
+    false
+}
+
+/// Whether the reply fits the goal in force.
+fn fits_goal(state: &State, goal: &Option<List<Pair>>, reply: Reply) -> bool
+    ensures { IsTrue result ↔ FitsGoal state.now.modes goal.now reply }
+{
+    let modes = state.modes.as_slice();
+    let Some(goal) = goal else {
+        return reply == Reply::Idle;
+    };
+    let pairs = goal.as_slice();
+    match reply {
+        Reply::Idle => false,
+        Reply::Achieved => stand_in(pairs, modes),
+        Reply::Send(_) => !stand_in(pairs, modes),
+        Reply::Unreachable(item, value) => {
+            let pair = Pair { item, value };
+            is_among(pairs, pair) && !stand_in(&[pair], modes)
+        }
+    }
+}
+
+/// Whether holding is shown exactly while holding, and a reply fits the goal.
+pub(crate) fn answers_goal(standing: &Standing, shown: &Shown) -> bool
+    ensures { IsTrue result ↔ AnswersGoal (state_of standing.now) shown.now }
+{
+    match shown {
+        Shown::Estimated { state, reply, .. } => {
+            !standing.holding && fits_goal(state, &standing.goal, *reply)
+        }
+        Shown::Unexplained => !standing.holding,
+        Shown::Holding => standing.holding,
+    }
+}

@@ -1,0 +1,24 @@
+//! Checks a printed tick by the rules and guards of the model alone: the estimate's cost and world, the command's step, the
+//! printed plan and its way back, and the answer. No prime implicant, class or table is used.
+#![tactic(auto)]
+
+mod answer;
+mod checker;
+mod cost;
+mod events;
+mod guards;
+mod judged;
+mod known;
+mod lines;
+pub mod reasons;
+mod route;
+mod run;
+mod standing;
+mod states;
+mod step;
+mod taken;
+mod verdict;
+mod world;
+
+pub use checker::Checker;
+pub use verdict::Verdict;
