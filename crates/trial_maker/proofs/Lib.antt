@@ -1,0 +1,9 @@
+pub mod ComputedDocuments
+pub mod EachDocument
+pub mod Guards
+pub mod LinesSoFar
+pub mod LinksByNumber
+pub mod TicksCounted
+pub mod TicksInTurn
+pub mod TransitionText
+pub mod WholeText

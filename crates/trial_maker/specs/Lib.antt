@@ -1,0 +1,9 @@
+pub mod Chains
+pub mod Documents
+pub mod Draws
+pub mod Examples
+pub mod PlantLines
+pub mod ScriptLines
+pub mod Sizes
+pub mod TransitionLines
+pub mod TrialLaws

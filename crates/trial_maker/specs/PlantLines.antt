@@ -1,0 +1,20 @@
+-- The lines of components, variables and rules, which draw nothing.
+use Rattle.std.specs.Prelude.{ℕ, List, ◌∷◌, ◌++◌, map, codes}
+use Rattle.trial_maker.specs.declared.chains.Link.{Link}
+use Rattle.trial_maker.specs.Chains.{component_name, variable_name}
+
+-- a component
+unfoldable pub component_line : Link → List ℕ
+component_line link = codes "component " ++ component_name link ++ codes "=a,b,c,x start a"
+
+-- its variable
+unfoldable pub variable_line : Link → List ℕ
+variable_line link = codes "var " ++ variable_name link ++ codes "=ok,off sensed"
+
+-- the variable shows whether the component is broken
+unfoldable pub rule_line : Link → List ℕ
+rule_line link = codes "rule " ++ variable_name link ++ codes "=off iff " ++ component_name link ++ codes "=x"
+
+-- the first line, and then all components, all variables and all rules
+unfoldable pub plant_lines : List Link → List (List ℕ)
+plant_lines links = codes "titan 1" ∷ map component_line links ++ map variable_line links ++ map rule_line links
