@@ -7,6 +7,8 @@ mod backbones;
 #[cfg(test)]
 mod base;
 #[cfg(test)]
+mod checkers;
+#[cfg(test)]
 mod classes;
 #[cfg(test)]
 mod compile;
@@ -30,6 +32,10 @@ mod steady;
 mod tabled;
 #[cfg(test)]
 mod text;
+#[cfg(test)]
+mod traces;
+#[cfg(test)]
+mod trials;
 #[cfg(test)]
 mod wire;
 #[cfg(test)]
