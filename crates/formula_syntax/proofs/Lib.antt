@@ -6,6 +6,7 @@ pub mod Complete
 pub mod Sound
 pub mod Comparisons
 pub mod Verdicts
+pub mod PlacesBehind
 pub mod FormulaReadWhole
 pub mod TextFormulas
 pub mod TextDepths

@@ -12,6 +12,7 @@ ghost use Rattle.formula_syntax.specs.Answers.{AnswersFormula, AnswerOneWay, IsF
 
 use crate::formula_parser::{Expected, FormulaParser};
 use crate::level::level_read;
+use crate::places::place_behind;
 use crate::read_part::ReadPart;
 use crate::steps::step;
 use crate::transitions::fresh;
@@ -75,9 +76,12 @@ fn run(
 {
     let mut machine = start(alloc);
     'tokens: for token in tokens {
-        match step(alloc, model, names, strict, machine, token)? {
-            Some(next) => machine = next,
-            None => return Ok(None),
+        match place_behind(model, names, strict, machine.place, token) {
+            Some(place) => machine.place = place,
+            None => match step(alloc, model, strict, machine, token)? {
+                Some(next) => machine = next,
+                None => return Ok(None),
+            },
         }
     }
     ended(alloc, machine)

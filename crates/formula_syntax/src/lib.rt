@@ -8,6 +8,7 @@ mod formula;
 mod formula_parser;
 mod level;
 mod lookup;
+mod places;
 mod read_part;
 mod read_parts;
 mod steps;

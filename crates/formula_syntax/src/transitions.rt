@@ -2,7 +2,7 @@
 
 ghost use Rattle.std.specs.Prelude.{◌≡◌, ◌+◌, ◌<◌, ◌^◌, None, Some, IfOk};
 ghost use Rattle.std.specs.Option.{option_map};
-ghost use Rattle.formula_syntax.specs.FormulaParser.{fresh, state_of, or_step, link_step, close_step, open_step, factor_step, at, not_step};
+ghost use Rattle.formula_syntax.specs.FormulaParser.{fresh, state_of, or_step, link_step, close_step, open_step, factor_step, not_step};
 
 use crate::formula_parser::{Connective, Expected, FormulaParser, Level, Side};
 use crate::level::{cases_read, completed, level_read, side_read};
@@ -18,22 +18,6 @@ pub fn fresh() -> Level
         any: None,
         all: None,
         nots: 0,
-    }
-}
-
-/// At another place.
-pub fn at(machine: FormulaParser, place: Expected) -> FormulaParser
-    ensures { state_of result ≡ at (state_of machine) place }
-{
-    let FormulaParser {
-        outer,
-        level,
-        place: _,
-    } = machine;
-    FormulaParser {
-        outer,
-        level,
-        place,
     }
 }
 
