@@ -2,11 +2,12 @@
 use Rattle.std.proofs.Common.{◌≡◌, ℕ, zero, suc, ◌<◌, ◌==◌, ◌||◌, ◌&&◌, Bool, true, false, List, [], ◌∷◌, ◌++◌, length, All, get_or, set, slice_index, slice_index_or, slice_set, bit_or, sym, ap, subst, ◌∙◌, refl, arith}
 use Rattle.std.specs.List.{list_any, list_all}
 use Rattle.std.proofs.lemmas.Bool.{eqb-true, and_parts, and_from}
-use Rattle.std.proofs.lemmas.List.{length_push}
+use Rattle.std.proofs.lemmas.List.{length_push, length-append}
 use Rattle.std.proofs.lemmas.List.Elements.{All-take, All-get_or, All-push}
 use Rattle.std.proofs.lemmas.List.Folds.{list_all-append}
 use Rattle.std.proofs.Math.Seq.{get_or-append_seam, take-append_seam}
-use Rattle.std.proofs.Math.Bool.{or_assoc}
+use Rattle.std.proofs.Math.Bool.{and_assoc, or_assoc}
+use mathlib.Core.Bool.{and-true}
 use Rattle.cca_base.proofs.SetLaws.{has-or}
 use Rattle.cca_base.specs.Sets.{has}
 use Rattle.clause_form.specs.declared.clause.Literal.{Literal}
@@ -26,23 +27,6 @@ or_swap false true true = refl
 or_swap false true false = refl
 or_swap false false true = refl
 or_swap false false false = refl
-
--- an element in whose place stands one that passes more often
-list_any-set : {X : Type 0} (p : X → Bool) (xs : List X) (i : ℕ) (y d : X) (b : Bool) → i < length xs → p y ≡ (p (get_or xs i d) || b)
-    → list_any p (set xs i y) ≡ (list_any p xs || b)
-list_any-set p [] i y d b h e = absurd (omega arith)
-list_any-set p (x ∷ xs) zero y d b h e = ap (λ v. v || list_any p xs) e ∙ or_swap (p x) b (list_any p xs)
-list_any-set p (x ∷ xs) (suc i) y d b h e = ap (λ v. p x || v) (list_any-set p xs i y d b (omega arith) e) ∙ sym (or_assoc (p x) (list_any p xs) b)
-
--- a literal with the values of both, in place of the one
-pub met_both : (xs : List ℕ) (literals : List Literal) (i : ℕ) (one more both : Literal) → i < length literals → one ≡ slice_index_or literals i one
-    → one.subject ≡ more.subject → both.subject ≡ one.subject → ((v : ℕ) → has both.values v ≡ (has one.values v || has more.values v))
-    → is_met xs (slice_set literals i both) ≡ (is_met xs literals || is_true xs more)
-met_both xs literals i one more both h is same subject values =
-    list_any-set (is_true xs) literals i both one (is_true xs more) h
-    (subst (λ (l : Literal). is_true xs both ≡ (is_true xs l || is_true xs more)) is
-    (ap (λ s. has both.values (slice_index xs s)) subject
-    ∙ (values (slice_index xs one.subject) ∙ ap (λ s. has one.values (slice_index xs one.subject) || has more.values (slice_index xs s)) same)))
 
 -- one more clause of several that one literal list is put into
 pub row_step : (k o a b : Bool) → ((k && (o || a)) && (o || b)) ≡ (k && (o || (a && b)))
@@ -79,10 +63,20 @@ fewer_skip p kept done x h all = h (and_parts (list_all p done) (list_all p (x �
 pub All-before : {X : Type 0} (P : X → Type 0) (done : List X) (x : X) → All P (done ++ x ∷ []) → All P done
 All-before P done x h = subst (All P) (take-append_seam done (x ∷ [])) (All-take P (length done) (done ++ x ∷ []) h)
 
-All-last : {X : Type 0} (P : X → Type 0) (done : List X) (x : X) → All P (done ++ x ∷ []) → P x
+pub All-last : {X : Type 0} (P : X → Type 0) (done : List X) (x : X) → All P (done ++ x ∷ []) → P x
 All-last P done x h =
     let here : length done < length (done ++ x ∷ []) = omega (arith, length_push done x) in
     subst P (get_or-append_seam done x [] x) (All-get_or P (done ++ x ∷ []) (length done) x here h)
 
 pub below_push : {X : Type 0} (P : X → Type 0) (kept more done : List X) (x : X) → more ≡ kept ++ x ∷ [] → (All P done → All P kept) → All P (done ++ x ∷ []) → All P more
 below_push P kept more done x e h all = subst (All P) (sym e) (All-push P kept x (h (All-before P done x all)) (All-last P done x all))
+
+-- what comes next, of which those gone through are a part
+pub All-at_seam : {X : Type 0} (P : X → Type 0) (done : List X) (x : X) (rest : List X) → All P (done ++ x ∷ rest) → P x
+All-at_seam P done x rest h =
+    let here : length done < length (done ++ x ∷ rest) = omega (arith, length-append done (x ∷ rest)) in
+    subst P (get_or-append_seam done x rest x) (All-get_or P (done ++ x ∷ rest) (length done) x here h)
+
+-- one more element of which a test is asked
+pub all_push : {X : Type 0} (p : X → Bool) (old : Bool) (done : List X) (x : X) → ((old && list_all p done) && p x) ≡ (old && list_all p (done ++ x ∷ []))
+all_push p old done x = and_assoc old (list_all p done) (p x) ∙ ap (λ b. old && b) (sym (list_all-append p done (x ∷ []) ∙ ap (λ b. list_all p done && b) (and-true (p x))))

@@ -1,5 +1,7 @@
 pub mod ClauseLaws
 pub mod ConditionedClauses
+pub mod LiteralAlone
 pub mod MergedLiterals
+pub mod SomeValue
 pub mod Subjects
 pub mod ModelSizes

@@ -6,9 +6,9 @@ ghost use Rattle.clause_form.specs.Clauses.{AreValues, is_met, all_met, AreBelow
 ghost use Rattle.clause_form.specs.Formulas.{combine};
 
 use crate::clause::{Clause, Literal};
+use crate::last::{last_literal, lengthened};
 use crate::literals::disjoined;
 use crate::subsumption::{is_always_met, subsumes};
-use cca_base::List;
 use std::alloc::{AllocError, Global};
 
 /// Whether one of the clauses subsumes this one.
@@ -56,8 +56,8 @@ fn without_absorbed(
     Ok(kept)
 }
 
-/// The clauses with one more, without what is always met or absorbed. The error is want of memory.
-pub fn with_clause(
+/// The clauses with one more, without what is always met or absorbed.
+pub(crate) fn with_clause(
     alloc: Global,
     sizes: &[u8],
     clauses: Vec<Clause>,
@@ -104,32 +104,89 @@ fn add_row(
     Ok(all)
 }
 
-/// Clauses that are true where both are, or where one is, and that name nothing more. The error is want of memory.
+/// The clauses, and more of them one by one.
+fn with_all(
+    alloc: Global,
+    sizes: &[u8],
+    clauses: Vec<Clause>,
+    more: Vec<Clause>,
+) -> Result<Vec<Clause>, AllocError>
+    requires few { All (λ n. n ≤ MAX_CHOICES) sizes.now }
+    requires below { AllBelow (length sizes.now) clauses.items }
+    requires of_more { AllBelow (length sizes.now) more.items }
+    ensures met { IfOk result (λ r. (xs : List ℕ) → AreValues sizes.now xs
+        → all_met xs r.items ≡ (all_met xs clauses.items && all_met xs more.items)) }
+    ensures below { IfOk result (λ r. AllBelow (length sizes.now) r.items) }
+    ensures names { IfOk result (λ r. (x : ℕ) → AllOthers x clauses.items → AllOthers x more.items → AllOthers x r.items) }
+{
+    let mut all = clauses;
+    for clause in more {
+        all = with_clause(alloc, sizes, all, clause)?;
+    }
+    Ok(all)
+}
+
+/// Each of the clauses joined with each of the others.
+fn distributed(
+    alloc: Global,
+    sizes: &[u8],
+    clauses: &[Clause],
+    more: &[Clause],
+) -> Result<Vec<Clause>, AllocError>
+    requires few { All (λ n. n ≤ MAX_CHOICES) sizes.now }
+    requires below { AllBelow (length sizes.now) clauses.now }
+    requires of_more { AllBelow (length sizes.now) more.now }
+    ensures met { IfOk result (λ r. (xs : List ℕ) → AreValues sizes.now xs
+        → all_met xs r.items ≡ (all_met xs clauses.now || all_met xs more.now)) }
+    ensures below { IfOk result (λ r. AllBelow (length sizes.now) r.items) }
+    ensures names { IfOk result (λ r. (x : ℕ) → AllOthers x clauses.now → AllOthers x more.now → AllOthers x r.items) }
+{
+    let mut out = Vec::new(alloc);
+    for clause in clauses {
+        out = add_row(alloc, sizes, out, clause, more)?;
+    }
+    Ok(out)
+}
+
+/// Clauses that are true where one of the two parts is. A literal alone goes into the only clause where it comes last there.
+fn either(
+    alloc: Global,
+    sizes: &[u8],
+    clauses: Vec<Clause>,
+    more: &[Clause],
+) -> Result<Vec<Clause>, AllocError>
+    requires few { All (λ n. n ≤ MAX_CHOICES) sizes.now }
+    requires below { AllBelow (length sizes.now) clauses.items }
+    requires of_more { AllBelow (length sizes.now) more.now }
+    ensures met { IfOk result (λ r. (xs : List ℕ) → AreValues sizes.now xs
+        → all_met xs r.items ≡ (all_met xs clauses.items || all_met xs more.now)) }
+    ensures below { IfOk result (λ r. AllBelow (length sizes.now) r.items) }
+    ensures names { IfOk result (λ r. (x : ℕ) → AllOthers x clauses.items → AllOthers x more.now → AllOthers x r.items) }
+{
+    match last_literal(sizes, &clauses, more) {
+        Some(literal) => lengthened(clauses, literal),
+        None => distributed(alloc, sizes, &clauses, more),
+    }
+}
+
+/// Clauses that are true where both parts are, or where one is, and that name nothing more. The error is want of memory.
 pub fn combined(
     alloc: Global,
     sizes: &[u8],
     all: bool,
-    a: &[Clause],
-    b: &[Clause],
+    clauses: Vec<Clause>,
+    more: Vec<Clause>,
 ) -> Result<Vec<Clause>, AllocError>
     requires few { All (λ n. n ≤ MAX_CHOICES) sizes.now }
-    requires of_a { AllBelow (length sizes.now) a.now }
-    requires of_b { AllBelow (length sizes.now) b.now }
-    ensures met { IfOk result (λ r. (xs : List ℕ) → AreValues sizes.now xs → all_met xs r.items ≡ combine all (all_met xs a.now) (all_met xs b.now)) }
+    requires below { AllBelow (length sizes.now) clauses.items }
+    requires of_more { AllBelow (length sizes.now) more.items }
+    ensures met { IfOk result (λ r. (xs : List ℕ) → AreValues sizes.now xs → all_met xs r.items ≡ combine all (all_met xs clauses.items) (all_met xs more.items)) }
     ensures below { IfOk result (λ r. AllBelow (length sizes.now) r.items) }
-    ensures names { IfOk result (λ r. (x : ℕ) → AllOthers x a.now → AllOthers x b.now → AllOthers x r.items) }
+    ensures names { IfOk result (λ r. (x : ℕ) → AllOthers x clauses.items → AllOthers x more.items → AllOthers x r.items) }
 {
-    let mut out = Vec::new(alloc);
     if all {
-        let empty = Clause {
-            literals: List::new(alloc),
-        };
-        out = add_row(alloc, sizes, out, &empty, a)?;
-        out = add_row(alloc, sizes, out, &empty, b)?;
+        with_all(alloc, sizes, clauses, more)
     } else {
-        for clause in a {
-            out = add_row(alloc, sizes, out, clause, b)?;
-        }
+        either(alloc, sizes, clauses, &more)
     }
-    Ok(out)
 }

@@ -125,7 +125,7 @@ pub fn clauses_where(
             let mut out = constant(alloc, wanted)?;
             for part in parts.as_slice() {
                 let more = clauses_where(alloc, components, sizes, part, wanted)?;
-                out = combined(alloc, sizes, wanted, &out, &more)?;
+                out = combined(alloc, sizes, wanted, out, more)?;
             }
             Ok(out)
         }
@@ -133,23 +133,23 @@ pub fn clauses_where(
             let mut out = constant(alloc, !wanted)?;
             for part in parts.as_slice() {
                 let more = clauses_where(alloc, components, sizes, part, wanted)?;
-                out = combined(alloc, sizes, !wanted, &out, &more)?;
+                out = combined(alloc, sizes, !wanted, out, more)?;
             }
             Ok(out)
         }
         Formula::Implies(a, b) => {
             let first = clauses_where(alloc, components, sizes, a.get(), !wanted)?;
             let second = clauses_where(alloc, components, sizes, b.get(), wanted)?;
-            combined(alloc, sizes, !wanted, &first, &second)
+            combined(alloc, sizes, !wanted, first, second)
         }
         Formula::Iff(a, b) => {
             let without = clauses_where(alloc, components, sizes, a.get(), false)?;
             let same = clauses_where(alloc, components, sizes, b.get(), wanted)?;
-            let one = combined(alloc, sizes, false, &without, &same)?;
+            let one = combined(alloc, sizes, false, without, same)?;
             let with = clauses_where(alloc, components, sizes, a.get(), true)?;
             let other = clauses_where(alloc, components, sizes, b.get(), !wanted)?;
-            let two = combined(alloc, sizes, false, &with, &other)?;
-            combined(alloc, sizes, true, &one, &two)
+            let two = combined(alloc, sizes, false, with, other)?;
+            combined(alloc, sizes, true, one, two)
         }
     }
 }

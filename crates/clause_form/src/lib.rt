@@ -6,6 +6,7 @@ mod clause;
 mod combination;
 mod condition;
 mod convert;
+mod last;
 mod literals;
 mod parted;
 mod sizes;
@@ -13,7 +14,7 @@ mod subsumption;
 mod whole;
 
 pub use clause::{Clause, Clauses, Literal};
-pub use combination::{combined, with_clause};
+pub use combination::combined;
 pub use condition::given;
 pub use parted::{copies, keep_others, naming};
 pub use sizes::sizes_of;

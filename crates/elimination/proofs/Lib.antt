@@ -1,4 +1,3 @@
-mod SomeValue
 mod OtherSubjects
 mod Projecting
 mod SubjectProjected

@@ -7,7 +7,7 @@ use Rattle.cca_base.proofs.FlagLaws.{set_cases}
 use Rattle.clause_form.specs.declared.clause.Clause.{Clause}
 use Rattle.clause_form.specs.Clauses.{AllBelow, AllOthers, AreValues, all_met, any_below}
 use Rattle.elimination.specs.Projection.{AreAllDone, DifferAtMarks, IsLeft, IsProjectedSoFar}
-use Rattle.elimination.proofs.SomeValue.{any_true, some_below}
+use Rattle.clause_form.proofs.SomeValue.{any_true, some_below}
 
 -- ---- no subject yet
 

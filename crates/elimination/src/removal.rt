@@ -1,11 +1,11 @@
 //! One subject projected away: all resolvents on it, value by value.
 
-ghost use Rattle.std.specs.Prelude.{◌≡◌, ◌&&◌, ℕ, List, false, ◌≤◌, ◌<◌, All, IfOk, length, slice_index, slice_set};
+ghost use Rattle.std.specs.Prelude.{◌≡◌, ℕ, List, false, ◌≤◌, ◌<◌, All, IfOk, length, slice_index, slice_set};
 ghost use Rattle.cca_base.specs.declared.limits.TheConstants.{MAX_CHOICES};
 ghost use Rattle.clause_form.specs.Clauses.{AllBelow, AllOthers, AreValues, all_met, any_below};
 
 use cca_base::List;
-use clause_form::{Clause, combined, given, keep_others, naming, with_clause};
+use clause_form::{Clause, combined, given, keep_others, naming};
 use std::alloc::{AllocError, Global};
 
 /// The clause that is never true, alone.
@@ -40,29 +40,7 @@ fn resolvents(
     let mut all = never(alloc)?;
     for value in 0..sizes[subject as usize] {
         let rest = given(alloc, clauses, subject, value)?;
-        all = combined(alloc, sizes, false, &all, &rest)?;
-    }
-    Ok(all)
-}
-
-/// The clauses, and more of them one by one.
-fn with_all(
-    alloc: Global,
-    sizes: &[u8],
-    clauses: Vec<Clause>,
-    more: &[Clause],
-) -> Result<Vec<Clause>, AllocError>
-    requires few { All (λ n. n ≤ MAX_CHOICES) sizes.now }
-    requires below { AllBelow (length sizes.now) clauses.items }
-    requires more { AllBelow (length sizes.now) more.now }
-    ensures met { IfOk result (λ r. (xs : List ℕ) → AreValues sizes.now xs
-        → all_met xs r.items ≡ (all_met xs clauses.items && all_met xs more.now)) }
-    ensures below { IfOk result (λ r. AllBelow (length sizes.now) r.items) }
-    ensures names { IfOk result (λ r. (x : ℕ) → AllOthers x clauses.items → AllOthers x more.now → AllOthers x r.items) }
-{
-    let mut all = clauses;
-    for clause in more {
-        all = with_clause(alloc, sizes, all, clause.copy(alloc)?)?;
+        all = combined(alloc, sizes, false, all, rest)?;
     }
     Ok(all)
 }
@@ -86,5 +64,5 @@ pub(crate) fn without(
     let named = naming(alloc, &clauses, subject)?;
     let more = resolvents(alloc, sizes, &named, subject)?;
     keep_others(&mut clauses, subject);
-    with_all(alloc, sizes, clauses, &more)
+    combined(alloc, sizes, true, clauses, more)
 }

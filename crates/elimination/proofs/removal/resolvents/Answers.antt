@@ -1,7 +1,7 @@
 use Rattle.std.proofs.Common.{◌≡◌, ◌<◌, ◌||◌, ℕ, Bool, List, length, ap, subst, sym, ◌∙◌, set, get_or, arith}
 use Rattle.clause_form.specs.declared.clause.Clause.{Clause}
 use Rattle.clause_form.specs.Clauses.{AllOthers, all_met, any_below}
-use Rattle.elimination.proofs.SomeValue.{any_below-step}
+use Rattle.clause_form.proofs.SomeValue.{any_below-step}
 use Rattle.elimination.proofs.removal.resolvents.Goals as goal
 
 pub loop-value-preserved : goal.loop-value-preserved
@@ -10,21 +10,17 @@ loop-value-preserved c =
     let x = c.args.subject in
     let v = c.loop-value.value in
     let clauses = c.args.clauses.now in
-    let left : c.deref.result.now ≡ c.loop-value.all.items = c.deref.ensures.value in
-    let right : c.deref-in-loop-value.result.now ≡ c.in_ok-rest.rest.items = c.deref-in-loop-value.ensures.value in
     record {
       met = λ xs h.
           let test : ℕ → Bool = λ n. all_met (set xs x n) clauses in
           let inside : x < length xs = omega (arith, h.full, c.requires.subject) in
           c.in_ok-all-2.ensures.met xs h
-          ∙ ap (λ (z : List Clause). all_met xs z || all_met xs c.deref-in-loop-value.result.now) left
-          ∙ ap (λ (z : List Clause). all_met xs c.loop-value.all.items || all_met xs z) right
           ∙ ap (λ b. b || all_met xs c.in_ok-rest.rest.items) (c.loop-value.invariant.met xs h)
           ∙ ap (λ b. any_below v test || b) (c.in_ok-rest.ensures.met xs inside)
           ∙ sym (any_below-step v test);
       below = c.in_ok-all-2.ensures.below;
-      gone = c.in_ok-all-2.ensures.names x (subst (AllOthers x) (sym left) c.loop-value.invariant.gone) (subst (AllOthers x) (sym right) c.in_ok-rest.ensures.gone);
-      names = λ y h. c.in_ok-all-2.ensures.names y (subst (AllOthers y) (sym left) (c.loop-value.invariant.names y h)) (subst (AllOthers y) (sym right) (c.in_ok-rest.ensures.names y h));
+      gone = c.in_ok-all-2.ensures.names x c.loop-value.invariant.gone c.in_ok-rest.ensures.gone;
+      names = λ y h. c.in_ok-all-2.ensures.names y (c.loop-value.invariant.names y h) (c.in_ok-rest.ensures.names y h);
     }
 
 pub returns-clause-met : goal.returns-clause-met

@@ -3,7 +3,7 @@ use Rattle.std.proofs.lemmas.List.Elements.{All-filter}
 use Rattle.std.proofs.lemmas.Result.{IfOk-weaker}
 use Rattle.clause_form.specs.declared.clause.Clause.{Clause}
 use Rattle.clause_form.specs.Clauses.{AllOthers, AreBelow, AreOthers, AreValues, all_met, meets, names_one, any_below}
-use Rattle.elimination.proofs.SomeValue.{any_same, any_and}
+use Rattle.clause_form.proofs.SomeValue.{any_same, any_and}
 use Rattle.elimination.proofs.OtherSubjects.{all_met_others, all_parted, others_unnamed}
 use Rattle.elimination.proofs.removal.without.Goals as goal
 
@@ -13,12 +13,9 @@ resolvents-requires-clause-below c =
     let named : c.deref-2.result.now ≡ filter test c.args.clauses.items = c.deref-2.ensures.value ∙ c.in_ok-named.ensures ∙ ap (filter test) c.deref.ensures.value in
     rw named (All-filter test (λ (z : Clause). AreBelow (length c.args.sizes.now) z.literals) c.args.clauses.items c.requires.below)
 
-pub with_all-requires-clause-below : goal.with_all-requires-clause-below
-with_all-requires-clause-below c =
+pub combined-requires-clause-below : goal.combined-requires-clause-below
+combined-requires-clause-below c =
     rw c.keep_others.ensures (All-filter (λ z. not (names_one (λ u. u == c.args.subject) z)) (λ (z : Clause). AreBelow (length c.args.sizes.now) z.literals) c.args.clauses.items c.requires.below)
-
-pub with_all-requires-clause-more : goal.with_all-requires-clause-more
-with_all-requires-clause-more c = rw c.deref-3.ensures.value c.in_ok-more.ensures.below
 
 -- what is left of the clauses, and what took the place of the others
 module _ (sizes : List ℕ) (x : ℕ) (clauses left named more : List Clause) (is_left : left ≡ filter (λ z. not (names_one (λ u. u == x) z)) clauses)
@@ -49,24 +46,24 @@ named_are c = c.deref-2.ensures.value ∙ c.in_ok-named.ensures ∙ ap (filter (
 
 pub returns-clause-met : goal.returns-clause-met
 returns-clause-met c =
-    IfOk-weaker c.with_all.result _ _
+    IfOk-weaker c.combined.result _ _
     (λ r says. all_without c.args.sizes.now c.args.subject c.args.clauses.items c.keep_others.new.clauses.items c.deref-2.result.now c.in_ok-more.more.items c.keep_others.ensures (named_are c)
-    c.in_ok-more.ensures.met r.items (λ xs h. says xs h ∙ ap (λ (z : List Clause). all_met xs c.keep_others.new.clauses.items && all_met xs z) c.deref-3.ensures.value))
-    c.with_all.ensures.met
+    c.in_ok-more.ensures.met r.items says)
+    c.combined.ensures.met
 
 pub returns-clause-gone : goal.returns-clause-gone
 returns-clause-gone c =
     let x = c.args.subject in
-    IfOk-weaker c.with_all.result _ _
-    (λ r names. names x (subst (AllOthers x) (sym c.keep_others.ensures) (others_unnamed x c.args.clauses.items)) (subst (AllOthers x) (sym c.deref-3.ensures.value) c.in_ok-more.ensures.gone))
-    c.with_all.ensures.names
+    IfOk-weaker c.combined.result _ _
+    (λ r names. names x (subst (AllOthers x) (sym c.keep_others.ensures) (others_unnamed x c.args.clauses.items)) c.in_ok-more.ensures.gone)
+    c.combined.ensures.names
 
 pub returns-clause-names : goal.returns-clause-names
 returns-clause-names c =
     let x = c.args.subject in
-    IfOk-weaker c.with_all.result _ _
+    IfOk-weaker c.combined.result _ _
     (λ r names y h. names y
     (subst (AllOthers y) (sym c.keep_others.ensures) (All-filter (λ z. not (names_one (λ u. u == x) z)) (λ (z : Clause). AreOthers y z.literals) c.args.clauses.items h))
-    (subst (AllOthers y) (sym c.deref-3.ensures.value) (c.in_ok-more.ensures.names y
-    (subst (AllOthers y) (sym (named_are c)) (All-filter (names_one (λ u. u == x)) (λ (z : Clause). AreOthers y z.literals) c.args.clauses.items h)))))
-    c.with_all.ensures.names
+    (c.in_ok-more.ensures.names y
+    (subst (AllOthers y) (sym (named_are c)) (All-filter (names_one (λ u. u == x)) (λ (z : Clause). AreOthers y z.literals) c.args.clauses.items h))))
+    c.combined.ensures.names

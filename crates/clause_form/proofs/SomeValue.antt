@@ -1,7 +1,6 @@
 -- Tests that some number below a size passes.
-use Rattle.std.proofs.Common.{◌≡◌, ℕ, zero, suc, ◌+◌, ◌<◌, Bool, true, false, ◌&&◌, ◌||◌, refl, sym, subst, arith, inl, inr, ◌⊎◌}
+use Rattle.std.proofs.Common.{◌≡◌, ℕ, zero, suc, ◌+◌, ◌<◌, Bool, true, false, ◌&&◌, ◌||◌, refl, sym, subst, arith, add-one, inl, inr, ◌⊎◌}
 use mathlib.Core.Bool.{or-true, and-false}
-use Rattle.std.proofs.Common.{add-one}
 use Rattle.clause_form.specs.Clauses.{any_below}
 
 pub any_below-step : (n : ℕ) (t : ℕ → Bool) → any_below (n + 1) t ≡ (any_below n t || t n)
@@ -36,3 +35,9 @@ some_below (suc n) t v h e =
     let P : ℕ → Type 0 = λ z. t z ≡ true in
     let cases : (v < n) ⊎ (v ≡ n) = grind arith in
     elim cases [ inl l ↦ rw (some_below n t v l e) | inr same ↦ rw (subst P same e, or-true (any_below n t)) ]
+
+pub none_below : (n : ℕ) (t : ℕ → Bool) → ((v : ℕ) → v < n → t v ≡ false) → any_below n t ≡ false
+none_below zero t f = refl
+none_below (suc n) t f =
+    let rest : any_below n t ≡ false = none_below n t (λ v h. f v (omega arith)) in
+    let last : t n ≡ false = f n (omega arith) in rw (rest, last)
