@@ -1,6 +1,8 @@
 -- Blocked cubes make a row false.
 use Rattle.prime_implicants.specs.Partial.{IsWithin, HasFrom, IsTotal}
-use Rattle.prime_implicants.specs.DenseClauses.{fits, row_unfalsified, all_unfalsified, any_below, mentions}
+use Rattle.prime_implicants.specs.DenseClauses.{fits, row_unfalsified, all_unfalsified, mentions}
+use Rattle.clause_form.specs.Clauses.{any_below}
+use Rattle.clause_form.proofs.SomeValue.{none_below}
 use Rattle.prime_implicants.specs.Found.{CoversAt, Covers, IsBlockedByRows}
 use Rattle.std.proofs.Common.{◌≡◌, ℕ, zero, suc, ◌<◌, ◌≤◌, Bool, true, false, not, cond, ◌&&◌, ◌||◌, eqb, List, [], ◌∷◌, length, Option, Some, None, refl, sym, ◌∙◌, ap, subst, arith, set, get_or, ◌⊎◌, inl, inr}
 use Rattle.std.specs.List.{filter}
@@ -10,7 +12,7 @@ use Rattle.cca_base.proofs.SetLaws.{has-empty}
 use Rattle.prime_implicants.proofs.DenseClauseLaws.{list_all-filter, list_all_implies, either_so}
 use Rattle.prime_implicants.proofs.DenseClauseLaws.{length-within}
 use Rattle.prime_implicants.proofs.PartialValueLaws.{within-set}
-use Rattle.prime_implicants.proofs.DenseClauseLaws.{some_below}
+use Rattle.clause_form.proofs.SomeValue.{some_below}
 
 -- ---- the cases of a subject's value
 
@@ -79,12 +81,6 @@ one_mentions q (r ∷ rows) k v e h m =
     let both = and_parts (row_unfalsified q r) (all_unfalsified q rows) h in
     by_mention (set q k (Some v)) r (filter (mentions k) rows) (mentions k r) (all_unfalsified (set q k (Some v)) rows)
     (λ n. row_unfalsified-other q r k v e n ∙ both.0) m (one_mentions q rows k v e both.1)
-
-none_below : (n : ℕ) (t : ℕ → Bool) → ((v : ℕ) → v < n → t v ≡ false) → any_below n t ≡ false
-none_below zero t f = refl
-none_below (suc n) t f =
-    let rest : any_below n t ≡ false = none_below n t (λ v h. f v (omega arith)) in
-    let last : t n ≡ false = f n (omega arith) in rw (rest, last)
 
 -- ---- one more subject
 

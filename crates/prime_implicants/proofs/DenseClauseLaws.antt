@@ -13,7 +13,7 @@ use mathlib.Core.Bool.{and-true, or-true}
 use Rattle.cca_base.specs.Sets.{has}
 use Rattle.cca_base.proofs.SetLaws.{has-or, has_ones}
 use Rattle.prime_implicants.specs.Partial.{IsWithin}
-use Rattle.prime_implicants.specs.DenseClauses.{fits, row_unfalsified, all_unfalsified, is_wide, union_rows, is_stronger, is_always, any_below, is_in, is_sized, fix_row, is_zero, is_full}
+use Rattle.prime_implicants.specs.DenseClauses.{fits, row_unfalsified, all_unfalsified, is_wide, union_rows, is_stronger, is_always, is_in, is_sized, fix_row, is_zero, is_full}
 
 -- ---- bits
 
@@ -234,25 +234,6 @@ row_unfalsified-never (o ∷ q) (suc n) = rw (fits_empty o, row_unfalsified-neve
 
 pub wide-never : (n : ℕ) → is_wide n (replicate n 0) ≡ true
 wide-never n = eq-eqb (length (replicate n 0)) n (length-replicate n 0)
-
-pub any_below-step : (n : ℕ) (t : ℕ → Bool) → any_below (n + 1) t ≡ (any_below n t || t n)
-any_below-step n t = rw add-one
-
-pub some_below : (n : ℕ) (t : ℕ → Bool) (v : ℕ) → v < n → t v ≡ true → any_below n t ≡ true
-some_below zero t v h e = absurd (omega arith)
-some_below (suc n) t v h e =
-    let P : ℕ → Type 0 = λ z. t z ≡ true in
-    let cases : (v < n) ⊎ (v ≡ n) = grind arith in
-    elim cases [ inl l ↦ rw (some_below n t v l e) | inr same ↦ rw (subst P same e, or-true (any_below n t)) ]
-
-any_case : (n : ℕ) (t : ℕ → Bool) (a b : Bool) → any_below n t ≡ a → t n ≡ b → (a || b) ≡ true → ((any_below n t ≡ true → (v : ℕ) × (v < n) × (t v ≡ true))) → (v : ℕ) × (v < suc n) × (t v ≡ true)
-any_case n t true b e f h ih = let r = ih e in (r.0, omega (arith, r.1), r.2)
-any_case n t false true e f h ih = (n, omega arith, f)
-any_case n t false false e f h ih = absurd (cc)
-
-pub any_true : (n : ℕ) (t : ℕ → Bool) → any_below n t ≡ true → (v : ℕ) × (v < n) × (t v ≡ true)
-any_true zero t e = absurd (cc)
-any_true (suc n) t e = any_case n t (any_below n t) (t n) refl refl e (any_true n t)
 
 -- ---- subjects that no row names
 

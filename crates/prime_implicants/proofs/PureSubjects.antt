@@ -1,11 +1,13 @@
 -- Consensus on a pure subject adds nothing.
 use Rattle.prime_implicants.specs.Partial.{IsWithin}
-use Rattle.prime_implicants.specs.DenseClauses.{row_unfalsified, all_unfalsified, is_wide, is_zero, mentions, any_below, have_value, is_pure}
+use Rattle.prime_implicants.specs.DenseClauses.{row_unfalsified, all_unfalsified, is_wide, is_zero, mentions, have_value, is_pure}
+use Rattle.clause_form.specs.Clauses.{any_below}
 use Rattle.std.proofs.Common.{◌≡◌, ℕ, ◌<◌, Bool, true, false, not, cond, ◌&&◌, ◌||◌, List, [], ◌∷◌, length, Option, Some, refl, sym, ◌∙◌, arith, set, get_or}
 use Rattle.std.specs.List.{list_all, filter}
 use Rattle.std.proofs.lemmas.Bool.{and_parts}
 use Rattle.cca_base.specs.Sets.{has}
-use Rattle.prime_implicants.proofs.DenseClauseLaws.{any_true, has_set, length-within, some_below, unless_always, widths}
+use Rattle.prime_implicants.proofs.DenseClauseLaws.{has_set, length-within, unless_always, widths}
+use Rattle.clause_form.proofs.SomeValue.{any_true, some_below}
 
 kept : (q : List (Option ℕ)) (r : List ℕ) (rows : List (List ℕ)) (unnamed met : Bool) → (unnamed || met) ≡ true → (met ≡ true → row_unfalsified q r ≡ true)
     → all_unfalsified q rows ≡ true → all_unfalsified q (cond (not unnamed) (r ∷ rows) rows) ≡ true

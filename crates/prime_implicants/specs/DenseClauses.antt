@@ -2,6 +2,7 @@
 use Rattle.std.specs.Prelude.{ℕ, zero, suc, Bool, false, not, ◌==◌, ◌-◌, ◌^◌, ◌&&◌, ◌||◌, List, length, Option, Some, None, map, bit_or, slice_index, slice_set, nat_lt}
 use Rattle.std.specs.List.{zip, list_all, list_any}
 use Rattle.cca_base.specs.Sets.{has}
+use Rattle.clause_form.specs.Clauses.{any_below}
 
 -- for each subject a set of values
 abbrev pub Sets : Type 0
@@ -47,11 +48,6 @@ is_zero y row = slice_index row y == 0
 -- the subject can make the row true
 abbrev pub mentions : ℕ → List ℕ → Bool
 mentions x row = not (is_zero x row)
-
--- some number below the size passes
-abbrev pub any_below : ℕ → (ℕ → Bool) → Bool
-any_below zero test = false
-any_below (suc n) test = any_below n test || test n
 
 -- each row that names the subject may still be true
 abbrev pub named_unfalsified : ℕ → List (Option ℕ) → List (List ℕ) → Bool

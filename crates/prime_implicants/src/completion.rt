@@ -4,7 +4,8 @@ ghost use Rattle.std.specs.Prelude.{◌≡◌, ℕ, true, false, ◌≤◌, ◌<
 ghost use Rattle.std.specs.List.{list_all};
 ghost use Rattle.cca_base.specs.declared.limits.TheConstants.{MAX_CHOICES};
 ghost use Rattle.prime_implicants.specs.Partial.{IsTotal, IsWithin, Partial};
-ghost use Rattle.prime_implicants.specs.DenseClauses.{all_unfalsified, any_below, is_wide, is_zero, mentions};
+ghost use Rattle.prime_implicants.specs.DenseClauses.{all_unfalsified, is_wide, is_zero, mentions};
+ghost use Rattle.clause_form.specs.Clauses.{any_below};
 ghost use Rattle.prime_implicants.specs.Found.{IsBlockedByRows};
 
 use crate::dense_clause::DenseClause;

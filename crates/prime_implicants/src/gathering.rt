@@ -4,7 +4,8 @@ ghost use Rattle.std.specs.Prelude.{◌≡◌, ℕ, Bool, true, ◌≤◌, ◌<�
 ghost use Rattle.std.specs.List.{list_all};
 ghost use Rattle.cca_base.specs.declared.limits.TheConstants.{MAX_CHOICES};
 ghost use Rattle.prime_implicants.specs.Partial.{Partial, IsWithin};
-ghost use Rattle.prime_implicants.specs.DenseClauses.{Sets, all_unfalsified, row_unfalsified, any_below, fix_row, is_in, is_sized, is_wide, is_zero, union_rows};
+ghost use Rattle.prime_implicants.specs.DenseClauses.{Sets, all_unfalsified, row_unfalsified, fix_row, is_in, is_sized, is_wide, is_zero, union_rows};
+ghost use Rattle.clause_form.specs.Clauses.{any_below};
 
 use crate::dense_clause::{DenseClause, is_always, never, union};
 use crate::dense_clauses::insert_minimal;

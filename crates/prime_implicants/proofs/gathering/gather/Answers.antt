@@ -1,7 +1,9 @@
 use Rattle.std.proofs.Common.{rules, length, ◌≡◌, ◌∙◌, ◌&&◌, ◌||◌, ap, sym, set, Some, ℕ, Bool, true, replicate, ◌∷◌, []}
 use Rattle.std.specs.List.{list_all}
-use Rattle.prime_implicants.specs.DenseClauses.{is_wide, all_unfalsified, any_below, is_zero}
-use Rattle.prime_implicants.proofs.DenseClauseLaws.{wide-all, rows_in, rows_sized, wide-fixed, length-within, row_unfalsified-never, wide-never, any_below-step, zero-never, zero-all}
+use Rattle.prime_implicants.specs.DenseClauses.{is_wide, all_unfalsified, is_zero}
+use Rattle.clause_form.specs.Clauses.{any_below}
+use Rattle.prime_implicants.proofs.DenseClauseLaws.{wide-all, rows_in, rows_sized, wide-fixed, length-within, row_unfalsified-never, wide-never, zero-never, zero-all}
+use Rattle.clause_form.proofs.SomeValue.{any_below-step}
 use Rattle.prime_implicants.proofs.gathering.gather.Goals as goal
 
 pub loop-v-init : goal.loop-v-init

@@ -1,7 +1,8 @@
 use Rattle.std.proofs.Common.{◌≡◌, ℕ, true, length, Some, slice_set}
 use Rattle.std.specs.List.{list_all}
 use Rattle.prime_implicants.specs.Partial.{IsWithin, Partial}
-use Rattle.prime_implicants.specs.DenseClauses.{all_unfalsified, is_wide, any_below, is_zero, fix_row}
+use Rattle.prime_implicants.specs.DenseClauses.{all_unfalsified, is_wide, is_zero, fix_row}
+use Rattle.clause_form.specs.Clauses.{any_below}
 use Rattle.prime_implicants.proofs.gathering.gather.Given as goal
 
 abbrev pub invariant-loop-v : goal.invariant-loop-v

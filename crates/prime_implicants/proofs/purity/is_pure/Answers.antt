@@ -1,6 +1,6 @@
 use Rattle.std.proofs.Common.{rules, ◌≡◌, ◌∙◌, sym, true, false, Bool, ℕ}
 use Rattle.prime_implicants.specs.DenseClauses.{have_value}
-use Rattle.prime_implicants.proofs.DenseClauseLaws.{any_below-step, some_below}
+use Rattle.clause_form.proofs.SomeValue.{any_below-step, some_below}
 use Rattle.prime_implicants.proofs.purity.is_pure.Goals as goal
 
 pub loop-v-preserved : goal.loop-v-preserved
