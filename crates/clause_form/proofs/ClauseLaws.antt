@@ -1,17 +1,15 @@
 -- Literals that hold more, and clauses that say less.
-use Rattle.std.proofs.Common.{◌≡◌, ℕ, zero, suc, ◌<◌, ◌==◌, ◌||◌, ◌&&◌, Bool, true, false, List, [], ◌∷◌, ◌++◌, length, All, get_or, set, slice_index, slice_index_or, slice_set, bit_or, sym, ap, subst, ◌∙◌, refl, arith}
-use Rattle.std.specs.List.{list_any, list_all}
+use Rattle.std.proofs.Common.{◌≡◌, ℕ, ◌<◌, ◌==◌, ◌||◌, ◌&&◌, Bool, true, false, List, [], ◌∷◌, ◌++◌, length, All, bit_or, sym, ap, subst, ◌∙◌, refl, arith}
+use Rattle.std.specs.List.{list_all}
 use Rattle.std.proofs.lemmas.Bool.{eqb-true, and_parts, and_from}
 use Rattle.std.proofs.lemmas.List.{length_push, length-append}
 use Rattle.std.proofs.lemmas.List.Elements.{All-take, All-get_or, All-push}
 use Rattle.std.proofs.lemmas.List.Folds.{list_all-append}
 use Rattle.std.proofs.Math.Seq.{get_or-append_seam, take-append_seam}
-use Rattle.std.proofs.Math.Bool.{and_assoc, or_assoc}
+use Rattle.std.proofs.Math.Bool.{and_assoc}
 use mathlib.Core.Bool.{and-true}
 use Rattle.cca_base.proofs.SetLaws.{has-or}
 use Rattle.cca_base.specs.Sets.{has}
-use Rattle.clause_form.specs.declared.clause.Literal.{Literal}
-use Rattle.clause_form.specs.Clauses.{is_true, is_met}
 
 -- a set that the union does not change has all of the other
 pub within : (a b v : ℕ) → (bit_or a b == b) ≡ true → has a v ≡ true → has b v ≡ true

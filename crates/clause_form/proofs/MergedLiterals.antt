@@ -1,7 +1,6 @@
 -- Literals of two clauses put into one, place by place.
-use Rattle.std.proofs.Common.{◌≡◌, ℕ, ◌+◌, ◌<◌, ◌||◌, Bool, true, false, List, [], ◌∷◌, ◌++◌, length, take, refl, sym, ap, ◌∙◌, slice_index_or}
+use Rattle.std.proofs.Common.{◌≡◌, ℕ, ◌+◌, ◌<◌, ◌||◌, List, [], ◌∷◌, ◌++◌, length, take, sym, ap, ◌∙◌, slice_index_or}
 use Rattle.std.proofs.lemmas.List.Folds.{list_any-append, list_any_more}
-use Rattle.std.specs.List.{list_any}
 use mathlib.Core.Bool.{or-false}
 use Rattle.clause_form.specs.declared.clause.Literal.{Literal}
 use Rattle.clause_form.specs.Clauses.{AreMerged, is_met, is_true}

@@ -1,5 +1,5 @@
 -- Tokens that change nothing but what has to come next.
-use Rattle.std.proofs.Common.{◌≡◌, Bool, true, false, codes, List, ℕ, Option, Some, None, refl, ap, ◌∙◌}
+use Rattle.std.proofs.Common.{◌≡◌, Bool, true, false, codes, List, ℕ, Some, refl, ap, ◌∙◌}
 use Rattle.std.specs.Option.{option_map}
 use Rattle.std.proofs.lemmas.Bool.{not-true}
 use Rattle.list_laws.proofs.Tests.{cond_either}
@@ -10,7 +10,6 @@ use Rattle.text_base.specs.declared.token.Kind.TheVariants.{Word, Number, Symbol
 use Rattle.text_base.specs.Lexemes.{Lexeme, word, symbol, comma, is_lexeme, is_name_word}
 use Rattle.formula_syntax.specs.declared.formula_parser.Expected.{Expected}
 use Rattle.formula_syntax.specs.declared.formula_parser.Expected.TheVariants.{Operand, Operator, Named, Compared, Opened, Listed, Followed}
-use Rattle.formula_syntax.specs.declared.atom.Atom.{Atom}
 use Rattle.formula_syntax.specs.ReadParts.{named}
 use Rattle.formula_syntax.specs.FormulaParser.{State, at, operand_step, place_behind, step, step_at}
 use Rattle.formula_syntax.proofs.Complete.{begins_none}

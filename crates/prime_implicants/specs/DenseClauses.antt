@@ -1,5 +1,5 @@
 -- Clauses as rows: for each subject the set of the values with which it makes the clause true.
-use Rattle.std.specs.Prelude.{ℕ, zero, suc, Bool, false, not, ◌==◌, ◌-◌, ◌^◌, ◌&&◌, ◌||◌, List, length, Option, Some, None, map, bit_or, slice_index, slice_set, nat_lt}
+use Rattle.std.specs.Prelude.{ℕ, Bool, not, ◌==◌, ◌-◌, ◌^◌, ◌&&◌, ◌||◌, List, length, Option, Some, None, map, bit_or, slice_index, slice_set, nat_lt}
 use Rattle.std.specs.List.{zip, list_all, list_any}
 use Rattle.cca_base.specs.Sets.{has}
 use Rattle.clause_form.specs.Clauses.{any_below}

@@ -1,4 +1,4 @@
-use Rattle.std.proofs.Common.{◌≡◌, ◌<◌, ◌&&◌, ◌||◌, length, take, ap, ◌∙◌, sym, subst}
+use Rattle.std.proofs.Common.{◌<◌, ◌&&◌, ◌||◌, length, take, ap, ◌∙◌, sym, subst}
 use Rattle.std.proofs.lemmas.List.Folds.{list_all_more}
 use Rattle.clause_form.specs.declared.clause.Clause.{Clause}
 use Rattle.clause_form.specs.Clauses.{AreOthers, all_met, is_met, meets}

@@ -1,7 +1,7 @@
-use Rattle.std.proofs.Common.{◌≡◌, ◌<◌, ◌&&◌, ◌||◌, length, take, ap, ◌∙◌, sym, subst}
+use Rattle.std.proofs.Common.{◌<◌, ◌&&◌, ◌||◌, length, take, ap, ◌∙◌, sym, subst}
 use Rattle.std.proofs.lemmas.List.Folds.{list_all_more}
 use Rattle.clause_form.specs.declared.clause.Clause.{Clause}
-use Rattle.clause_form.specs.Clauses.{AreOthers, all_met, is_met, meets}
+use Rattle.clause_form.specs.Clauses.{AreOthers, all_met, meets}
 use Rattle.clause_form.proofs.ClauseLaws.{rows_step}
 use Rattle.clause_form.proofs.combination.distributed.Goals as goal
 

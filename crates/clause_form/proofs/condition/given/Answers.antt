@@ -1,4 +1,4 @@
-use Rattle.std.proofs.Common.{◌≡◌, ◌∙◌, ◌<◌, ◌&&◌, length, ap, sym, set, subst, take}
+use Rattle.std.proofs.Common.{◌∙◌, ◌<◌, ◌&&◌, length, ap, sym, set, subst, take}
 use Rattle.std.proofs.lemmas.List.Folds.{list_all_more}
 use Rattle.clause_form.specs.declared.clause.Clause.{Clause}
 use Rattle.clause_form.specs.Clauses.{AreBelow, AreOthers, all_met, meets}

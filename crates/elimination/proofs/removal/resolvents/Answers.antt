@@ -1,6 +1,5 @@
-use Rattle.std.proofs.Common.{◌≡◌, ◌<◌, ◌||◌, ℕ, Bool, List, length, ap, subst, sym, ◌∙◌, set, get_or, arith}
-use Rattle.clause_form.specs.declared.clause.Clause.{Clause}
-use Rattle.clause_form.specs.Clauses.{AllOthers, all_met, any_below}
+use Rattle.std.proofs.Common.{◌≡◌, ◌<◌, ◌||◌, ℕ, Bool, length, ap, sym, ◌∙◌, set, get_or, arith}
+use Rattle.clause_form.specs.Clauses.{all_met, any_below}
 use Rattle.clause_form.proofs.SomeValue.{any_below-step}
 use Rattle.elimination.proofs.removal.resolvents.Goals as goal
 
