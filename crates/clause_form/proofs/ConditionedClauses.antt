@@ -1,7 +1,7 @@
 -- Clauses once a subject has a value, and the literals that are left.
 use Rattle.std.proofs.Common.{◌≡◌, ℕ, ◌<◌, Bool, true, false, not, cond, ◌&&◌, ◌||◌, eqb, List, [], ◌∷◌, length, refl, ◌∙◌, ap, set, get_or, filter, get_or-set_other, get_or-set_same, sym}
 use Rattle.std.specs.List.{list_any}
-use Rattle.std.proofs.lemmas.Bool.{eqb-true, eqb-false}
+use Rattle.std.proofs.lemmas.Bool.{eqb-false, eqb-true, not-true}
 use Rattle.std.proofs.lemmas.List.Elements.{All-weaker, filter_passes}
 use Rattle.std.proofs.Math.Bool.{or_assoc}
 use Rattle.cca_base.specs.Sets.{has}
@@ -42,12 +42,8 @@ pub and_with : (o x : Bool) → x ≡ true → o ≡ (o && x)
 and_with true x e = sym e
 and_with false x e = refl
 
-not_true : (b : Bool) → not b ≡ true → b ≡ false
-not_true false e = refl
-not_true true e = sym e
-
 -- the literals of other subjects are of other subjects
 pub others_left : (subject : ℕ) (literals : List Literal) → AreOthers subject (filter (is_other subject) literals)
 others_left subject literals =
-    All-weaker (λ (l : Literal). is_other subject l ≡ true) (λ (l : Literal). eqb l.subject subject ≡ false) (λ l k. not_true (eqb l.subject subject) k)
+    All-weaker (λ (l : Literal). is_other subject l ≡ true) (λ (l : Literal). eqb l.subject subject ≡ false) (λ l k. not-true (eqb l.subject subject) k)
     (filter (is_other subject) literals) (filter_passes (is_other subject) literals)

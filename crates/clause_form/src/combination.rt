@@ -148,28 +148,8 @@ fn distributed(
     Ok(out)
 }
 
-/// Clauses that are true where one of the two parts is. A literal alone goes into the only clause where it comes last there.
-fn either(
-    alloc: Global,
-    sizes: &[u8],
-    clauses: Vec<Clause>,
-    more: &[Clause],
-) -> Result<Vec<Clause>, AllocError>
-    requires few { All (λ n. n ≤ MAX_CHOICES) sizes.now }
-    requires below { AllBelow (length sizes.now) clauses.items }
-    requires of_more { AllBelow (length sizes.now) more.now }
-    ensures met { IfOk result (λ r. (xs : List ℕ) → AreValues sizes.now xs
-        → all_met xs r.items ≡ (all_met xs clauses.items || all_met xs more.now)) }
-    ensures below { IfOk result (λ r. AllBelow (length sizes.now) r.items) }
-    ensures names { IfOk result (λ r. (x : ℕ) → AllOthers x clauses.items → AllOthers x more.now → AllOthers x r.items) }
-{
-    match last_literal(sizes, &clauses, more) {
-        Some(literal) => lengthened(clauses, literal),
-        None => distributed(alloc, sizes, &clauses, more),
-    }
-}
-
-/// Clauses that are true where both parts are, or where one is, and that name nothing more. The error is want of memory.
+/// Clauses that are true where both parts are, or where one is, and that name nothing more. A literal alone goes into the only
+/// clause where it comes last there. The error is want of memory.
 pub fn combined(
     alloc: Global,
     sizes: &[u8],
@@ -185,8 +165,10 @@ pub fn combined(
     ensures names { IfOk result (λ r. (x : ℕ) → AllOthers x clauses.items → AllOthers x more.items → AllOthers x r.items) }
 {
     if all {
-        with_all(alloc, sizes, clauses, more)
-    } else {
-        either(alloc, sizes, clauses, &more)
+        return with_all(alloc, sizes, clauses, more);
+    }
+    match last_literal(sizes, &clauses, &more) {
+        Some(literal) => lengthened(clauses, literal),
+        None => distributed(alloc, sizes, &clauses, &more),
     }
 }

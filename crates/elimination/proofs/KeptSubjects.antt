@@ -1,7 +1,7 @@
 -- What is left over the subjects that are kept.
-use Rattle.std.proofs.Common.{◌≡◌, ◌==◌, ℕ, zero, suc, ◌+◌, ◌<◌, ◌≤◌, ◌&&◌, Bool, true, false, not, List, ◌++◌, length, replicate, take, drop, refl, sym, ap, subst, ◌∙◌, arith, get_or}
+use Rattle.std.proofs.Common.{◌≡◌, ◌==◌, ℕ, zero, suc, ◌+◌, ◌<◌, ◌≤◌, ◌&&◌, true, false, not, List, ◌++◌, length, replicate, take, drop, refl, sym, ap, subst, ◌∙◌, arith, get_or}
 use Rattle.std.specs.List.{list_any}
-use Rattle.std.proofs.lemmas.Bool.{and_from, and_parts, eqb-true, false≢true}
+use Rattle.std.proofs.lemmas.Bool.{and_from, and_parts, eqb-true, false_from_ne_true, false≢true, not-true}
 use Rattle.std.proofs.lemmas.List.{get_or-replicate, length-replicate, length-take-le, take-append-drop, get_or_append_left, get_or-take, length-append, get_or-append-add}
 use Rattle.std.proofs.lemmas.List.Folds.{list_any_at, list_any_none}
 use Rattle.std.proofs.lemmas.Grind.{get_or_default_zero, same_number_lists}
@@ -34,10 +34,6 @@ same_front n s z ys full same long =
     sym (take-append-drop n ys) ∙ ap (λ xs. xs ++ drop n ys) front
 
 -- where no size is zero, zeros are values
-by_false : (b : Bool) → (b ≡ true → ⊥) → b ≡ false
-by_false true h = absurd (h refl)
-by_false false h = refl
-
 some_value : (n : ℕ) → (n == 0) ≡ false → 0 < n
 some_value zero e = absurd (false≢true (sym e))
 some_value (suc n) e = omega arith
@@ -46,17 +42,13 @@ zero_values : (sizes : List ℕ) → list_any (λ n. n == 0) sizes ≡ false →
 zero_values sizes none = record {
   full = length-replicate (length sizes) 0;
   values = λ i l.
-      let nonzero : (get_or sizes i 0 == 0) ≡ false = by_false _ (λ is. false≢true (sym none ∙ list_any_at (λ n. n == 0) sizes i 0 l is)) in
+      let nonzero : (get_or sizes i 0 == 0) ≡ false = false_from_ne_true _ (λ is. false≢true (sym none ∙ list_any_at (λ n. n == 0) sizes i 0 l is)) in
       let some = some_value (get_or sizes i 0) nonzero in
       subst (λ k. k < get_or sizes i 0) (sym (get_or-replicate (length sizes) i 0 0 l)) some;
 }
 
-not_true : (b : Bool) → not b ≡ true → b ≡ false
-not_true true e = sym e
-not_true false e = refl
-
 not_zero : (a n : ℕ) → a < n → (n == 0) ≡ false
-not_zero a n h = by_false _ (λ is. let zero = eqb-true n 0 is in absurd (omega (arith, h, zero)))
+not_zero a n h = false_from_ne_true _ (λ is. let zero = eqb-true n 0 is in absurd (omega (arith, h, zero)))
 
 -- values can't be below a size that is zero
 no_empty : (sizes xs : List ℕ) → AreValues sizes xs → list_any (λ n. n == 0) sizes ≡ false
@@ -74,13 +66,13 @@ module _ (all : Clauses) (keep : ℕ) (new : List Clause) (kept : Clauses) (fits
   first xs ys h = all_met_first xs ys new (subst (λ n. AllBelow n new) (sym (full xs h)) projected.below)
 
   unmarked : (u : ℕ) → u < keep → is_set projected.marks u ≡ false
-  unmarked u small = by_false _ (λ is. let above = projected.above u is in absurd (omega (arith, small, above)))
+  unmarked u small = false_from_ne_true _ (λ is. let above = projected.above u is in absurd (omega (arith, small, above)))
 
   to_others : (xs : List ℕ) → AreValues (take keep all.sizes) xs → all_met xs kept.clauses ≡ true → CanBeMet all keep xs
   to_others xs h e =
       let both = and_parts (not (has_empty all.sizes keep)) (all_met xs new) (sym (met xs) ∙ e) in
       let zeros = replicate (length (drop keep all.sizes)) 0 in
-      let behind : AreValues (drop keep all.sizes) zeros = zero_values (drop keep all.sizes) (not_true _ both.0) in
+      let behind : AreValues (drop keep all.sizes) zeros = zero_values (drop keep all.sizes) (not-true _ both.0) in
       let there = (projected.exact (xs ++ zeros) (whole xs zeros h behind)).0 (first xs zeros h ∙ both.1) in
       let split : there.0 ≡ xs ++ drop keep there.0 = same_front keep xs zeros there.0 (full xs h) (λ u small. there.2 u (unmarked u small)) (omega (arith, there.1.full, fits)) in (
         drop keep there.0,

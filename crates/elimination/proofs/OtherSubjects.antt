@@ -2,7 +2,7 @@
 use Rattle.std.proofs.Common.{◌≡◌, ℕ, suc, ◌<◌, Bool, true, false, not, ◌&&◌, List, [], ◌∷◌, ◌++◌, length, All, refl, sym, ap, ◌∙◌, arith, set, get_or-set_other, filter, cond, eqb}
 use Rattle.std.specs.List.{list_all, list_any}
 use mathlib.Core.Bool.{and-false}
-use Rattle.std.proofs.lemmas.Bool.{eqb-false, false≢true}
+use Rattle.std.proofs.lemmas.Bool.{eqb-false, false_from_ne_true, false≢true, not-true}
 use Rattle.std.proofs.lemmas.List.Folds.{list_any_at}
 use Rattle.std.proofs.lemmas.List.{get_or_append_left}
 use Rattle.std.proofs.lemmas.List.Elements.{All-weaker, filter_passes}
@@ -33,22 +33,14 @@ pub all_met_first : (xs ys : List ℕ) (clauses : List Clause) → AllBelow (len
 all_met_first xs ys = all_alike (λ (c : Clause). AreBelow (length xs) c.literals) (meets (xs ++ ys)) (meets xs)
     (λ c h. any_alike (λ (l : Literal). l.subject < length xs) (is_true (xs ++ ys)) (is_true xs) (λ l k. ap (has l.values) (get_or_append_left xs ys 0 l.subject k)) c.literals h)
 
-by_false : (b : Bool) → (b ≡ true → ⊥) → b ≡ false
-by_false true h = absurd (h refl)
-by_false false h = refl
-
-not_true : (b : Bool) → not b ≡ true → b ≡ false
-not_true true e = sym e
-not_true false e = refl
-
 -- a clause that doesn't name the subject has literals of others alone
 none_named : (x : ℕ) (literals : List Literal) → list_any (λ (l : Literal). eqb l.subject x) literals ≡ false → AreOthers x literals
-none_named x literals h i d inside = by_false _ (λ found. false≢true (sym h ∙ list_any_at (λ (l : Literal). eqb l.subject x) literals i d inside found))
+none_named x literals h i d inside = false_from_ne_true _ (λ found. false≢true (sym h ∙ list_any_at (λ (l : Literal). eqb l.subject x) literals i d inside found))
 
 pub others_unnamed : (x : ℕ) (clauses : List Clause) → AllOthers x (filter (λ clause. not (names_one (λ u. eqb u x) clause)) clauses)
 others_unnamed x clauses =
     let test : Clause → Bool = λ clause. not (names_one (λ u. eqb u x) clause) in
-    All-weaker (λ (c : Clause). test c ≡ true) (λ (c : Clause). AreOthers x c.literals) (λ c k. none_named x c.literals (not_true _ k)) (filter test clauses) (filter_passes test clauses)
+    All-weaker (λ (c : Clause). test c ≡ true) (λ (c : Clause). AreOthers x c.literals) (λ c k. none_named x c.literals (not-true _ k)) (filter test clauses) (filter_passes test clauses)
 
 -- ---- clauses parted by a test
 
