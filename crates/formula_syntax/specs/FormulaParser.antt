@@ -174,15 +174,19 @@ step_at strict m s (Followed atom) l = followed_step s atom l
 unfoldable pub step : Bool → PlantModel → State → Lexeme → Option State
 step strict m s l = step_at strict m s s.place l
 
--- what has to come next behind a token that changes nothing else
-abbrev pub place_behind : Bool → PlantModel → Expected → Lexeme → Option Expected
-place_behind strict m Operand l = if is_name_word l then Some (Named (named m l.1)) else None
-place_behind strict m Operator l = if is_lexeme (word (codes "and")) l then Some Operand else None
-place_behind strict m (Named atom) l =
+-- what has to come next behind an atom's name and this token
+abbrev pub behind_name : Atom → Lexeme → Option Expected
+behind_name atom l =
     if is_lexeme (symbol (codes "=")) l then Some (Compared atom false)
     else (if is_lexeme (symbol (codes "!=")) l then Some (Compared atom true)
     else (if is_lexeme (word (codes "in")) l then Some (Opened atom)
     else None))
+
+-- what has to come next behind a token that changes nothing else
+abbrev pub place_behind : Bool → PlantModel → Expected → Lexeme → Option Expected
+place_behind strict m Operand l = if is_name_word l then Some (Named (named m l.1)) else None
+place_behind strict m Operator l = if is_lexeme (word (codes "and")) l then Some Operand else None
+place_behind strict m (Named atom) l = behind_name atom l
 place_behind strict m (Compared atom differs) l = None
 place_behind strict m (Opened atom) l = if is_lexeme (symbol (codes "{")) l then Some (Listed atom) else None
 place_behind strict m (Listed atom) l = if is_name_word l then Some (Followed (with_value strict m atom l.1)) else None

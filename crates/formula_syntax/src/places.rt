@@ -3,8 +3,7 @@
 ghost use Rattle.std.specs.Prelude.{◌≡◌, if◌then◌else◌, None, Some, IfSome};
 ghost use Rattle.text_base.specs.Lexemes.{is_lexeme, lexeme_of};
 ghost use Rattle.formula_syntax.specs.Lookups.{NamesFit};
-ghost use Rattle.formula_syntax.specs.FormulaParser.{place_behind};
-ghost use Rattle.formula_syntax.specs.declared.formula_parser.Expected.TheVariants.{Named};
+ghost use Rattle.formula_syntax.specs.FormulaParser.{behind_name, place_behind};
 
 use crate::atom::Atom;
 use crate::formula_parser::Expected;
@@ -25,8 +24,8 @@ fn behind(token: &Token, kind: Kind, text: &[u8], place: Expected) -> Option<Exp
 }
 
 /// Behind an atom's name.
-fn behind_name(strict: bool, model: &Model, atom: Atom, token: &Token) -> Option<Expected>
-    ensures { result ≡ place_behind strict model.now (Named atom) (lexeme_of token.now) }
+fn behind_name(atom: Atom, token: &Token) -> Option<Expected>
+    ensures { result ≡ behind_name atom (lexeme_of token.now) }
 {
     if is_lexeme(token, Kind::Symbol, b"=") {
         Some(Expected::Compared {
@@ -63,7 +62,7 @@ pub fn place_behind(
             }
         }
         Expected::Operator => behind(token, Kind::Word, b"and", Expected::Operand),
-        Expected::Named(atom) => behind_name(strict, model, atom, token),
+        Expected::Named(atom) => behind_name(atom, token),
         Expected::Compared {
             atom: _,
             differs: _,
