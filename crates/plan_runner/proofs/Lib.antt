@@ -2,3 +2,4 @@ pub mod Growing
 pub mod StepMoves
 pub mod GoingBack
 pub mod ThereAndBack
+pub mod OneRoute
