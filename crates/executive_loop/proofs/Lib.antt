@@ -1,5 +1,4 @@
-pub mod JoinedPairs
-pub mod ObservedPairs
 pub mod CoveredStates
 pub mod ExecutiveFits
 pub mod ShownTicks
+pub mod PendingPairs

@@ -7,10 +7,10 @@ ghost use Rattle.trace_laws.specs.Events.{IsTick};
 ghost use Rattle.trace_laws.specs.Fits.{Fits};
 ghost use Rattle.executive_loop.specs.Standing.{state_of};
 
-use crate::observed::union;
 use crate::standing::{Standing, start};
 use causal_graph::sort_goal;
 use cca_base::{Compiled, Event};
+use consistency::union;
 use std::alloc::{AllocError, Global};
 
 /// Makes an event that is no tick. The error is out of memory.

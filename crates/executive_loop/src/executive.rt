@@ -6,6 +6,7 @@ ghost use Rattle.cca_base.specs.Plans.{Promising};
 ghost use Rattle.cca_base.specs.Trace.{start, MayCome};
 ghost use Rattle.trace_laws.specs.Events.{Acts, IsTick};
 ghost use Rattle.trace_laws.specs.Tables.{TablesAfter};
+ghost use Rattle.consistency.specs.Worlds.{AreWorldsOf};
 ghost use Rattle.executive_loop.specs.Covering.{base_of, covers, AreCoveringAfter};
 ghost use Rattle.executive_loop.specs.Parts.{IsExecutive, SeenAfter};
 
@@ -114,6 +115,13 @@ impl Executive {
         ensures executive { IsExecutive self.now }
     {
         &self.compiled
+    }
+
+    /// The clauses of the model's rules.
+    pub fn worlds(&self) -> &Worlds
+        ensures { AreWorldsOf self.now.compiled.model result.now }
+    {
+        &self.worlds
     }
 
     /// The goal in force, if there is one.
