@@ -78,6 +78,13 @@ impl Checker {
         self.standing.mirrored
     }
 
+    /// How many ticks had a yes.
+    pub fn ticks(&self) -> u64
+        ensures { result ≡ self.now.ticks }
+    {
+        self.standing.ticks
+    }
+
     /// The verdict on a printed tick: `Yes` exactly where all tests pass, and else `No` with the least reason whose test fails.
     /// The error is out of memory.
     pub fn check_tick(

@@ -9,7 +9,7 @@ mod LinesAsWords
 mod MappedCommands
 mod ModelNames
 mod NoFloats
-mod OneTextEach
+pub mod OneTextEach
 mod PairsApart
 mod PlainNames
 mod ReadReports
