@@ -1,4 +1,4 @@
--- What holds over every source: nothing is rejected, a run is read to its end and what is shown to its script, and show is silent before.
+-- What holds over every source: only a check is rejected, a run is read to its end and what is shown to its script, and show is silent before.
 use Rattle.std.proofs.Common.{◌≡◌, ℕ, ◌⊎◌, inl, inr, List, [], append-nil, Option, Some, Result, Ok, Err, refl, subst, ◌∙◌}
 use Rattle.std.specs.Io.KnownBytes.{prepend_known, IsAtEnd}
 use Rattle.cca_base.specs.PlantModel.{PlantModel}
@@ -14,9 +14,9 @@ use Rattle.line_machine.proofs.SureTextBegins.{quiet_sure, decided}
 use Rattle.model_syntax.specs.Lines.{ModelSoFar, LineOutcome, Reads, Refuses, Finishes}
 use Rattle.titan_top.specs.declared.status.Status.TheVariants.{Ended, Rejected, ReadFault}
 use Rattle.titan_top.specs.declared.notation.Notation.{Notation}
-use Rattle.titan_top.specs.declared.notation.Notation.TheVariants.{Words}
+use Rattle.titan_top.specs.declared.notation.Notation.TheVariants.{Words, Summary}
 use Rattle.titan_top.specs.declared.words.Form.{Form}
-use Rattle.titan_top.specs.declared.words.Form.TheVariants.{Run, Show}
+use Rattle.titan_top.specs.declared.words.Form.TheVariants.{Run, Show, Trial, Check}
 use Rattle.titan_top.specs.Acceptance.{Acceptance, AcceptedAs, RefusedFor}
 use Rattle.titan_top.specs.Document.{nothing_read}
 use Rattle.titan_top.specs.ModelSteps.{StepsBy}
@@ -36,18 +36,23 @@ whole_not : {A B : Type 0} → (A → IsNotRejected ends.Rejected) → (B → Is
 whole_not f g (inl a) = f a refl
 whole_not f g (inr b) = g b refl
 
-rejected_never : (form : Form) (left left' out out' : Option (List ℕ)) (e : End) → e ≡ ends.Rejected → StreamedFor form left left' out out' (Ok e) → ⊥
-rejected_never (Run w) left left' out out' e is s =
+rejected_only : (form : Form) (left left' out out' : Option (List ℕ)) (e : End) → e ≡ ends.Rejected → StreamedFor form left left' out out' (Ok e) → form ≡ Check
+rejected_only (Run w) left left' out out' e is s =
     let says : WroteWhole run_machine (run_first w) s.driven.taken left' out out' ends.Rejected = subst (λ (f : End). WroteWhole run_machine (run_first w) s.driven.taken left' out out' f) is s.driven.says in
-    whole_not (λ h. run_text_not (run_first w) s.driven.taken ends.Rejected says.text h.0) (λ h. run_sure_not (run_first w) s.driven.taken ends.Rejected says.text h) says.whole
-rejected_never Show left left' out out' e is s =
+    absurd (whole_not (λ h. run_text_not (run_first w) s.driven.taken ends.Rejected says.text h.0) (λ h. run_sure_not (run_first w) s.driven.taken ends.Rejected says.text h) says.whole)
+rejected_only Show left left' out out' e is s =
     let says : WroteWhole show_machine nothing_read s.driven.taken left' out out' ends.Rejected = subst (λ (f : End). WroteWhole show_machine nothing_read s.driven.taken left' out out' f) is s.driven.says in
-    whole_not (λ h. show_text_not nothing_read s.driven.taken ends.Rejected says.text h.0) (λ h. show_sure_not nothing_read s.driven.taken ends.Rejected says.text h) says.whole
+    absurd (whole_not (λ h. show_text_not nothing_read s.driven.taken ends.Rejected says.text h.0) (λ h. show_sure_not nothing_read s.driven.taken ends.Rejected says.text h) says.whole)
+rejected_only (Trial seed) left left' out out' e is s =
+    let d = s.driven.driven in
+    let says : WroteWhole run_machine (run_first (Summary seed)) d.taken s.rest out out' ends.Rejected = subst (λ (f : End). WroteWhole run_machine (run_first (Summary seed)) d.taken s.rest out out' f) is d.says in
+    absurd (whole_not (λ h. run_text_not (run_first (Summary seed)) d.taken ends.Rejected says.text h.0) (λ h. run_sure_not (run_first (Summary seed)) d.taken ends.Rejected says.text h) says.whole)
+rejected_only Check left left' out out' e is s = refl
 
--- nothing is rejected
-pub never_rejected : (form : Form) (left left' out out' : Option (List ℕ)) (r : Result End Cut) → StreamedFor form left left' out out' r → status_of r ≡ Rejected → ⊥
-never_rejected form left left' out out' (Ok e) s h = rejected_never form left left' out out' e (end_rejected e h) s
-never_rejected form left left' out out' (Err c) s h = no_cut_rejected c h
+-- only a check is rejected
+pub only_check : (form : Form) (left left' out out' : Option (List ℕ)) (r : Result End Cut) → StreamedFor form left left' out out' r → status_of r ≡ Rejected → form ≡ Check
+only_check form left left' out out' (Ok e) s h = rejected_only form left left' out out' e (end_rejected e h) s
+only_check form left left' out out' (Err c) s h = absurd (no_cut_rejected c h)
 
 -- a run that ended is at the end of its input
 at_end_by : (w : Notation) (left left' out out' : Option (List ℕ)) (e : End) → e ≡ ends.Ended → StreamedFor (Run w) left left' out out' (Ok e) → IsAtEnd left'
@@ -101,7 +106,7 @@ silent_by left left' out out' cuts.ReadFault is s =
 silent_by left left' out out' cuts.WriteFault is s = absurd cc
 silent_by left left' out out' cuts.Memory is s = absurd cc
 
-cut_read : (c : Cut) → cut_status c ≡ ReadFault → c ≡ cuts.ReadFault
+pub cut_read : (c : Cut) → cut_status c ≡ ReadFault → c ≡ cuts.ReadFault
 cut_read cuts.ReadFault h = refl
 cut_read cuts.WriteFault h = absurd cc
 cut_read cuts.Memory h = absurd cc

@@ -1,6 +1,7 @@
 -- What the driver's answer says of the form's outcomes.
 use Rattle.std.proofs.Common.{◌≡◌, ℕ, inl, inr, List, [], length, Option, Some, None, Result, Ok, Err, IfOk, refl, sym, ap, subst, ◌∙◌}
-use Rattle.std.specs.Prelude.{IfSome}
+use Rattle.std.specs.Global.{Global}
+use Rattle.std.specs.Prelude.{IfSome, String}
 use Rattle.std.specs.Io.KnownBytes.{append_known}
 use Rattle.titan_wire.specs.Wire.{HasRoom}
 use Rattle.line_machine.specs.Driven.{HasRoomFor, Driven, BySure}
@@ -20,17 +21,19 @@ use Rattle.line_machine.proofs.SentPieces.{append_known-nil}
 use Rattle.line_machine.proofs.SureTextBegins.{text_is_one}
 use Rattle.cca_base.specs.PlantModel.{PlantModel}
 use Rattle.model_syntax.specs.Lines.{ModelSoFar}
+use Rattle.titan_top.specs.CheckMachine.{CheckState, check_machine, check_first}
 use Rattle.titan_top.specs.Document.{nothing_read}
 use Rattle.titan_top.specs.Output.{Outcome, outcome_of, IsOutcomeFor, usage_text}
 use Rattle.titan_top.specs.RunMachine.{RunState, run_machine, run_first}
 use Rattle.titan_top.specs.ShowMachine.{show_machine}
-use Rattle.titan_top.specs.Streams.{FitsIn, HasRoomForWords}
+use Rattle.titan_top.specs.Streams.{FitsIn, HasRoomForWords, input_for}
+use Rattle.titan_top.specs.Words.{form_of, texts}
 use Rattle.titan_top.specs.Statuses.{end_status, cut_status, status_of}
 use Rattle.titan_top.specs.Wire.{Writes, WritesAs}
 use Rattle.titan_top.specs.declared.status.Status.TheVariants.{Memory}
 use Rattle.titan_top.specs.declared.notation.Notation.{Notation}
 use Rattle.titan_top.specs.declared.words.Form.{Form}
-use Rattle.titan_top.specs.declared.words.Form.TheVariants.{Run, Show}
+use Rattle.titan_top.specs.declared.words.Form.TheVariants.{Run, Show, Check}
 use Rattle.titan_top.proofs.DocumentsAreTexts.{same_outcome, ReadsModels, text_says, said_text}
 
 -- ---- room
@@ -44,6 +47,11 @@ pub show_room : (form : Form) (first : ModelSoFar) (left : Option (List ℕ)) (s
 show_room form first left None is begins h = λ taken text after moved may. tt
 show_room form first left (Some n) is begins h =
     subst (λ (s : ModelSoFar). HasRoomFor show_machine s left (Some n)) (sym begins) (subst (λ (f : Form). FitsIn n (Some f) left) is h)
+
+pub check_room : (form : Form) (first : CheckState) (left : Option (List ℕ)) (space : Option ℕ) → form ≡ Check → first ≡ check_first → HasRoomForWords (Some form) left space → HasRoomFor check_machine first left space
+check_room form first left None is begins h = λ taken text after moved may. tt
+check_room form first left (Some n) is begins h =
+    subst (λ (s : CheckState). HasRoomFor check_machine s left (Some n)) (sym begins) (subst (λ (f : Form). FitsIn n (Some f) left) is h)
 
 pub usage_room : (left : Option (List ℕ)) (space : Option ℕ) → HasRoomForWords None left space → HasRoom space (length usage_text)
 usage_room left None h = tt
@@ -121,3 +129,13 @@ module _ (form : Form) {S : Type 0} (m : Ghosts S) (stage : ModelSoFar → S) (a
     form_ends None r w = tt
     form_ends (Some input) r w = λ o k.
         ends_by input r (subst (λ (s : S). (e : End) (text : List ℕ) → IsText m s input e text → IfOk r (λ f. f ≡ e)) begins w) o (subst (λ (f : Form). IsOutcomeFor f input o) is k)
+
+-- ---- the input that is read
+
+-- where a form reads what the source tells
+pub read_by : (P : List ℕ → Type 0) (form own : Form) (left : Option (List ℕ)) → form ≡ own → input_for (Some own) left ≡ left → IfSome left P → IfSome (input_for (Some form) left) P
+read_by P form own left is same h = subst (λ (f : Form). IfSome (input_for (Some f) left) P) (sym is) (subst (λ (l : Option (List ℕ)). IfSome l P) (sym same) h)
+
+-- the same by the words
+pub read_text : (P : List ℕ → Type 0) (words : List (String Global)) (form : Form) → Some form ≡ form_of (texts words) → (left : Option (List ℕ)) → IfSome (input_for (Some form) left) P → IfSome (input_for (form_of (texts words)) left) P
+read_text P words form is left h = subst (λ (f : Option Form). IfSome (input_for f left) P) is h

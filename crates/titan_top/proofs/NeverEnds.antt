@@ -17,10 +17,10 @@ use Rattle.titan_top.specs.ModelSteps.{StepsBy}
 use Rattle.titan_top.specs.RunMachine.{ScriptState, RunState, InModel, InScript, BeginsBy, ActsBy, RunSteps, RunCloses, run_machine}
 use Rattle.titan_top.specs.ShowMachine.{ShowsBy, ShowSteps, show_machine}
 
-same_end : {S : Type 0} (e f : End) → ◌≡◌ {A = Next S} (Stops e) (Stops f) → e ≡ f
+pub same_end : {S : Type 0} (e f : End) → ◌≡◌ {A = Next S} (Stops e) (Stops f) → e ≡ f
 same_end e f h = cc
 
-not_end : {S : Type 0} (e : End) (s : S) → Stops e ≡ GoesOn s → ⊥
+pub not_end : {S : Type 0} (e : End) (s : S) → Stops e ≡ GoesOn s → ⊥
 not_end e s h = absurd cc
 
 module _ {S : Type 0} (m : Ghosts S) (P : End → Type 0) (refused : P Refused) (ends_so : (s : S) (n : ℕ) (l : List ℕ) (e : End) (text : List ℕ) → m.steps s n l (Stops e) text → P e) where

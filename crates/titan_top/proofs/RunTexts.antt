@@ -2,24 +2,26 @@
 use Rattle.std.proofs.Common.{◌≡◌, ℕ, List, [], ◌++◌, refl, sym, ap, subst, ◌∙◌, append-nil}
 use Rattle.cca_base.specs.declared.events.Refusal.{Refusal}
 use Rattle.cca_base.specs.Accepted.{CompiledModel}
-use Rattle.cca_base.specs.Plans.{Promising}
 use Rattle.cca_base.specs.PlantModel.{PlantModel}
-use Rattle.cca_base.specs.Runs.{Trace}
 use Rattle.cca_base.specs.Trace.{start}
 use Rattle.line_machine.specs.Next.{Next, GoesOn, Stops}
 use Rattle.line_machine.specs.declared.machine.End.{End}
 use Rattle.line_machine.specs.declared.machine.End.TheVariants.{Refused}
-use Rattle.trace_laws.proofs.EventsJoin.{made_is_trace, trace_is_made}
 use Rattle.titan_top.specs.Acceptance.{Acceptance, AcceptedAs, RefusedFor, IsAcceptanceOf}
 use Rattle.titan_top.specs.Document.{Document, Scripted, SaysScript}
 use Rattle.titan_top.specs.Notations.{refusal_in}
-use Rattle.titan_top.specs.Output.{Outcome, outcome_of, printed, refusal, PrintsBy, IsRun}
+use Rattle.titan_top.specs.Output.{Outcome, outcome_of, refusal, PrintsBy, IsRun}
 use Rattle.titan_top.specs.RunMachine.{RunState, InModel, script_first, BeginsBy, RunsAtScript, run_machine}
+use Rattle.titan_top.specs.Summaries.{counts_of}
+use Rattle.titan_top.specs.declared.counts.Counts.{Counts}
 use Rattle.titan_top.specs.declared.notation.Notation.{Notation}
 use Rattle.titan_top.specs.declared.words.Form.TheVariants.{Run}
 use Rattle.titan_top.proofs.RunLines.{Completes, at_stop, stops}
 use Rattle.titan_top.proofs.DocumentsAreTexts.{same_outcome, AfterScript, ReadsModels}
-use Rattle.titan_top.proofs.ScriptRuns.{prints, runs, Runs}
+use Rattle.titan_top.proofs.MadeTexts.{made_is_told, told_is_made}
+use Rattle.titan_top.proofs.CountedTicks.{counted_all}
+use Rattle.titan_top.proofs.PrintedDocuments.{printed_with, printed_counts}
+use Rattle.titan_top.proofs.ScriptRuns.{prints, runs}
 
 module _ (notation : Notation) where
   refused_text : (k : PlantModel) (n : ℕ) (ls : List (List ℕ)) (r : Refusal) (u : Next RunState) (x : List ℕ) (e : End) (rest : List ℕ) → (u ≡ Stops Refused) × (x ≡ refusal_in notation k n r) → Completes run_machine u n ls e rest
@@ -35,17 +37,17 @@ module _ (notation : Notation) where
   run_by : (v : Acceptance) (k : PlantModel) (n : ℕ) (ls : List (List ℕ)) (u : Next RunState) (x : List ℕ) (e : End) (rest : List ℕ) → IsAcceptanceOf k v → BeginsBy notation v k n u x → Completes run_machine u n ls e rest
       → IsRun notation (Scripted k n ls) (outcome_of e (x ++ rest))
   run_by (AcceptedAs b) k n ls u x e rest is by c =
-      let p = prints notation b is.0 ls (start b.model 0) n e rest (subst (λ (v : Next RunState). Completes run_machine v n ls e rest) by.0 c) in
-      let trace : Trace b (Promising b) p.document.events p.reports = made_is_trace b (Promising b) p.document.events p.last p.reports p.made in
-      (AcceptedAs b, is, (p.document, p.reports, of_model b k n ls p.document is.1 p.says, trace, ap (λ (z : List ℕ). outcome_of e (z ++ rest)) by.1 ∙ p.is))
+      let p = prints notation b is.0 ls (start b.model 0) (counts_of []) n e rest (subst (λ (v : Next RunState). Completes run_machine v n ls e rest) by.0 c) in
+      let t = made_is_told notation b p.document.events p.last p.reports p.told p.made in
+      (AcceptedAs b, is, (p.document, p.reports, p.told, of_model b k n ls p.document is.1 p.says, t.trace, t.told, ap (λ (z : List ℕ). outcome_of e (z ++ rest)) by.1 ∙ p.is ∙ ap (λ (c : Counts). printed_with notation p.document c p.told) (counted_all p.reports) ∙ sym (printed_counts notation p.document p.reports p.told)))
   run_by (RefusedFor r) k n ls u x e rest is by c = (RefusedFor r, is, refused_text k n ls r u x e rest by c)
 
   run_as : (v : Acceptance) (k : PlantModel) (n : ℕ) (ls : List (List ℕ)) (o : Outcome) → IsAcceptanceOf k v → PrintsBy notation v k n ls o → AfterScript run_machine (RunsAtScript notation) k n ls o
-  run_as (AcceptedAs b) k n ls o is (r, reports, says, trace, e) =
-      let made = trace_is_made b (Promising b) r.events reports trace in
+  run_as (AcceptedAs b) k n ls o is (r, reports, text, says, trace, told, e) =
+      let made = told_is_made notation b r.events reports text trace told in
       let own : SaysScript b.model [] 0 n ls r = subst (λ (m : PlantModel). SaysScript m [] 0 n ls r) (sym is.1) says in
-      let t : Runs notation b is.0 (start b.model 0) n ls (printed notation r reports) = runs notation b is.0 ls (start b.model 0) n r made.0 reports own made.1 in
-      record { next = GoesOn (script_first notation b); first = []; at = (AcceptedAs b, is, (refl, refl)); end = t.end; rest = t.text; completes = t.completes; is = e ∙ t.is }
+      let t = runs notation b is.0 ls (start b.model 0) (counts_of []) n r made.0 reports text own made.1 in
+      record { next = GoesOn (script_first notation b); first = []; at = (AcceptedAs b, is, (refl, refl)); end = t.end; rest = t.text; completes = t.completes; is = e ∙ printed_counts notation r reports text ∙ ap (λ (c : Counts). printed_with notation r c text) (sym (counted_all reports)) ∙ t.is }
   run_as (RefusedFor r) k n ls o is e = record {
     next = Stops Refused;
     first = refusal_in notation k n r;

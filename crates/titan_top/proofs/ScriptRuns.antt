@@ -14,16 +14,20 @@ use Rattle.line_machine.specs.Runs.{TransitionByCode, Transition}
 use Rattle.line_machine.specs.declared.machine.End.{End}
 use Rattle.line_machine.specs.declared.machine.End.TheVariants.{Ended, Refused}
 use Rattle.script_reader.specs.EventLines.{event_line}
-use Rattle.trace_laws.specs.Events.{Makes, mirrored_after}
+use Rattle.trace_laws.specs.Events.{mirrored_after}
 use Rattle.trace_laws.proofs.PendingKnown.{one_pending, known_after}
 use Rattle.titan_top.specs.Document.{Document, Complete, refused_at, with_event, SaysBy, SaysScript}
 use Rattle.titan_top.specs.Limits.{line_code, unless_long}
-use Rattle.titan_top.specs.Notations.{refusal_in, reports_in}
-use Rattle.titan_top.specs.Output.{Outcome, outcome_of, with_text, printed}
-use Rattle.titan_top.specs.RunMachine.{RunState, InScript, ActsBy, run_machine}
+use Rattle.titan_top.specs.Notations.{refusal_in, closing}
+use Rattle.titan_top.specs.Summaries.{counts_of, added}
+use Rattle.titan_top.specs.declared.counts.Counts.{Counts}
+use Rattle.titan_top.specs.Output.{Outcome, outcome_of, with_text}
+use Rattle.titan_top.specs.RunMachine.{ScriptState, RunState, InScript, ActsBy, run_machine}
 use Rattle.titan_top.specs.declared.notation.Notation.{Notation}
 use Rattle.titan_top.proofs.DocumentsAreTexts.{same_outcome}
-use Rattle.titan_top.proofs.PrintedDocuments.{printed_complete, printed_refused, printed_event}
+use Rattle.titan_top.proofs.CountedTicks.{counted_first, counted_none}
+use Rattle.titan_top.proofs.PrintedDocuments.{printed_with, printed_refused, printed_event}
+use Rattle.titan_top.proofs.MadeTexts.{MakesText}
 use Rattle.titan_top.proofs.RunLines.{Completes, first_line, line_first, at_stop, stops, at_end, ends}
 
 -- a document is of the model of its script
@@ -40,151 +44,174 @@ script_model (l ∷ ls) m pending mirrored n r h =
     (λ after mirrors d. script_model ls m after mirrors (n + 1) d) h
 
 module _ (notation : Notation) (b : CompiledModel) (compiled : IsCompiled b) where
-  -- a script that stands here
-  abbrev at : ExecutiveState → RunState
-  at x = InScript (record { notation = notation; compiled = b; state = x })
+  -- a script that stands here, with these counts
+  abbrev script : ExecutiveState → Counts → ScriptState
+  script x c = record { notation = notation; compiled = b; state = x; counts = c }
+
+  abbrev at : ExecutiveState → Counts → RunState
+  at x c = InScript (script x c)
 
   -- what the lines of a script say from here on
   abbrev Says : ExecutiveState → ℕ → List (List ℕ) → Document → Type 0
   Says x n ls r = SaysScript b.model x.pending x.mirrored n ls r
 
-  -- the lines say this document, its events are made with these reports, and that is printed
-  pub record Prints (x : ExecutiveState) (n : ℕ) (ls : List (List ℕ)) (o : Outcome) : Type 0 where
+  -- the lines say this document, its events are made with these reports and this text, and that is printed
+  pub record Prints (x : ExecutiveState) (c : Counts) (n : ℕ) (ls : List (List ℕ)) (o : Outcome) : Type 0 where
     pub document : Document
     pub last : ExecutiveState
     pub reports : List TickReport
+    pub told : List ℕ
     pub says : Says x n ls document
-    pub made : Makes b (Promising b) x document.events last reports
-    pub is : o ≡ printed notation document reports
+    pub made : MakesText notation b x document.events last reports told
+    pub is : o ≡ printed_with notation document (added c (counts_of reports)) told
 
   -- the machine runs the lines to this outcome
-  pub record Runs (x : ExecutiveState) (n : ℕ) (ls : List (List ℕ)) (o : Outcome) : Type 0 where
+  pub record Runs (x : ExecutiveState) (c : Counts) (n : ℕ) (ls : List (List ℕ)) (o : Outcome) : Type 0 where
     pub end : End
     pub text : List ℕ
-    pub completes : Completes run_machine (GoesOn (at x)) n ls end text
+    pub completes : Completes run_machine (GoesOn (at x c)) n ls end text
     pub is : o ≡ outcome_of end text
 
-  module _ (n : ℕ) (l : List ℕ) (ls : List (List ℕ)) (x : ExecutiveState) where
+  module _ (n : ℕ) (l : List ℕ) (ls : List (List ℕ)) (x : ExecutiveState) (c : Counts) where
+    abbrev refused : ℕ → Document
+    refused code = refused_at b.model (n + 1) (bare code)
+
+    abbrev line_text : ℕ → List ℕ
+    line_text code = refusal_in notation b.model (n + 1) (bare code)
+
     -- the line is refused
-    refusal_printed : (code : ℕ) (e : End) (rest : List ℕ) (u : Next RunState) (a : List ℕ) → SaysBy (Err code) b.model x.pending x.mirrored (n + 1) (λ after mirrors rest. SaysScript b.model after mirrors (n + 1) ls rest) (refused_at b.model (n + 1) (bare code))
-        → (u ≡ Stops Refused) × (a ≡ refusal_in notation b.model (n + 1) (bare code)) → Completes run_machine u (n + 1) ls e rest → outcome_of e (a ++ rest) ≡ printed notation (refused_at b.model (n + 1) (bare code)) []
-    refusal_printed code e rest u a says by c =
-        let p = at_stop run_machine Refused (n + 1) ls e rest (subst (λ (v : Next RunState). Completes run_machine v (n + 1) ls e rest) by.0 c) in
-        same_outcome p.0 (rw (by.1, p.1) (append-nil (refusal_in notation b.model (n + 1) (bare code)))) ∙ sym (printed_refused notation b.model (n + 1) (bare code))
+    refusal_printed : (code : ℕ) (e : End) (rest : List ℕ) (u : Next RunState) (a : List ℕ) → (u ≡ Stops Refused) × (a ≡ line_text code) → Completes run_machine u (n + 1) ls e rest → outcome_of e (a ++ rest) ≡ printed_with notation (refused code) (added c (counts_of [])) []
+    refusal_printed code e rest u a by d =
+        let p = at_stop run_machine Refused (n + 1) ls e rest (subst (λ (v : Next RunState). Completes run_machine v (n + 1) ls e rest) by.0 d) in
+        same_outcome p.0 (rw (by.1, p.1) (append-nil (line_text code))) ∙ sym (printed_refused notation b.model (added c (counts_of [])) (n + 1) (bare code))
 
     refused_prints : (v : Result (Option Event) ℕ) (code : ℕ) (e : End) (rest : List ℕ) (u : Next RunState) (a : List ℕ) → v ≡ Err code → v ≡ unless_long (line_code (n + 1) l) (event_line b.model x.pending x.mirrored l)
-        → (u ≡ Stops Refused) × (a ≡ refusal_in notation b.model (n + 1) (bare code)) → Completes run_machine u (n + 1) ls e rest → Prints x n (l ∷ ls) (outcome_of e (a ++ rest))
-    refused_prints v code e rest u a f g by c = record {
-      document = refused_at b.model (n + 1) (bare code);
+        → (u ≡ Stops Refused) × (a ≡ line_text code) → Completes run_machine u (n + 1) ls e rest → Prints x c n (l ∷ ls) (outcome_of e (a ++ rest))
+    refused_prints v code e rest u a f g by d = record {
+      document = refused code;
       last = x;
       reports = [];
-      says = subst (λ (w : Result (Option Event) ℕ). SaysBy w b.model x.pending x.mirrored (n + 1) (λ after mirrors d. SaysScript b.model after mirrors (n + 1) ls d) (refused_at b.model (n + 1) (bare code))) (sym f ∙ g) refl;
-      made = (refl, refl);
-      is = refusal_printed code e rest u a refl by c;
+      told = [];
+      says = subst (λ (w : Result (Option Event) ℕ). SaysBy w b.model x.pending x.mirrored (n + 1) (λ after mirrors r. SaysScript b.model after mirrors (n + 1) ls r) (refused code)) (sym f ∙ g) refl;
+      made = (refl, refl, refl);
+      is = refusal_printed code e rest u a by d;
     }
 
     -- a line before the others
     line_prints : (o : Option ℕ) (v : Result (Option Event) ℕ) (u : Next RunState) (a : List ℕ) (e : End) (rest : List ℕ) → o ≡ line_code (n + 1) l → v ≡ event_line b.model x.pending x.mirrored l
-        → TransitionByCode run_machine o (at x) (n + 1) l u a → Completes run_machine u (n + 1) ls e rest
-        → ((y : ExecutiveState) → Completes run_machine (GoesOn (at y)) (n + 1) ls e rest → Prints y (n + 1) ls (outcome_of e rest)) → Prints x n (l ∷ ls) (outcome_of e (a ++ rest))
-    line_prints (Some code) v u a e rest f g takes c on =
-        refused_prints (Err code) code e rest u a refl (λ i. unless_long (f i) (event_line b.model x.pending x.mirrored l)) takes c
-    line_prints None v u a e rest f g takes c on =
-        event_prints v g (subst (λ (w : Result (Option Event) ℕ). ActsBy w (record { notation = notation; compiled = b; state = x }) (n + 1) u a) (sym g) takes.1)
+        → TransitionByCode run_machine o (at x c) (n + 1) l u a → Completes run_machine u (n + 1) ls e rest
+        → ((y : ExecutiveState) (k : Counts) → Completes run_machine (GoesOn (at y k)) (n + 1) ls e rest → Prints y k (n + 1) ls (outcome_of e rest)) → Prints x c n (l ∷ ls) (outcome_of e (a ++ rest))
+    line_prints (Some code) v u a e rest f g takes d on =
+        refused_prints (Err code) code e rest u a refl (λ i. unless_long (f i) (event_line b.model x.pending x.mirrored l)) takes d
+    line_prints None v u a e rest f g takes d on =
+        event_prints v g (subst (λ (w : Result (Option Event) ℕ). ActsBy w (script x c) (n + 1) u a) (sym g) takes.1)
       where
         -- the line's own words
         own : (w : Result (Option Event) ℕ) → w ≡ event_line b.model x.pending x.mirrored l → w ≡ unless_long (line_code (n + 1) l) (event_line b.model x.pending x.mirrored l)
         own w h = h ∙ (λ i. unless_long (f i) (event_line b.model x.pending x.mirrored l))
 
-        event_prints : (w : Result (Option Event) ℕ) → w ≡ event_line b.model x.pending x.mirrored l → ActsBy w (record { notation = notation; compiled = b; state = x }) (n + 1) u a → Prints x n (l ∷ ls) (outcome_of e (a ++ rest))
-        event_prints (Err code) h by = refused_prints (Err code) code e rest u a refl (own (Err code) h) by c
+        event_prints : (w : Result (Option Event) ℕ) → w ≡ event_line b.model x.pending x.mirrored l → ActsBy w (script x c) (n + 1) u a → Prints x c n (l ∷ ls) (outcome_of e (a ++ rest))
+        event_prints (Err code) h by = refused_prints (Err code) code e rest u a refl (own (Err code) h) by d
         event_prints (Ok None) h by =
-            let p = on x (subst (λ (z : Next RunState). Completes run_machine z (n + 1) ls e rest) by.0 c) in
+            let p = on x c (subst (λ (z : Next RunState). Completes run_machine z (n + 1) ls e rest) by.0 d) in
             record {
               document = p.document;
               last = p.last;
               reports = p.reports;
-              says = subst (λ (z : Result (Option Event) ℕ). SaysBy z b.model x.pending x.mirrored (n + 1) (λ after mirrors d. SaysScript b.model after mirrors (n + 1) ls d) p.document) (own (Ok None) h) p.says;
+              told = p.told;
+              says = subst (λ (z : Result (Option Event) ℕ). SaysBy z b.model x.pending x.mirrored (n + 1) (λ after mirrors r. SaysScript b.model after mirrors (n + 1) ls r) p.document) (own (Ok None) h) p.says;
               made = p.made;
               is = ap (λ (t : List ℕ). outcome_of e (t ++ rest)) by.1 ∙ p.is;
             }
         event_prints (Ok (Some event)) h (y, report, acts, there, words) =
-            let p = on y (subst (λ (z : Next RunState). Completes run_machine z (n + 1) ls e rest) there c) in
+            let p = on y (added c (counts_of (option_to_list report))) (subst (λ (z : Next RunState). Completes run_machine z (n + 1) ls e rest) there d) in
             let known = known_after b (Promising b) x y event report acts in
             let later : SaysScript b.model y.pending (mirrored_after x.mirrored event) (n + 1) ls p.document = subst (λ (k : ℕ). SaysScript b.model y.pending k (n + 1) ls p.document) known.1 p.says in
             record {
               document = with_event event p.document;
               last = p.last;
               reports = option_to_list report ++ p.reports;
-              says = subst (λ (z : Result (Option Event) ℕ). SaysBy z b.model x.pending x.mirrored (n + 1) (λ after mirrors d. SaysScript b.model after mirrors (n + 1) ls d) (with_event event p.document)) (own (Ok (Some event)) h) (y.pending, p.document, known.0, later, refl);
-              made = (y, report, p.reports, acts, p.made, refl);
-              is = ap (λ (t : List ℕ). outcome_of e (t ++ rest)) words
-                  ∙ ap (with_text (reports_in notation b.model (option_to_list report))) p.is
-                  ∙ sym (printed_event notation b.model event p.document report p.reports (script_model ls b.model y.pending y.mirrored (n + 1) p.document p.says));
+              told = a ++ p.told;
+              says = subst (λ (z : Result (Option Event) ℕ). SaysBy z b.model x.pending x.mirrored (n + 1) (λ after mirrors r. SaysScript b.model after mirrors (n + 1) ls r) (with_event event p.document)) (own (Ok (Some event)) h) (y.pending, p.document, known.0, later, refl);
+              made = (y, report, p.reports, a, p.told, acts, words, p.made, refl, refl);
+              is = ap (with_text a) (p.is ∙ ap (λ (k : Counts). printed_with notation p.document k p.told) (counted_first c report p.reports)) ∙ sym (printed_event notation event p.document (added c (counts_of (option_to_list report ++ p.reports))) a p.told);
             }
 
   -- what the machine prints is what the lines say
-  pub prints : (ls : List (List ℕ)) (x : ExecutiveState) (n : ℕ) (e : End) (text : List ℕ) → Completes run_machine (GoesOn (at x)) n ls e text → Prints x n ls (outcome_of e text)
-  prints [] x n e text c =
-      let p = at_end run_machine (GoesOn (at x)) n e text c in
-      record { document = record { model = b.model; events = []; ending = Complete }; last = x; reports = []; says = refl; made = (refl, refl); is = same_outcome p.0 p.1 ∙ sym (printed_complete notation b.model) }
-  prints (l ∷ ls) x n e text c =
-      let t = first_line run_machine (at x) n l ls e text c in
-      subst (λ (z : List ℕ). Prints x n (l ∷ ls) (outcome_of e z)) (sym t.parts)
-      (line_prints n l ls x (line_code (n + 1) l) (event_line b.model x.pending x.mirrored l) t.next t.first e t.rest refl refl t.takes t.completes (λ y d. prints ls y (n + 1) e t.rest d))
+  pub prints : (ls : List (List ℕ)) (x : ExecutiveState) (c : Counts) (n : ℕ) (e : End) (text : List ℕ) → Completes run_machine (GoesOn (at x c)) n ls e text → Prints x c n ls (outcome_of e text)
+  prints [] x c n e text d =
+      let p = at_end run_machine (GoesOn (at x c)) n e text d in
+      record {
+        document = record { model = b.model; events = []; ending = Complete };
+        last = x;
+        reports = [];
+        told = [];
+        says = refl;
+        made = (refl, refl, refl);
+        is = same_outcome p.0 p.1 ∙ ap (λ (k : Counts). printed_with notation (record { model = b.model; events = []; ending = Complete }) k []) (sym (counted_none c));
+      }
+  prints (l ∷ ls) x c n e text d =
+      let t = first_line run_machine (at x c) n l ls e text d in
+      subst (λ (z : List ℕ). Prints x c n (l ∷ ls) (outcome_of e z)) (sym t.parts)
+      (line_prints n l ls x c (line_code (n + 1) l) (event_line b.model x.pending x.mirrored l) t.next t.first e t.rest refl refl t.takes t.completes (λ y k h. prints ls y k (n + 1) e t.rest h))
 
   -- ---- from the document to the machine
 
-  module _ (n : ℕ) (l : List ℕ) (ls : List (List ℕ)) (x : ExecutiveState) where
+  module _ (n : ℕ) (l : List ℕ) (ls : List (List ℕ)) (x : ExecutiveState) (c : Counts) where
     -- one line before a run
-    run_by : (u : Next RunState) (a : List ℕ) (e : End) (rest : List ℕ) (o : Outcome) → Transition run_machine (at x) (n + 1) l u a → Completes run_machine u (n + 1) ls e rest → o ≡ outcome_of e (a ++ rest) → Runs x n (l ∷ ls) o
-    run_by u a e rest o takes c is =
-        record { end = e; text = a ++ rest; completes = line_first run_machine (at x) n l ls e (a ++ rest) record { next = u; first = a; takes = takes; rest = rest; completes = c; parts = refl }; is = is }
+    run_by : (u : Next RunState) (a : List ℕ) (e : End) (rest : List ℕ) (o : Outcome) → Transition run_machine (at x c) (n + 1) l u a → Completes run_machine u (n + 1) ls e rest → o ≡ outcome_of e (a ++ rest) → Runs x c n (l ∷ ls) o
+    run_by u a e rest o takes d is =
+        record { end = e; text = a ++ rest; completes = line_first run_machine (at x c) n l ls e (a ++ rest) record { next = u; first = a; takes = takes; rest = rest; completes = d; parts = refl }; is = is }
 
     -- the line is refused
-    refusal_runs : (code : ℕ) (r : Document) (last : ExecutiveState) (reports : List TickReport) → Transition run_machine (at x) (n + 1) l (Stops Refused) (refusal_in notation b.model (n + 1) (bare code))
-        → r ≡ refused_at b.model (n + 1) (bare code) → Makes b (Promising b) x r.events last reports → Runs x n (l ∷ ls) (printed notation r reports)
-    refusal_runs code r last reports takes is made =
-        let none : reports ≡ [] = (subst (λ (d : Document). Makes b (Promising b) x d.events last reports) is made).1 in
-        let text = refusal_in notation b.model (n + 1) (bare code) in
-        run_by (Stops Refused) text Refused [] (printed notation r reports) takes (stops run_machine Refused (n + 1) ls)
-        ((λ i. printed notation (is i) (none i)) ∙ printed_refused notation b.model (n + 1) (bare code) ∙ same_outcome {e = Refused} {f = Refused} refl (sym (append-nil text)))
+    refusal_runs : (code : ℕ) (r : Document) (last : ExecutiveState) (reports : List TickReport) (told : List ℕ) → Transition run_machine (at x c) (n + 1) l (Stops Refused) (line_text n l ls x c code)
+        → r ≡ refused_at b.model (n + 1) (bare code) → MakesText notation b x r.events last reports told → Runs x c n (l ∷ ls) (printed_with notation r (added c (counts_of reports)) told)
+    refusal_runs code r last reports told takes is made =
+        let none = subst (λ (d : Document). MakesText notation b x d.events last reports told) is made in
+        let text = line_text n l ls x c code in
+        run_by (Stops Refused) text Refused [] (printed_with notation r (added c (counts_of reports)) told) takes (stops run_machine Refused (n + 1) ls)
+        ((λ i. printed_with notation (is i) (added c (counts_of (none.1 i))) (none.2 i)) ∙ printed_refused notation b.model (added c (counts_of [])) (n + 1) (bare code) ∙ same_outcome {e = Refused} {f = Refused} refl (sym (append-nil text)))
 
     -- what the line does, by its length and by its event
-    takes_code : (code : ℕ) → Some code ≡ line_code (n + 1) l → Transition run_machine (at x) (n + 1) l (Stops Refused) (refusal_in notation b.model (n + 1) (bare code))
-    takes_code code f = subst (λ (o : Option ℕ). TransitionByCode run_machine o (at x) (n + 1) l (Stops Refused) (refusal_in notation b.model (n + 1) (bare code))) f (refl, refl)
+    takes_code : (code : ℕ) → Some code ≡ line_code (n + 1) l → Transition run_machine (at x c) (n + 1) l (Stops Refused) (line_text n l ls x c code)
+    takes_code code f = subst (λ (o : Option ℕ). TransitionByCode run_machine o (at x c) (n + 1) l (Stops Refused) (line_text n l ls x c code)) f (refl, refl)
 
-    takes_event : (v : Result (Option Event) ℕ) (u : Next RunState) (a : List ℕ) → None ≡ line_code (n + 1) l → v ≡ event_line b.model x.pending x.mirrored l
-        → ActsBy v (record { notation = notation; compiled = b; state = x }) (n + 1) u a → Transition run_machine (at x) (n + 1) l u a
+    takes_event : (v : Result (Option Event) ℕ) (u : Next RunState) (a : List ℕ) → None ≡ line_code (n + 1) l → v ≡ event_line b.model x.pending x.mirrored l → ActsBy v (script x c) (n + 1) u a → Transition run_machine (at x c) (n + 1) l u a
     takes_event v u a f g by =
-        subst (λ (o : Option ℕ). TransitionByCode run_machine o (at x) (n + 1) l u a) f
-        (compiled, subst (λ (w : Result (Option Event) ℕ). ActsBy w (record { notation = notation; compiled = b; state = x }) (n + 1) u a) g by)
+        subst (λ (o : Option ℕ). TransitionByCode run_machine o (at x c) (n + 1) l u a) f
+        (compiled, subst (λ (w : Result (Option Event) ℕ). ActsBy w (script x c) (n + 1) u a) g by)
 
-    line_runs : (o : Option ℕ) (v : Result (Option Event) ℕ) (r : Document) (last : ExecutiveState) (reports : List TickReport) → o ≡ line_code (n + 1) l → v ≡ event_line b.model x.pending x.mirrored l
-        → SaysBy (unless_long o v) b.model x.pending x.mirrored (n + 1) (λ after mirrors d. SaysScript b.model after mirrors (n + 1) ls d) r → Makes b (Promising b) x r.events last reports
-        → ((y : ExecutiveState) (d : Document) (others : List TickReport) → Says y (n + 1) ls d → Makes b (Promising b) y d.events last others → Runs y (n + 1) ls (printed notation d others))
-        → Runs x n (l ∷ ls) (printed notation r reports)
-    line_runs (Some code) v r last reports f g is made on = refusal_runs code r last reports (takes_code code f) is made
-    line_runs None (Err code) r last reports f g is made on = refusal_runs code r last reports (takes_event (Err code) (Stops Refused) (refusal_in notation b.model (n + 1) (bare code)) f g (refl, refl)) is made
-    line_runs None (Ok None) r last reports f g says made on =
-        let t = on x r reports says made in
-        run_by (GoesOn (at x)) [] t.end t.text (printed notation r reports) (takes_event (Ok None) (GoesOn (at x)) [] f g (refl, refl)) t.completes t.is
-    line_runs None (Ok (Some e)) r last reports f g (after, rest, known, later, is) made on =
-        let (y, report, others, acts, more, split) = subst (λ (d : Document). Makes b (Promising b) x d.events last reports) is made in
+    line_runs : (o : Option ℕ) (v : Result (Option Event) ℕ) (r : Document) (last : ExecutiveState) (reports : List TickReport) (told : List ℕ) → o ≡ line_code (n + 1) l → v ≡ event_line b.model x.pending x.mirrored l
+        → SaysBy (unless_long o v) b.model x.pending x.mirrored (n + 1) (λ after mirrors d. SaysScript b.model after mirrors (n + 1) ls d) r → MakesText notation b x r.events last reports told
+        → ((y : ExecutiveState) (k : Counts) (d : Document) (others : List TickReport) (rest : List ℕ) → Says y (n + 1) ls d → MakesText notation b y d.events last others rest → Runs y k (n + 1) ls (printed_with notation d (added k (counts_of others)) rest))
+        → Runs x c n (l ∷ ls) (printed_with notation r (added c (counts_of reports)) told)
+    line_runs (Some code) v r last reports told f g is made on = refusal_runs code r last reports told (takes_code code f) is made
+    line_runs None (Err code) r last reports told f g is made on = refusal_runs code r last reports told (takes_event (Err code) (Stops Refused) (line_text n l ls x c code) f g (refl, refl)) is made
+    line_runs None (Ok None) r last reports told f g says made on =
+        let t = on x c r reports told says made in
+        run_by (GoesOn (at x c)) [] t.end t.text (printed_with notation r (added c (counts_of reports)) told) (takes_event (Ok None) (GoesOn (at x c)) [] f g (refl, refl)) t.completes t.is
+    line_runs None (Ok (Some e)) r last reports told f g (after, rest, known, later, is) made on =
+        let (y, report, others, first, others_told, acts, words, more, split, parts) = subst (λ (d : Document). MakesText notation b x d.events last reports told) is made in
         let truly = known_after b (Promising b) x y e report acts in
         let pending : after ≡ y.pending = one_pending x.pending e y.pending after truly.0 known in
         let says : Says y (n + 1) ls rest = subst (λ (k : ℕ). SaysScript b.model y.pending k (n + 1) ls rest) (sym truly.1) (subst (λ (p : List Pair). SaysScript b.model p (mirrored_after x.mirrored e) (n + 1) ls rest) pending later) in
-        let t = on y rest others says more in
-        let text = reports_in notation b.model (option_to_list report) in
-        run_by (GoesOn (at y)) text t.end t.text (printed notation r reports) (takes_event (Ok (Some e)) (GoesOn (at y)) text f g (y, report, acts, refl, refl)) t.completes
-        ((λ i. printed notation (is i) (split i))
-        ∙ printed_event notation b.model e rest report others (script_model ls b.model y.pending y.mirrored (n + 1) rest says)
-        ∙ ap (with_text text) t.is)
+        let k : Counts = added c (counts_of (option_to_list report)) in
+        let t = on y k rest others others_told says more in
+        run_by (GoesOn (at y k)) first t.end t.text (printed_with notation r (added c (counts_of reports)) told) (takes_event (Ok (Some e)) (GoesOn (at y k)) first f g (y, report, acts, refl, words)) t.completes
+        ((λ i. printed_with notation (is i) (added c (counts_of (split i))) (parts i))
+        ∙ ap (λ (z : Counts). printed_with notation (with_event e rest) z (first ++ others_told)) (sym (counted_first c report others))
+        ∙ printed_event notation e rest (added k (counts_of others)) first others_told
+        ∙ ap (with_text first) t.is)
 
   -- what the lines say is what the machine prints
-  pub runs : (ls : List (List ℕ)) (x : ExecutiveState) (n : ℕ) (r : Document) (last : ExecutiveState) (reports : List TickReport) → Says x n ls r → Makes b (Promising b) x r.events last reports → Runs x n ls (printed notation r reports)
-  runs [] x n r last reports is made =
-      let none : reports ≡ [] = (subst (λ (d : Document). Makes b (Promising b) x d.events last reports) is made).1 in
-      record { end = Ended; text = []; completes = ends run_machine (GoesOn (at x)) n Ended [] (refl, refl); is = (λ i. printed notation (is i) (none i)) ∙ printed_complete notation b.model }
-  runs (l ∷ ls) x n r last reports says made =
-      line_runs n l ls x (line_code (n + 1) l) (event_line b.model x.pending x.mirrored l) r last reports refl refl says made (λ y d others h k. runs ls y (n + 1) d last others h k)
+  pub runs : (ls : List (List ℕ)) (x : ExecutiveState) (c : Counts) (n : ℕ) (r : Document) (last : ExecutiveState) (reports : List TickReport) (told : List ℕ) → Says x n ls r → MakesText notation b x r.events last reports told → Runs x c n ls (printed_with notation r (added c (counts_of reports)) told)
+  runs [] x c n r last reports told is made =
+      let none = subst (λ (d : Document). MakesText notation b x d.events last reports told) is made in
+      record {
+        end = Ended;
+        text = closing notation c;
+        completes = ends run_machine (GoesOn (at x c)) n Ended (closing notation c) (refl, refl);
+        is = (λ i. printed_with notation (is i) (added c (counts_of (none.1 i))) (none.2 i)) ∙ ap (λ (k : Counts). printed_with notation (record { model = b.model; events = []; ending = Complete }) k []) (counted_none c);
+      }
+  runs (l ∷ ls) x c n r last reports told says made =
+      line_runs n l ls x c (line_code (n + 1) l) (event_line b.model x.pending x.mirrored l) r last reports told refl refl says made (λ y k d others rest h j. runs ls y k (n + 1) d last others rest h j)

@@ -14,10 +14,10 @@ use Rattle.model_syntax.specs.Lines.{ModelSoFar, LineOutcome, Reads, Refuses, Fi
 use Rattle.script_reader.specs.EventLines.{event_line}
 use Rattle.titan_top.specs.Acceptance.{Acceptance, AcceptedAs, RefusedFor}
 use Rattle.titan_top.specs.Document.{nothing_read}
-use Rattle.titan_top.specs.Laws.{IsRunSoFar, RunsAreTraced}
+use Rattle.titan_top.specs.Laws.{IsLineByLine, IsRunSoFar, RunsAreTraced}
 use Rattle.titan_top.specs.ModelSteps.{StepsBy}
 use Rattle.titan_top.specs.Output.{outcome_of}
-use Rattle.titan_top.specs.RunMachine.{ScriptState, RunState, InModel, InScript, BeginsBy, RunsAtScript, ActsBy, run_machine, run_first}
+use Rattle.titan_top.specs.RunMachine.{ScriptState, RunState, InModel, InScript, BeginsBy, RunsAtScript, ActsBy, printed_in, script_first, after_event, run_machine, run_first}
 use Rattle.titan_top.specs.declared.notation.Notation.{Notation}
 use Rattle.titan_top.specs.declared.words.Form.TheVariants.{Run}
 use Rattle.titan_top.proofs.DocumentsAreTexts.{text_says}
@@ -112,9 +112,45 @@ model_quiet (l ∷ ls) w s n t text (GoesOn (InModel v z), a, c, takes, rest, pa
     let first : a ≡ [] = takes_quiet (length_code (run_machine.limit_of (InModel w s)) (n + 1) (length l)) w s (n + 1) l (GoesOn (InModel v z)) a tt takes in
     parts ∙ rw (first, model_quiet ls v z (n + 1) t c rest so) refl
 
+-- ---- a run is printed in one way
+
+going_same : (s t : RunState) → GoesOn s ≡ GoesOn t → s ≡ t
+going_same s t e = cc
+
+going_not : {X : Type 0} (t : RunState) (e : End) → GoesOn t ≡ Stops e → X
+going_not t e h = absurd cc
+
+stopped_going : (ls : List (List ℕ)) (e : End) (n : ℕ) (t : RunState) (text : List ℕ) → Runs run_machine (Stops e) n ls (GoesOn t) text → ⊥
+stopped_going [] e n t text r = going_not t e r.0
+stopped_going (l ∷ ls) e n t text r = going_not t e r.0
+
+kept_acts : (r : Result (Option Event) ℕ) (x : ScriptState) (n : ℕ) (t : RunState) (text : List ℕ) → ActsBy r x n (GoesOn t) text → printed_in t ≡ x.notation
+kept_acts (Err code) x n t text h = going_not t Refused h.0
+kept_acts (Ok None) x n t text h = ap printed_in (going_same t (InScript x) h.0)
+kept_acts (Ok (Some e)) x n t text (y, report, acts, at, words) = ap printed_in (going_same t (InScript (after_event x y report)) at)
+
+kept_begins : (w : Notation) (v : Acceptance) (m : PlantModel) (n : ℕ) (t : RunState) (text : List ℕ) → BeginsBy w v m n (GoesOn t) text → printed_in t ≡ w
+kept_begins w (AcceptedAs b) m n t text h = ap printed_in (going_same t (script_first w b) h.0)
+kept_begins w (RefusedFor r) m n t text h = going_not t Refused h.0
+
+kept_model : (w : Notation) (o : LineOutcome) (s : ModelSoFar) (n : ℕ) (t : RunState) (text : List ℕ) (at : Type 0) → (at → printed_in t ≡ w) → StepsBy w (InModel w) o s n at (GoesOn t) text → printed_in t ≡ w
+kept_model w (Reads r) s n t text at script h = ap printed_in (going_same t (InModel w r) h.0)
+kept_model w (Refuses code) s n t text at script h = going_not t Refused h.0
+kept_model w Finishes s n t text at script h = script h
+
+kept_takes : (o : Option ℕ) (s t : RunState) (n : ℕ) (l : List ℕ) (text : List ℕ) → TransitionByCode run_machine o s n l (GoesOn t) text → printed_in t ≡ printed_in s
+kept_takes (Some code) s t n l text h = going_not t Refused h.0
+kept_takes None (InModel w s) t n l text (o, leads, h) = kept_model w o s n t text _ (λ (v, is, by). kept_begins w v s.model n t text by) h
+kept_takes None (InScript x) t n l text h = kept_acts (event_line x.compiled.model x.state.pending x.state.mirrored l) x n t text h.1
+
+kept_runs : (ls : List (List ℕ)) (s t : RunState) (n : ℕ) (text : List ℕ) → Runs run_machine (GoesOn s) n ls (GoesOn t) text → printed_in t ≡ printed_in s
+kept_runs [] s t n text r = ap printed_in (going_same t s r.0)
+kept_runs (l ∷ ls) s t n text (Stops e, a, c, takes, rest, parts) = absurd (stopped_going ls e (n + 1) t c rest)
+kept_runs (l ∷ ls) s t n text (GoesOn u, a, c, takes, rest, parts) = kept_runs ls u t (n + 1) c rest ∙ kept_takes (length_code (run_machine.limit_of s) (n + 1) (length l)) s u (n + 1) l a takes
+
 -- ---- what is sure
 
-module _ (w : Notation) (a : List ℕ) where
+module _ (w : Notation) (quiet : IsLineByLine w) (a : List ℕ) where
   -- the bytes behind the last LF change nothing where the run goes on
   tail_by : (o : Option ℕ) (s t : RunState) (n : ℕ) (text : List ℕ) → TailByCode run_machine o s n (GoesOn t) text → (GoesOn t ≡ GoesOn s) × (text ≡ [])
   tail_by (Some code) s t n text h = absurd (never h.0)
@@ -137,7 +173,7 @@ module _ (w : Notation) (a : List ℕ) where
         lines = text;
         runs = subst (λ (ls : List (List ℕ)). Runs run_machine (GoesOn (run_first w)) 0 ls (GoesOn (InScript x)) text) (sym whole) runs;
         last = [];
-        closes = (refl, refl);
+        closes = (refl, sym (subst IsLineByLine (sym (kept_runs (lines_in a).whole (run_first w) (InScript x) 0 text runs)) quiet x.counts));
         parts = sym (append-nil text);
       } in
       inr (r.upto, (lines_in a).tail, outcome_of Ended text, r.joined, text_says (Run w) run_machine (InModel w) (RunsAtScript w) (run_reads_models w) r.upto Ended text is, refl)
@@ -156,4 +192,4 @@ module _ (w : Notation) (a : List ℕ) where
       subst (IsRunSoFar w a) (sym same) (sure_by t sure.lines (subst (λ (u : Next RunState). Runs run_machine (GoesOn (run_first w)) 0 (lines_in a).whole u sure.lines) (sym p.0) sure.runs))
 
 pub runs_are_traced : RunsAreTraced
-runs_are_traced = record { whole = traced; so_far = λ notation bytes text t. sure_is_run notation bytes t text }
+runs_are_traced = record { whole = traced; so_far = λ notation bytes text t quiet. sure_is_run notation quiet bytes t text }

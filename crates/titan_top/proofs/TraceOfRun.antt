@@ -20,15 +20,19 @@ use Rattle.trace_laws.proofs.PendingKnown.{one_pending, known_after}
 use Rattle.trace_laws.proofs.PromisesKept.{promising_traces_keep}
 use Rattle.trace_laws.proofs.WeakerReplies.{chosen_is_good}
 use Rattle.titan_top.specs.declared.words.Form.{Form}
-use Rattle.titan_top.specs.declared.words.Form.TheVariants.{Run}
+use Rattle.titan_top.specs.declared.words.Form.TheVariants.{Run, Trial}
+use Rattle.titan_top.specs.declared.notation.Notation.TheVariants.{Summary}
+use Rattle.trial_maker.specs.Documents.{document}
 use Rattle.titan_top.specs.declared.notation.Notation.{Notation}
 use Rattle.titan_top.specs.Headline.{IsTraceOf, IsFixedTrace, IsRefusedBefore}
 use Rattle.titan_top.specs.Limits.{line_code, unless_long}
 use Rattle.titan_top.specs.Document.{Document, ModelText, Scripted, Stopped, EndsModel, SaysBy, SaysScript, refused_at}
+use Rattle.titan_top.specs.Summaries.{counts_of}
+use Rattle.titan_top.specs.TickTexts.{TicksText}
 use Rattle.titan_top.specs.Output.{Outcome, refusal, printed, PrintsBy, IsRun, IsRefusedEnd, IsOutcomeFor, IsOutcomeOf, IsOutcome}
 use Rattle.titan_top.specs.Acceptance.{Acceptance, AcceptedAs, RefusedFor, IsAcceptanceOf}
 use Rattle.titan_top.specs.Words.{form_of, texts}
-use Rattle.titan_top.proofs.PrintedDocuments.{printed_refused}
+use Rattle.titan_top.proofs.PrintedDocuments.{printed_counts, printed_refused}
 use Rattle.titan_top.proofs.ScriptRuns.{script_model}
 
 -- ---- scripts
@@ -58,9 +62,9 @@ module _ (b : CompiledModel) where
       line_comes (line_code (n + 1) l) x (n + 1) l ls (event_line b.model x.pending x.mirrored l) r last reports refl says made (λ y d others h k. script_comes ls y (n + 1) d last others h k)
 
 -- what is printed of a script is its fixed trace
-script_traced : (notation : Notation) (b : CompiledModel) (n : ℕ) (ls : List (List ℕ)) (r : Document) (reports : List TickReport) (o : Outcome) → IsCompiled b → SaysScript b.model [] 0 n ls r → Trace b (Promising b) r.events reports → o ≡ printed notation r reports
+script_traced : (notation : Notation) (b : CompiledModel) (n : ℕ) (ls : List (List ℕ)) (r : Document) (reports : List TickReport) (text : List ℕ) (o : Outcome) → IsCompiled b → SaysScript b.model [] 0 n ls r → (trace : Trace b (Promising b) r.events reports) → TicksText notation b trace.ticks text → o ≡ printed notation r reports text
     → IsFixedTrace notation r o
-script_traced notation b n ls r reports o compiled says trace e =
+script_traced notation b n ls r reports text o compiled says trace told e =
     let made = trace_is_made b (Promising b) r.events reports trace in
     let promises = promising_traces_keep b r.events reports compiled trace in
     record {
@@ -70,6 +74,9 @@ script_traced notation b n ls r reports o compiled says trace e =
       reports = reports;
       good = chosen_is_good b r.events reports promises.trace;
       promises = promises;
+      trace = trace;
+      text = text;
+      of_ticks = told;
       lines = e;
     }
 
@@ -77,12 +84,12 @@ script_traced notation b n ls r reports o compiled says trace e =
 refused_before : (notation : Notation) (input : List ℕ) (end : ModelText) (m : PlantModel) (line : ℕ) (r : Refusal) (o : Outcome) → EndsModel input end → IsRefusedEnd end line r → o ≡ refusal notation m line r
     → IsRefusedBefore notation input (refused_at m line r) o
 refused_before notation input end m line r o ends refused e =
-    record { line = line; refusal = r; end = end; ends = ends; refused = refused; reading = refl; outcome = e ∙ sym (printed_refused notation m line r) }
+    record { line = line; refusal = r; end = end; ends = ends; refused = refused; reading = refl; outcome = e ∙ sym (printed_counts notation (refused_at m line r) [] [] ∙ printed_refused notation m (counts_of []) line r) }
 
 prints_traced : (notation : Notation) (input : List ℕ) (v : Acceptance) (m : PlantModel) (n : ℕ) (ls : List (List ℕ)) (o : Outcome) → EndsModel input (Scripted m n ls) → IsAcceptanceOf m v → PrintsBy notation v m n ls o → IsTraceOf notation input o
-prints_traced notation input (AcceptedAs b) m n ls o ends is (r, reports, says, trace, e) =
+prints_traced notation input (AcceptedAs b) m n ls o ends is (r, reports, text, says, trace, told, e) =
     let own : SaysScript b.model [] 0 n ls r = subst (λ (k : PlantModel). SaysScript k [] 0 n ls r) (sym is.1) says in
-    (r, (Scripted m n ls, ends, (AcceptedAs b, is, says)), inr (script_traced notation b n ls r reports o is.0 own trace e))
+    (r, (Scripted m n ls, ends, (AcceptedAs b, is, says)), inr (script_traced notation b n ls r reports text o is.0 own trace told e))
 prints_traced notation input (RefusedFor rf) m n ls o ends is e = (refused_at m n rf, (Scripted m n ls, ends, (RefusedFor rf, is, refl)), inl (refused_before notation input (Scripted m n ls) m n rf o ends (refl, is) e))
 
 run_traced : (notation : Notation) (input : List ℕ) (end : ModelText) (o : Outcome) → EndsModel input end → IsRun notation end o → IsTraceOf notation input o
@@ -97,3 +104,8 @@ pub run_is_traced : (notation : Notation) (words : List (String Global)) (left :
 unfolding IsOutcome
 run_is_traced notation words None e = tt
 run_is_traced notation words (Some input) e = λ o is. traced notation input o (subst (λ (f : Option Form). IsOutcomeOf f input o) e is)
+
+-- and so is what is counted for a trial
+pub trial_is_traced : (words : List (String Global)) (seed : ℕ) → form_of (texts words) ≡ Some (Trial seed) → (o : Outcome) → IsOutcome words (document seed) o → IsTraceOf (Summary seed) (document seed) o
+unfolding IsOutcome
+trial_is_traced words seed e o is = traced (Summary seed) (document seed) o (subst (λ (f : Option Form). IsOutcomeOf f (document seed) o) e is)

@@ -5,7 +5,7 @@ use Rattle.std.specs.Prelude.{IfSome, String}
 use Rattle.titan_top.specs.declared.status.Status.{Status}
 use Rattle.titan_top.specs.declared.status.Status.TheVariants.{Usage, WriteFault, Memory}
 use Rattle.titan_top.specs.declared.words.Form.{Form}
-use Rattle.titan_top.specs.Output.{Outcome, usage, IsOutcomeFor, IsOutcomeOf, IsOutcome, NothingRefused, SomeRefused}
+use Rattle.titan_top.specs.Output.{Outcome, usage, IsOutcomeFor, IsOutcomeOf, IsOutcome, NothingRefused, SomeRefused, SomeRejected}
 use Rattle.titan_top.specs.Wire.{Writes, WritesAs}
 use Rattle.titan_top.specs.Words.{form_of, texts}
 
@@ -61,6 +61,9 @@ module _ (words : List (String Global)) (form : Form) (is : Some form ≡ form_o
 
   pub form_something : (left : Option (List ℕ)) → IfSome left (SomeRefused (Some form)) → IfSome left (SomeRefused (form_of (texts words)))
   form_something left h = subst (λ (f : Option Form). IfSome left (SomeRefused f)) is h
+
+  pub form_no : (left : Option (List ℕ)) → IfSome left (SomeRejected (Some form)) → IfSome left (SomeRejected (form_of (texts words)))
+  form_no left h = subst (λ (f : Option Form). IfSome left (SomeRejected f)) is h
 
   -- the words' form is this one
   pub the_form : (other : Form) → form_of (texts words) ≡ Some other → form ≡ other

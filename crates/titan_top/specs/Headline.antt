@@ -6,10 +6,12 @@ use Rattle.cca_base.specs.Accepted.{CompiledModel}
 use Rattle.cca_base.specs.Choice.{IsChosenReply}
 use Rattle.cca_base.specs.Goals.{IsGoodReply}
 use Rattle.cca_base.specs.Orders.{IsSorted}
+use Rattle.cca_base.specs.Plans.{Promising}
 use Rattle.cca_base.specs.Runs.{Trace, KeepsPromises}
 use Rattle.cca_base.specs.Trace.{AllMayCome, start}
 use Rattle.titan_top.specs.Document.{Document, ModelText, EndsModel, IsDocument, refused_at}
 use Rattle.titan_top.specs.Output.{Outcome, IsRefusedEnd, printed}
+use Rattle.titan_top.specs.TickTexts.{TicksText}
 use Rattle.titan_top.specs.declared.notation.Notation.{Notation}
 
 -- the input's model is compiled and its events may come one after the other; the printed reports are the trace of these events, in which each estimate is a least-cost consistent successor and each reply is good; it is the fixed one; where estimates are right they stay right, and goals are served within their stated numbers
@@ -20,7 +22,10 @@ pub record IsFixedTrace (notation : Notation) (r : Document) (o : Outcome) : Typ
   pub reports : List TickReport
   pub good : Trace compiled (IsGoodReply compiled.model) r.events reports
   pub promises : KeepsPromises compiled (IsChosenReply compiled) r.events reports
-  pub lines : o ≡ printed notation r reports
+  pub trace : Trace compiled (Promising compiled) r.events reports
+  pub text : List ℕ
+  pub of_ticks : TicksText notation compiled trace.ticks text
+  pub lines : o ≡ printed notation r reports text
 
 -- a line of the model is refused, or the model at its script; nothing more is read, and the outcome is the line of the refusal
 pub record IsRefusedBefore (notation : Notation) (input : List ℕ) (r : Document) (o : Outcome) : Type 0 where
@@ -30,7 +35,7 @@ pub record IsRefusedBefore (notation : Notation) (input : List ℕ) (r : Documen
   pub ends : EndsModel input end
   pub refused : IsRefusedEnd end line refusal
   pub reading : r ≡ refused_at r.model line refusal
-  pub outcome : o ≡ printed notation r []
+  pub outcome : o ≡ printed notation r [] []
 
 -- the input's model is refused, or the outcome is its fixed trace
 abbrev pub IsTraceOf : Notation → List ℕ → Outcome → Type 0

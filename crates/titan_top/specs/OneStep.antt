@@ -1,12 +1,10 @@
 -- A state and a line lead to one state and one text, and so does the end of the input. The proofs stand here since a machine names them.
-use Rattle.std.specs.Prelude.{option_to_list}
 use Rattle.std.proofs.Common.{◌≡◌, ℕ, List, Option, Some, None, Result, Ok, Err, sym, ap, subst, ◌∙◌}
 use Rattle.cca_base.specs.declared.events.Event.{Event}
 use Rattle.cca_base.specs.declared.events.TickReport.{TickReport}
-use Rattle.cca_base.specs.Trace.{ExecutiveState}
 use Rattle.script_reader.specs.EventLines.{event_line}
 use Rattle.trace_laws.proofs.OneNext.{acts_are_one}
-use Rattle.titan_top.specs.Notations.{reports_in}
+use Rattle.titan_top.specs.OneText.{one_event_text}
 use Rattle.cca_base.specs.declared.events.Refusal.{Refusal}
 use Rattle.cca_base.specs.Accepted.{Accepted, CompiledModel, IsCompiled}
 use Rattle.cca_base.specs.PlantModel.{PlantModel}
@@ -19,10 +17,11 @@ use Rattle.line_machine.specs.declared.machine.End.{End}
 use Rattle.model_syntax.specs.Lines.{ModelSoFar, LineOutcome, Reads, Refuses as RefusesWith, Finishes}
 use Rattle.model_syntax.proofs.OneWay.{lead_one_way}
 use Rattle.titan_top.specs.Acceptance.{Acceptance, AcceptedAs, RefusedFor, IsCompiledFrom, IsAcceptanceOf}
+use Rattle.titan_top.specs.TickTexts.{EventText}
 use Rattle.titan_top.specs.ModelSteps.{StepsBy, ModelSteps, ModelCloses}
 use Rattle.titan_top.specs.declared.notation.Notation.{Notation}
 use Rattle.titan_top.specs.declared.notation.Notation.TheVariants.{Words}
-use Rattle.titan_top.specs.RunMachine.{ScriptState, RunState, InModel, InScript, BeginsBy, RunsAtScript, ActsBy, RunSteps, RunCloses}
+use Rattle.titan_top.specs.RunMachine.{ScriptState, RunState, InModel, InScript, BeginsBy, RunsAtScript, ActsBy, RunSteps, RunCloses, after_event}
 use Rattle.titan_top.specs.ShowMachine.{ShowsBy, ShowsAtScript, ShowSteps}
 
 -- ---- one thing becomes of a model
@@ -51,7 +50,7 @@ acceptance_is_one m (RefusedFor r) (RefusedFor q) h k = ap (λ (x : Refusal). Re
 -- ---- lines of a model
 
 -- two answers are one
-abbrev AreOne : {A B : Type 0} → A → A → B → B → Type 0
+abbrev pub AreOne : {A B : Type 0} → A → A → B → B → Type 0
 AreOne u v a c = (u ≡ v) × (a ≡ c)
 
 module _ {S : Type 0} (notation : Notation) (stage : ModelSoFar → S) (at_script : PlantModel → ℕ → Next S → List ℕ → Type 0) where
@@ -61,7 +60,7 @@ module _ {S : Type 0} (notation : Notation) (stage : ModelSoFar → S) (at_scrip
   outcome_one (RefusesWith code) s n u v a c one h k = (h.0 ∙ sym k.0, h.1 ∙ sym k.1)
   outcome_one Finishes s n u v a c one h k = one h k
 
-  model_steps_are_one : (s : ModelSoFar) (n : ℕ) (l : List ℕ) (u v : Next S) (a c : List ℕ) → (at_script s.model n u a → at_script s.model n v c → AreOne u v a c) →
+  pub model_steps_are_one : (s : ModelSoFar) (n : ℕ) (l : List ℕ) (u v : Next S) (a c : List ℕ) → (at_script s.model n u a → at_script s.model n v c → AreOne u v a c) →
       ModelSteps notation stage at_script s n l u a → ModelSteps notation stage at_script s n l v c → AreOne u v a c
   model_steps_are_one s n l u v a c one (o, leads, h) (p, leads', k) =
       outcome_one p s n u v a c one (subst (λ (x : LineOutcome). StepsBy notation stage x s n (at_script s.model n u a) u a) (lead_one_way s l o p leads leads') h) k
@@ -97,8 +96,8 @@ acts_one (Err code) s n x y a c compiled h k = (h.0 ∙ sym k.0, h.1 ∙ sym k.1
 acts_one (Ok None) s n x y a c compiled h k = (h.0 ∙ sym k.0, h.1 ∙ sym k.1)
 acts_one (Ok (Some e)) s n x y a c compiled (z, report, acts, at, text) (w, other, others, there, words) =
     let same = acts_are_one s.compiled compiled s.state e z w report other acts others in (
-      at ∙ ap (λ (t : ExecutiveState). GoesOn (InScript (record s { state = t }))) same.0 ∙ sym there,
-      text ∙ ap (λ (t : Option TickReport). reports_in s.notation s.compiled.model (option_to_list t)) same.1 ∙ sym words,
+      at ∙ (λ i. GoesOn (InScript (after_event s (same.0 i) (same.1 i)))) ∙ sym there,
+      one_event_text s.notation s.compiled s.state other a c (subst (λ (t : Option TickReport). EventText s.notation s.compiled s.state t a) same.1 text) words,
     )
 
 pub run_steps_are_one : (s : RunState) (n : ℕ) (l : List ℕ) (u v : Next RunState) (a c : List ℕ) → RunSteps s n l u a → RunSteps s n l v c → (u ≡ v) × (a ≡ c)

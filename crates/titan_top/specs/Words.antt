@@ -1,16 +1,26 @@
 -- The forms of words.
-use Rattle.std.specs.Prelude.{ℕ, List, [], ◌∷◌, Option, Some, None, codes, map, if◌then◌else◌, ◌&&◌, string_bytes, String}
+use Rattle.std.specs.Prelude.{ℕ, ◌^◌, ◌&&◌, nat_lt, List, [], ◌∷◌, Option, Some, None, codes, map, if◌then◌else◌, string_bytes, String}
 use Rattle.std.specs.Global.{Global}
+use Rattle.std.specs.Fmt.{decimal}
+use Rattle.std.specs.Option.{option_map}
 use Rattle.std.specs.Str.{bytes_eq}
+use Rattle.std.specs.Str.Parse.{digits_value}
 use Rattle.titan_top.specs.declared.words.Form.{Form}
-use Rattle.titan_top.specs.declared.words.Form.TheVariants.{Run, Show}
-use Rattle.titan_top.specs.declared.notation.Notation.TheVariants.{Words, Json}
+use Rattle.titan_top.specs.declared.words.Form.TheVariants.{Run, Show, Trial, Check}
+use Rattle.titan_top.specs.declared.notation.Notation.TheVariants.{Words, Json, Proof}
+
+-- the number of 64 bits that the word says, if it says one
+abbrev pub seed_of : List ℕ → Option ℕ
+seed_of word = if bytes_eq (decimal (digits_value 10 word)) word && nat_lt (digits_value 10 word) (2 ^ 64) then Some (digits_value 10 word) else None
 
 -- the form of the words, if they have one
 abbrev pub form_of : List (List ℕ) → Option Form
 form_of [] = None
-form_of (a ∷ []) = if bytes_eq a (codes "run") then Some (Run Words) else (if bytes_eq a (codes "show") then Some Show else None)
-form_of (a ∷ b ∷ []) = if bytes_eq a (codes "run") && bytes_eq b (codes "--json") then Some (Run Json) else None
+form_of (a ∷ []) = if bytes_eq a (codes "run") then Some (Run Words) else (if bytes_eq a (codes "show") then Some Show else (if bytes_eq a (codes "check") then Some Check else None))
+form_of (a ∷ b ∷ []) =
+    if bytes_eq a (codes "run")
+    then (if bytes_eq b (codes "--json") then Some (Run Json) else (if bytes_eq b (codes "--proof") then Some (Run Proof) else None))
+    else (if bytes_eq a (codes "trial") then option_map Trial (seed_of b) else None)
 form_of (a ∷ b ∷ c ∷ cs) = None
 
 -- the bytes of the words

@@ -2,15 +2,24 @@
 //! input lead to, line by line as the input comes, or after a fault, or out of memory, a front of that text.
 #![tactic(auto)]
 
+mod check;
+mod check_script;
+mod check_trace;
+mod counts;
 mod laws;
 mod limits;
 mod notation;
+mod proof;
 mod run;
 mod said;
 mod script;
 mod show;
 mod status;
+mod tick_lines;
+mod told;
 mod top;
+mod trial;
+mod verdicts;
 mod words;
 
 pub use laws::{

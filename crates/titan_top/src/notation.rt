@@ -1,11 +1,11 @@
-//! How lines are printed: in words, or as JSON.
+//! How lines are printed: in words, as JSON, in words with proofs, or as one summary.
 
 ghost use Rattle.std.specs.Prelude.{◌≡◌, IfOk};
-ghost use Rattle.titan_top.specs.Notations.{refusal_in, report_in};
+ghost use Rattle.titan_top.specs.Notations.{refusal_in};
 
-use cca_base::{Model, Refusal, TickReport};
+use cca_base::{Model, Refusal};
 use std::alloc::{AllocError, Global};
-use trace_text::{json_of, line_of, refusal_line};
+use trace_text::refusal_line;
 
 /// How lines are printed.
 #[derive(Clone, Copy, Debug, PartialEq, Eq)]
@@ -14,22 +14,10 @@ pub enum Notation {
     Words,
     /// As one object of JSON a line.
     Json,
-}
-
-/// The line of a tick's report.
-pub fn report_in(
-    alloc: Global,
-    notation: Notation,
-    model: &Model,
-    report: &TickReport,
-) -> Result<Vec<u8>, AllocError>
-    ensures { IfOk result (λ text. text.items ≡ report_in notation model.now report.now) }
-{
-    let text = match notation {
-        Notation::Words => line_of(alloc, model, report)?,
-        Notation::Json => json_of(alloc, model, report)?,
-    };
-    Ok(text.into_vec())
+    /// As words, and behind each tick's line the lines that prove it.
+    Proof,
+    /// As one line at the end: how many ticks of each kind the trial of this seed has.
+    Summary(u64),
 }
 
 /// The line of a refusal.
@@ -42,9 +30,10 @@ pub fn refusal_in(
 ) -> Result<Vec<u8>, AllocError>
     ensures { IfOk result (λ text. text.items ≡ refusal_in notation model.now number refusal.now) }
 {
-    let text = match notation {
-        Notation::Words => refusal_line(alloc, model, number, refusal, false)?,
-        Notation::Json => refusal_line(alloc, model, number, refusal, true)?,
+    let json = match notation {
+        Notation::Words | Notation::Proof | Notation::Summary(_) => false,
+        Notation::Json => true,
     };
+    let text = refusal_line(alloc, model, number, refusal, json)?;
     Ok(text.into_vec())
 }

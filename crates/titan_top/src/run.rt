@@ -176,7 +176,7 @@ impl Machine for Run {
                 let text = self.refuse(alloc, count, ENDS_EARLY)?;
                 Ok((text, End::Refused))
             }
-            Stage::Script(_) => Ok((Vec::new(alloc), End::Ended)),
+            Stage::Script(script) => Ok((script.closing(alloc)?, End::Ended)),
         }
     }
 }

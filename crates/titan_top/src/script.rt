@@ -1,6 +1,6 @@
 //! The script behind an accepted model, made line by line.
 
-ghost use Rattle.std.specs.Prelude.{◌≡◌, ◌+◌, ◌<◌, ◌≤◌, ◌^◌, ℕ, IfOk, IfSome, option_to_list};
+ghost use Rattle.std.specs.Prelude.{◌≡◌, ◌+◌, ◌-◌, ◌<◌, ◌≤◌, ◌^◌, ℕ, [], IfOk, IfSome, option_to_list};
 ghost use Rattle.cca_base.specs.Accepted.{IsCompiled};
 ghost use Rattle.cca_base.specs.Plans.{Promising};
 ghost use Rattle.cca_base.specs.Trace.{start, MayCome};
@@ -8,11 +8,15 @@ ghost use Rattle.formula_syntax.specs.Lookups.{NamesFit};
 ghost use Rattle.line_machine.specs.Next.{next_of};
 ghost use Rattle.line_machine.specs.declared.machine.TheConstants.{MAX_LINES};
 ghost use Rattle.script_reader.specs.EventLines.{AnswersAs, event_line};
-ghost use Rattle.titan_top.specs.Notations.{reports_in};
+ghost use Rattle.titan_top.specs.Notations.{closing};
+ghost use Rattle.titan_top.specs.Summaries.{AreFewer, added, counts_of};
+ghost use Rattle.titan_top.specs.TickTexts.{EventText};
 ghost use Rattle.trace_laws.specs.Events.{Acts};
 
-use crate::notation::{Notation, report_in};
+use crate::counts::{Counts, summary};
+use crate::notation::Notation;
 use crate::said::{nothing, refuse_stop};
+use crate::told::told;
 use cca_base::{Compiled, Event, Model, Name, Stop, Subject};
 use executive_loop::Executive;
 use indexmap::IndexMap;
@@ -26,6 +30,7 @@ pub struct Script {
     notation: Notation,
     names: IndexMap<Name, Subject>,
     executive: Executive,
+    counts: Counts,
 }
 
 impl std::marker::Model for Script {
@@ -38,7 +43,7 @@ impl std::marker::Model for Script {
 
     ghost coded = { Prim.hlevel (codes, formula.the_row.coded) };
 
-    ghost view = { λ s. record { notation = s.notation; compiled = s.executive.compiled; state = s.executive.state } };
+    ghost view = { λ s. record { notation = s.notation; compiled = s.executive.compiled; state = s.executive.state; counts = s.counts } };
 
     ghost invariant = { λ s. NamesFit s.names s.executive.compiled.model };
 }
@@ -66,22 +71,26 @@ fn read(
     )
 }
 
-/// Makes an event, and answers what is printed of it.
+/// Makes an event, counts its tick, and answers what is printed of it.
 fn make(
     alloc: Global,
     notation: Notation,
     executive: &mut Executive,
+    counts: &mut Counts,
     event: &Event,
 ) -> Result<Vec<u8>, AllocError>
     requires may_come { MayCome executive.old.compiled.model executive.old.state.pending executive.old.state.mirrored event.now }
     requires room { executive.old.state.ticks + 1 < 2 ^ 64 }
+    requires few { AreFewer (2 ^ 64 - 1) counts.old }
     ensures acts { IfOk result (λ text. (report : _) × Acts executive.old.compiled (Promising executive.old.compiled) executive.old.state event.now executive.new.state report
-        × (text.items ≡ reports_in notation executive.old.compiled.model (option_to_list report))) }
+        × EventText notation executive.old.compiled executive.old.state report text.items
+        × (counts.new ≡ added counts.old (counts_of (option_to_list report)))) }
     ensures compiled { executive.new.compiled ≡ executive.old.compiled }
 {
     match executive.event(event)? {
         Some(report) => {
-            let text = report_in(alloc, notation, executive.compiled().model(), &report)?;
+            let text = told(alloc, notation, executive, &report)?;
+            counts.count(&report);
             Ok(text)
         }
         None => Ok(Vec::new(alloc)),
@@ -99,13 +108,14 @@ impl Script {
         names: IndexMap<Name, Subject>,
     ) -> Result<Script, AllocError>
         requires { NamesFit names compiled.model }
-        ensures { IfOk result (λ s. s ≡ record { notation = notation; compiled = compiled; state = start compiled.model 0 }) }
+        ensures { IfOk result (λ s. s ≡ record { notation = notation; compiled = compiled; state = start compiled.model 0; counts = counts_of [] }) }
     {
         let executive = Executive::open(alloc, compiled)?;
         Ok(Script {
             notation,
             names,
             executive,
+            counts: Counts::none(),
         })
     }
 
@@ -113,6 +123,16 @@ impl Script {
         ensures { result.now ≡ self.now.compiled.model }
     {
         self.executive.compiled().model()
+    }
+
+    /// What is printed at the end of the script.
+    pub fn closing(&self, alloc: Global) -> Result<Vec<u8>, AllocError>
+        ensures { IfOk result (λ text. text.items ≡ closing self.now.notation self.now.counts) }
+    {
+        match self.notation {
+            Notation::Words | Notation::Json | Notation::Proof => Ok(Vec::new(alloc)),
+            Notation::Summary(seed) => summary(alloc, seed, &self.counts),
+        }
     }
 
     /// Makes a line of the script.
@@ -126,7 +146,13 @@ impl Script {
     {
         match read(alloc, &self.executive, &self.names, line) {
             Ok(Some(event)) => {
-                let text = make(alloc, self.notation, &mut self.executive, &event)?;
+                let text = make(
+                    alloc,
+                    self.notation,
+                    &mut self.executive,
+                    &mut self.counts,
+                    &event,
+                )?;
                 Ok(Said { text, end: None })
             }
             Ok(None) => Ok(nothing(alloc)),

@@ -1,23 +1,48 @@
 //! The one call that the program makes.
 
-ghost use Rattle.std.specs.Prelude.{◌≡◌, ◌≢◌, ◌⊎◌, ◌≤◌, ℕ, List, IfSome, IfOk, IfErr, IsErrOf, Some, length};
+ghost use Rattle.std.specs.Prelude.{◌≡◌, ◌⊎◌, ◌≤◌, ℕ, List, IfSome, IfOk, IfErr, IsErrOf, Some, length};
 ghost use Rattle.std.specs.Io.KnownBytes.{prepend_known, IsAtEnd};
 ghost use Rattle.titan_wire.specs.Wire.{Rose, HasRoom};
+ghost use Rattle.titan_top.specs.CheckedTrace.{IsCheckedTrace};
 ghost use Rattle.titan_top.specs.Headline.{IsTraceOf};
-ghost use Rattle.titan_top.specs.Output.{Outcome, IsOutcomeFor, IsOutcome, NothingRefused, SomeRefused, usage, usage_text, AreNoForm};
+ghost use Rattle.titan_top.specs.Output.{Outcome, IsOutcomeFor, IsOutcome, NothingRefused, SomeRefused, SomeRejected, usage, usage_text, AreNoForm};
 ghost use Rattle.titan_top.specs.Statuses.{status_of, end_status};
-ghost use Rattle.titan_top.specs.Streams.{HasRoomForWords, StreamedFor, InTurnFor, StreamsAs};
+ghost use Rattle.titan_top.specs.Streams.{HasRoomForWords, StreamedFor, InTurnFor, StreamsAs, input_for};
 ghost use Rattle.titan_top.specs.Wire.{Writes, WritesAs};
 ghost use Rattle.titan_top.specs.declared.notation.Notation.{Notation};
 ghost use Rattle.titan_top.specs.Words.{form_of, texts};
+ghost use Rattle.trial_maker.specs.Documents.{document};
 
+use crate::check::Check;
 use crate::run::Run;
 use crate::show::Show;
 use crate::status::{Status, status_of};
+use crate::trial::drive_trial;
 use crate::words::{Form, form_of};
 use line_machine::{Cut, End, Intake, Unwatched, drive};
 use std::alloc::Global;
 use titan_wire::{PutEnd, Sink, Source, put_all};
+
+/// Drives the machine of `check`.
+fn drive_check<S, K: Sink, I: Intake<S, K>>(
+    alloc: Global,
+    source: &mut S,
+    sink: &mut K,
+) -> Result<End, Cut>
+    requires { HasRoomForWords (Some Form.Check) (I.left source.old) (K.space sink.old) }
+    ensures streamed { StreamedFor Form.Check (I.left source.old) (I.left source.new) (K.written sink.old) (K.written sink.new) result }
+    ensures order { InTurnFor Form.Check (I.left source.old) (I.left source.new) (K.written sink.old) (K.written sink.new) (I.calls source.old) (I.calls source.new) result }
+    ensures text { IfSome (I.left source.old) (λ input. WritesAs (status_of result) (K.written sink.old) (K.written sink.new) (IsOutcomeFor Form.Check input)) }
+    ensures ends { IfSome (I.left source.old) (λ input. (o : Outcome) → IsOutcomeFor Form.Check input o → IfOk result (λ e. o.status ≡ end_status e)) }
+    ensures read { IsErrOf result Cut.ReadFault → Rose (I.faults source.old) (I.faults source.new) }
+    ensures write { IsErrOf result Cut.WriteFault → Rose (K.faults sink.old) (K.faults sink.new) }
+    ensures complete { ¬ (Rose (I.faults source.old) (I.faults source.new)) → ¬ (Rose (K.faults sink.old) (K.faults sink.new)) → IfErr result (λ c. c ≡ Cut.Memory) }
+{
+    match Check::open(alloc) {
+        Ok(mut machine) => drive::<Check, S, K, I>(alloc, &mut machine, source, sink),
+        Err(_) => Err(Cut::Memory),
+    }
+}
 
 /// Drives the machine of a form of words. The source is asked by an intake, so that the order of reads and writes can be said.
 fn drive_form<S, K: Sink, I: Intake<S, K>>(
@@ -29,8 +54,10 @@ fn drive_form<S, K: Sink, I: Intake<S, K>>(
     requires { HasRoomForWords (Some form) (I.left source.old) (K.space sink.old) }
     ensures streamed { StreamedFor form (I.left source.old) (I.left source.new) (K.written sink.old) (K.written sink.new) result }
     ensures order { InTurnFor form (I.left source.old) (I.left source.new) (K.written sink.old) (K.written sink.new) (I.calls source.old) (I.calls source.new) result }
-    ensures text { IfSome (I.left source.old) (λ input. WritesAs (status_of result) (K.written sink.old) (K.written sink.new) (IsOutcomeFor form input)) }
-    ensures ends { IfSome (I.left source.old) (λ input. (o : Outcome) → IsOutcomeFor form input o → IfOk result (λ e. o.status ≡ end_status e)) }
+    ensures text { IfSome (input_for (Some form) (I.left source.old)) (λ input. WritesAs (status_of result) (K.written sink.old) (K.written sink.new) (IsOutcomeFor form input)) }
+    ensures ends { IfSome (input_for (Some form) (I.left source.old)) (λ input. (o : Outcome) → IsOutcomeFor form input o → IfOk result (λ e. o.status ≡ end_status e)) }
+    ensures not_asked { (seed : ℕ) → form ≡ Form.Trial seed → source.new ≡ source.old }
+    ensures not_read { (seed : ℕ) → form ≡ Form.Trial seed → IsErrOf result Cut.ReadFault → ⊥ }
     ensures read { IsErrOf result Cut.ReadFault → Rose (I.faults source.old) (I.faults source.new) }
     ensures write { IsErrOf result Cut.WriteFault → Rose (K.faults sink.old) (K.faults sink.new) }
     ensures complete { ¬ (Rose (I.faults source.old) (I.faults source.new)) → ¬ (Rose (K.faults sink.old) (K.faults sink.new)) → IfErr result (λ c. c ≡ Cut.Memory) }
@@ -44,6 +71,8 @@ fn drive_form<S, K: Sink, I: Intake<S, K>>(
             Ok(mut machine) => drive::<Show, S, K, I>(alloc, &mut machine, source, sink),
             Err(_) => Err(Cut::Memory),
         },
+        Form::Trial(seed) => drive_trial(alloc, seed, sink),
+        Form::Check => drive_check::<S, K, I>(alloc, source, sink),
     }
 }
 
@@ -74,24 +103,36 @@ pub fn titan<S: Source, K: Sink>(
     ensures streamed { (form : Form) → form_of (texts words.now.items) ≡ Some form →
         StreamsAs form (S.left source.old) (S.left source.new) (K.written sink.old) (K.written sink.new) result }
 
-    // Over a source whose bytes are known: the whole text of the words and the input, or a front of it.
-    ensures text { IfSome (S.left source.old) (λ input.
+    // Over a source whose bytes are known, and for a trial over every one: the whole text of the words and the input, or a front of it.
+    ensures text { IfSome (input_for (form_of (texts words.now.items)) (S.left source.old)) (λ input.
         WritesAs result (K.written sink.old) (K.written sink.new) (IsOutcome words.now.items input)) }
 
     // What is printed of a run: the reports are the trace of what was read, each reply is good, and then comes the ending; or
     // the model is refused.
-    ensures trace { (notation : Notation) → form_of (texts words.now.items) ≡ Some (Form.Run notation) → IfSome (S.left source.old) (λ input.
+    ensures trace { (notation : Notation) → form_of (texts words.now.items) ≡ Some (Form.Run notation) → IfSome (input_for (form_of (texts words.now.items)) (S.left source.old)) (λ input.
         (o : Outcome) → IsOutcome words.now.items input o → IsTraceOf notation input o) }
 
-    // The input has no line that is refused, or its first one is named.
-    ensures ended { result ≡ Status.Ended → IfSome (S.left source.old) (NothingRefused (form_of (texts words.now.items))) }
-    ensures refused { result ≡ Status.Refused → IfSome (S.left source.old) (SomeRefused (form_of (texts words.now.items))) }
+    // The same of what is counted for a trial.
+    ensures summary { (seed : ℕ) → form_of (texts words.now.items) ≡ Some (Form.Trial seed) →
+        (o : Outcome) → IsOutcome words.now.items (document seed) o → IsTraceOf (Notation.Summary seed) (document seed) o }
+
+    // The theorem of the checker: what gets a Yes is a model, a script and the text of its ticks, each of which is a consistent successor
+    // of its cost, fits its goal, and sends only what is safe.
+    ensures checked { form_of (texts words.now.items) ≡ Some Form.Check → IfSome (S.left source.old) (λ input.
+        (o : Outcome) → IsOutcome words.now.items input o → o.status ≡ Status.Ended → IsCheckedTrace input o) }
+
+    // The input has no line that is refused, or its first one is named. A check has no No either, or its first one comes first.
+    ensures ended { result ≡ Status.Ended → IfSome (input_for (form_of (texts words.now.items)) (S.left source.old)) (NothingRefused (form_of (texts words.now.items))) }
+    ensures refused { result ≡ Status.Refused → IfSome (input_for (form_of (texts words.now.items)) (S.left source.old)) (SomeRefused (form_of (texts words.now.items))) }
+    ensures rejected { result ≡ Status.Rejected → IfSome (input_for (form_of (texts words.now.items)) (S.left source.old)) (SomeRejected (form_of (texts words.now.items))) }
 
     // Without a fault that is how the program ends, or memory ran out.
     ensures ended_where { ¬ (Rose (S.faults source.old) (S.faults source.new)) → ¬ (Rose (K.faults sink.old) (K.faults sink.new)) →
-        IfSome (S.left source.old) (λ input. NothingRefused (form_of (texts words.now.items)) input → (result ≡ Status.Ended) ⊎ (result ≡ Status.Memory)) }
+        IfSome (input_for (form_of (texts words.now.items)) (S.left source.old)) (λ input. NothingRefused (form_of (texts words.now.items)) input → (result ≡ Status.Ended) ⊎ (result ≡ Status.Memory)) }
     ensures refused_where { ¬ (Rose (S.faults source.old) (S.faults source.new)) → ¬ (Rose (K.faults sink.old) (K.faults sink.new)) →
-        IfSome (S.left source.old) (λ input. SomeRefused (form_of (texts words.now.items)) input → (result ≡ Status.Refused) ⊎ (result ≡ Status.Memory)) }
+        IfSome (input_for (form_of (texts words.now.items)) (S.left source.old)) (λ input. SomeRefused (form_of (texts words.now.items)) input → (result ≡ Status.Refused) ⊎ (result ≡ Status.Memory)) }
+    ensures rejected_where { ¬ (Rose (S.faults source.old) (S.faults source.new)) → ¬ (Rose (K.faults sink.old) (K.faults sink.new)) →
+        IfSome (input_for (form_of (texts words.now.items)) (S.left source.old)) (λ input. SomeRejected (form_of (texts words.now.items)) input → (result ≡ Status.Rejected) ⊎ (result ≡ Status.Memory)) }
 
     // Each fault has its cause.
     ensures read { result ≡ Status.ReadFault → Rose (S.faults source.old) (S.faults source.new) }
@@ -103,18 +144,25 @@ pub fn titan<S: Source, K: Sink>(
     ensures only_usage { AreNoForm words.now.items → (result ≡ Status.Usage) ⊎ (result ≡ Status.WriteFault) }
     ensures not_asked { AreNoForm words.now.items → source.new ≡ source.old }
 
+    // A trial asks the source for nothing, so nothing fails to be read.
+    ensures trial_not_asked { (seed : ℕ) → form_of (texts words.now.items) ≡ Some (Form.Trial seed) → source.new ≡ source.old }
+    ensures trial_not_read { (seed : ℕ) → form_of (texts words.now.items) ≡ Some (Form.Trial seed) → result ≡ Status.ReadFault → ⊥ }
+
     // Where no fault rose, the status is the outcome's, or memory ran out.
     ensures complete { ¬ (Rose (S.faults source.old) (S.faults source.new)) → ¬ (Rose (K.faults sink.old) (K.faults sink.new)) →
-        IfSome (S.left source.old) (λ input. ((o : Outcome) × IsOutcome words.now.items input o × (result ≡ o.status)) ⊎ (result ≡ Status.Memory)) }
+        IfSome (input_for (form_of (texts words.now.items)) (S.left source.old)) (λ input. ((o : Outcome) × IsOutcome words.now.items input o × (result ≡ o.status)) ⊎ (result ≡ Status.Memory)) }
 
-    // No form of words that is built rejects anything.
-    ensures not_rejected { result ≢ Status.Rejected }
+    // Only a check rejects anything.
+    ensures only_check { result ≡ Status.Rejected → form_of (texts words.now.items) ≡ Some Form.Check }
 
-    // A run that ended has read its input to the end; what is shown was read to the line `script`, and nothing goes out before.
+    // A run or a check that ended has read its input to the end; what is shown was read to the line `script`. Before the end `show` and
+    // `check` write nothing.
     ensures whole { (notation : Notation) → form_of (texts words.now.items) ≡ Some (Form.Run notation) → result ≡ Status.Ended → IsAtEnd (S.left source.new) }
+    ensures whole_check { form_of (texts words.now.items) ≡ Some Form.Check → result ≡ Status.Ended → IsAtEnd (S.left source.new) }
     ensures to_script { form_of (texts words.now.items) ≡ Some Form.Show → result ≡ Status.Ended →
         (taken : List ℕ) × (S.left source.old ≡ prepend_known taken (S.left source.new)) × NothingRefused (Some Form.Show) taken }
     ensures silent { form_of (texts words.now.items) ≡ Some Form.Show → result ≡ Status.ReadFault → K.written sink.new ≡ K.written sink.old }
+    ensures silent_check { form_of (texts words.now.items) ≡ Some Form.Check → result ≡ Status.ReadFault → K.written sink.new ≡ K.written sink.old }
 {
     match form_of(words) {
         Some(form) => status_of(drive_form::<S, K, Unwatched>(alloc, form, source, sink)),

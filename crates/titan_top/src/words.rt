@@ -1,9 +1,10 @@
 //! Forms of the program's words.
 
 ghost use Rattle.std.specs.Prelude.{◌≡◌};
-ghost use Rattle.titan_top.specs.Words.{form_of, texts};
+ghost use Rattle.titan_top.specs.Words.{form_of, seed_of, texts};
 
 use crate::notation::Notation;
+use text_base::read_number;
 
 /// What the words ask for.
 #[derive(Clone, Copy, Debug, PartialEq, Eq)]
@@ -12,6 +13,24 @@ pub enum Form {
     Run(Notation),
     /// Reads a model and prints it, with what is compiled from it.
     Show,
+    /// Runs the document of a seed and prints a summary.
+    Trial(u64),
+    /// Reads a document and its printed trace, and prints the verdict on it.
+    Check,
+}
+
+/// The number of 64 bits that the word says, if it says one.
+fn seed_of(word: &[u8]) -> Option<u64>
+    ensures { result ≡ seed_of word.now }
+{
+    let Some(n) = read_number(word) else {
+        return None;
+    };
+    if n <= u128::from(u64::MAX) {
+        Some(n as u64)
+    } else {
+        None
+    }
 }
 
 /// The form of the words, if they have one.
@@ -24,13 +43,23 @@ pub fn form_of(words: &[String]) -> Option<Form>
                 Some(Form::Run(Notation::Words))
             } else if a.as_str() == "show" {
                 Some(Form::Show)
+            } else if a.as_str() == "check" {
+                Some(Form::Check)
             } else {
                 None
             }
         }
         [a, b] => {
-            if a.as_str() == "run" && b.as_str() == "--json" {
-                Some(Form::Run(Notation::Json))
+            if a.as_str() == "run" {
+                if b.as_str() == "--json" {
+                    Some(Form::Run(Notation::Json))
+                } else if b.as_str() == "--proof" {
+                    Some(Form::Run(Notation::Proof))
+                } else {
+                    None
+                }
+            } else if a.as_str() == "trial" {
+                seed_of(b.as_bytes()).map(Form::Trial)
             } else {
                 None
             }

@@ -1,0 +1,54 @@
+-- What a checked trace is, by the model's rules and guards alone: the theorem of the checker.
+use Rattle.std.specs.Prelude.{◌≡◌, ◌⊎◌, ℕ, ◌+◌, List, [], ◌∷◌, ◌++◌, length, flat_map, Option, Some, None}
+use Rattle.cca_base.specs.declared.events.Event.{Event}
+use Rattle.cca_base.specs.Accepted.{CompiledModel, IsCompiled}
+use Rattle.cca_base.specs.PlantModel.{PlantModel}
+use Rattle.cca_base.specs.Trace.{ExecutiveState, Changes, start}
+use Rattle.plan_checker.specs.Checked.{AsGiven, Takes, ShowsSuccessor, ShowsReply, ShowsSafety}
+use Rattle.plan_checker.specs.Reasons.{Printed, HasItsWorld, AnswersGoal}
+use Rattle.trace_laws.specs.Events.{IsTick}
+use Rattle.titan_top.specs.CheckScript.{Traced, ReadsScript, no_events}
+use Rattle.titan_top.specs.Document.{EndsModel, Scripted}
+use Rattle.titan_top.specs.Output.{Outcome}
+use Rattle.titan_top.specs.TickProofs.{tick_text}
+use Rattle.titan_top.specs.Verdicts.{checked_line}
+use Rattle.titan_top.specs.declared.status.Status.TheVariants.{Ended}
+
+-- the printed tick is next, and it shows a consistent estimate of its cost with a world of it, a reply that fits the goal and what came before, and a command that is safe
+pub record IsCheckedTick (m : PlantModel) (x : ExecutiveState) (t : Printed) : Type 0 where
+  pub number : t.report.tick ≡ x.ticks + 1
+  pub successor : ShowsSuccessor m x t
+  pub reply : ShowsReply x t
+  pub safety : ShowsSafety m x t
+  pub world : HasItsWorld m x t
+  pub answer : AnswersGoal x t.report.shown
+
+-- the printed ticks are those of the events, one after the other from x on: each is checked and then taken, and the other events are made
+abbrev pub AreChecked : PlantModel → ExecutiveState → List Event → List Printed → Type 0
+AreChecked m x [] ticks = ticks ≡ []
+AreChecked m x (e ∷ events) ticks =
+    (IsTick e × (t : Printed) × (others : List Printed) × (ticks ≡ t ∷ others) × IsCheckedTick m x t
+    × (y : ExecutiveState) × Takes m x t.report.shown y × AreChecked m y events others)
+    ⊎ ((y : ExecutiveState) × Changes m AsGiven x e y × AreChecked m y events ticks)
+
+-- ---- the text
+
+-- lines, each with its LF
+abbrev pub joined : List (List ℕ) → List ℕ
+joined lines = flat_map (λ l. l ++ 10 ∷ []) lines
+
+-- the input's model is compiled, its script ends with the line `trace`, the lines behind that are the text of ticks that are checked, one after the other for the script's events, and their number is printed
+pub record IsCheckedTrace (input : List ℕ) (o : Outcome) : Type 0 where
+  pub compiled : CompiledModel
+  pub is : IsCompiled compiled
+  pub script : ℕ
+  pub lines : List (List ℕ)
+  pub model : EndsModel input (Scripted compiled.model script lines)
+  pub events : List Event
+  pub trace : ℕ
+  pub rest : List (List ℕ)
+  pub document : ReadsScript compiled.model no_events script lines (Traced events trace rest)
+  pub ticks : List Printed
+  pub text : joined rest ≡ flat_map (tick_text compiled.model) ticks
+  pub checked : AreChecked compiled.model (start compiled.model 0) events ticks
+  pub outcome : o ≡ record { text = checked_line (length ticks); status = Ended }
