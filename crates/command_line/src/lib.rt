@@ -6,7 +6,7 @@ ghost use Rattle.std.specs.Prelude.{◌≡◌, ◌≤◌, IfSome};
 ghost use Rattle.std.specs.Process.{exit_status};
 ghost use Rattle.titan_top.specs.Output.{IsOutcome};
 ghost use Rattle.titan_top.specs.Statuses.{status_number};
-ghost use Rattle.titan_top.specs.Streams.{HasRoomForWords};
+ghost use Rattle.titan_top.specs.Streams.{HasRoomForWords, input_for};
 ghost use Rattle.titan_top.specs.Wire.{WritesAs};
 ghost use Rattle.titan_top.specs.Words.{form_of, texts};
 
@@ -52,7 +52,7 @@ fn run_over<S: Source, K: Sink>(
 ) -> ExitCode
     requires { HasRoomForWords (form_of (texts words.now.items)) (S.left source.old) (K.space sink.old) }
     ensures status { (s : Status) × (exit_status result ≡ status_number s)
-        × IfSome (S.left source.old) (λ input. WritesAs s (K.written sink.old) (K.written sink.new) (IsOutcome words.now.items input)) }
+        × IfSome (input_for (form_of (texts words.now.items)) (S.left source.old)) (λ input. WritesAs s (K.written sink.old) (K.written sink.new) (IsOutcome words.now.items input)) }
     ensures few { exit_status result ≤ 6 }
 {
     exit_code(titan(alloc, words, source, sink))

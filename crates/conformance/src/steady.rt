@@ -3,7 +3,7 @@
 ghost use Rattle.std.specs.Prelude.{◌≡◌, ◌≢◌, ◌⊎◌, IfSome};
 ghost use Rattle.titan_wire.specs.Steady.{steady_left, steady_space};
 ghost use Rattle.titan_top.specs.Output.{NothingRefused, SomeRefused};
-ghost use Rattle.titan_top.specs.Streams.{HasRoomForWords};
+ghost use Rattle.titan_top.specs.Streams.{HasRoomForWords, input_for};
 ghost use Rattle.titan_top.specs.Words.{form_of, texts};
 
 use std::alloc::Global;
@@ -20,9 +20,9 @@ pub fn run_steady(
     requires { HasRoomForWords (form_of (texts words.now.items)) (steady_left source.old) (steady_space sink.old) }
     ensures read { result ≢ Status.ReadFault }
     ensures write { result ≢ Status.WriteFault }
-    ensures ended { IfSome (steady_left source.old) (λ input. NothingRefused (form_of (texts words.now.items)) input →
+    ensures ended { IfSome (input_for (form_of (texts words.now.items)) (steady_left source.old)) (λ input. NothingRefused (form_of (texts words.now.items)) input →
         (result ≡ Status.Ended) ⊎ (result ≡ Status.Memory)) }
-    ensures refused { IfSome (steady_left source.old) (λ input. SomeRefused (form_of (texts words.now.items)) input →
+    ensures refused { IfSome (input_for (form_of (texts words.now.items)) (steady_left source.old)) (λ input. SomeRefused (form_of (texts words.now.items)) input →
         (result ≡ Status.Refused) ⊎ (result ≡ Status.Memory)) }
 {
     titan(alloc, words, source, sink)
