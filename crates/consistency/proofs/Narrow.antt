@@ -11,6 +11,7 @@ use Rattle.clause_form.specs.Clauses.{is_true, is_met, AreBelow}
 use Rattle.consistency.specs.declared.domain.Domain.{Domain}
 use Rattle.consistency.specs.declared.subjects.SubjectSet.{SubjectSet}
 use Rattle.consistency.specs.Subjects.{is_in}
+use Rattle.consistency.specs.Bounds.{AreIn, OthersOut}
 use Rattle.consistency.specs.Search.{AllMet, OthersFalse, HasReasons, Assumed, Agrees, Knows, nothing, values_at}
 
 -- a true literal of a clause that is met
@@ -64,6 +65,30 @@ narrowed domains held xs s before values common because reason h is knows common
           get_or-set_other domains s d (record { values = common; reason = reason }) nothing ne in
           ap (λ (y : Domain). has y.values (slice_index xs d)) same ∙ knows d dk (λ x m. agrees x (ap (λ (y : Domain). is_in y.reason x) same ∙ m)))
     ]
+
+-- where the others are out of the sets it is the one
+pub only_in : (ls : List Literal) (sets : List ℕ) (k : ℕ) (xs : List ℕ) → AreBelow (length sets) ls → OthersOut ls sets k → is_met xs ls ≡ true → AreIn sets xs → (k < length ls) × ((l : Literal) → is_true xs (slice_index_or ls k l) ≡ true)
+only_in ls sets k xs below others met inside =
+    let m = met_at xs ls met in
+    elim (cases_eq m.0 k) [
+      | inl e ↦ subst (λ j. (j < length ls) × ((l : Literal) → is_true xs (slice_index_or ls j l) ≡ true)) e (m.1, m.2)
+      | inr ne ↦ (
+          let l : Literal = record { subject = 0; values = 0 } in
+          let s = (slice_index_or ls m.0 l).subject in
+          absurd (true≢false (sym (m.2 l) ∙ others m.0 l m.1 ne (slice_index xs s) (inside s (below m.0 l m.1)))))
+    ]
+
+-- one set narrowed to what it has in common with one in which the value is
+pub narrowed_in : (sets xs : List ℕ) (s before values common : ℕ) → s < length sets → before ≡ slice_index sets s → ((v : ℕ) → has common v ≡ (has before v && has values v))
+    → has values (slice_index xs s) ≡ true → AreIn sets xs → AreIn (slice_set sets s common) xs
+narrowed_in sets xs s before values common h is commons fits inside d k = elim (cases_eq d s) [
+  | inl e ↦ (
+      let stood : has before (slice_index xs s) ≡ true = ap (λ (set : ℕ). has set (slice_index xs s)) is ∙ inside s h in
+      let mine : has (slice_index (slice_set sets s common) s) (slice_index xs s) ≡ true =
+      ap (λ (set : ℕ). has set (slice_index xs s)) (get_or-set_same sets s common 0 h) ∙ (commons (slice_index xs s) ∙ and_from _ _ stood fits) in
+      subst (λ (j : ℕ). has (slice_index (slice_set sets s common) j) (slice_index xs j) ≡ true) (sym e) mine)
+  | inr ne ↦ ap (λ (set : ℕ). has set (slice_index xs d)) (get_or-set_other sets s d common 0 ne) ∙ inside d (omega (arith, k, length-set sets s common))
+]
 
 pub met_item : (xs : List ℕ) (clauses : List Clause) (i : ℕ) (clause : Clause) (literals : List Literal) → AllMet xs clauses → i < length clauses → clause ≡ slice_index_or clauses i clause → literals ≡ clause.literals → is_met xs literals ≡ true
 met_item xs clauses i clause literals met h is same = ap (is_met xs) same ∙ subst (λ (x : Clause). is_met xs x.literals ≡ true) (sym is) (met i clause h)

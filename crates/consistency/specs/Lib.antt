@@ -1,5 +1,6 @@
 pub mod Subjects
 pub mod Search
+pub mod Bounds
 pub mod Problem
 pub mod Found
 pub mod Base

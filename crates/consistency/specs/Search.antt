@@ -176,8 +176,3 @@ AllHave clauses base first p = (xs : List ℕ) → IsSolution clauses base xs �
 pub record IsBackbone (clauses : List Clause) (base : List ℕ) (first vars : ℕ) (pairs : List Pair) : Type 0 where
   pub rising : IsRising pairs
   pub each : (p : Pair) → Contains pairs p ↔ (IsTrue (has vars p.item) × (first + p.item < length base) × AllHave clauses base first p)
-
--- each solution's values are in the domains
-pub record AreBounds (clauses : List Clause) (base : List ℕ) (domains : List Domain) : Type 0 where
-  pub full : length domains ≡ length base
-  pub within : (xs : List ℕ) → IsSolution clauses base xs → (d : ℕ) → d < length base → has (values_at domains d) (slice_index xs d) ≡ true

@@ -1,19 +1,20 @@
-//! The backbone of a state's worlds: the values that all of them have. The first world gives each candidate. Where
+//! The backbone of a state's worlds: the values that all of them have. Some world gives each candidate. Where
 //! propagation doesn't leave it alone, a search with the value excluded shows whether some other world differs.
 
 ghost use Rattle.std.specs.Prelude.{◌≡◌, ◌+◌, ◌≤◌, ℕ, List, length, slice_index, All, IfOk};
 ghost use Rattle.cca_base.specs.State.{HasValue, HasWorld, IsState};
+ghost use Rattle.consistency.specs.Bounds.{AreBounds};
 ghost use Rattle.consistency.specs.Forced.{AreForced};
 ghost use Rattle.consistency.specs.Problem.{IsProblem};
-ghost use Rattle.consistency.specs.Search.{IsSolution, AreBounds, IsBackbone};
+ghost use Rattle.consistency.specs.Search.{IsSolution, IsBackbone};
 ghost use Rattle.consistency.specs.Worlds.{AreWorldsOf};
 
 use crate::base::model_base;
-use crate::domain::Domain;
+use crate::bounds::bounds;
+use crate::guess::solution_in;
 use crate::other::is_forced;
 use crate::pairs::all_pairs;
 use crate::problem::Problem;
-use crate::search::{bounds, first_solution};
 use crate::worlds::Worlds;
 use cca_base::{List, Model, Pair, Seen, State, ValueSet, VarSet};
 use std::alloc::{AllocError, Global};
@@ -23,13 +24,13 @@ fn backbone(
     alloc: Global,
     problem: &Problem,
     base: &[ValueSet],
-    domains: &[Domain],
+    sets: &[ValueSet],
     components: usize,
     values: &[u8],
     vars: VarSet,
 ) -> Result<List<Pair>, AllocError>
     requires proper { IsProblem problem.now.clauses base.now }
-    requires bounds { AreBounds problem.now.clauses base.now domains.now }
+    requires bounds { AreBounds problem.now.clauses base.now sets.now }
     requires solution { IsSolution problem.now.clauses base.now values.now }
     requires front { components ≤ length base.now }
     ensures { IfOk result (IsBackbone problem.now.clauses base.now components vars) }
@@ -39,7 +40,7 @@ fn backbone(
         if vars.has(item) {
             let subject = components + item as usize;
             let value = values[subject];
-            if is_forced(alloc, problem, base, domains, subject, value)? {
+            if is_forced(alloc, problem, base, sets, subject, value)? {
                 pairs.push(Pair { item, value })?;
             }
         }
@@ -60,15 +61,15 @@ fn first_backbone(
     requires some { ((xs : List ℕ) → IsSolution problem.now.clauses base.now xs → ⊥) → ⊥ }
     ensures { IfOk result (IsBackbone problem.now.clauses base.now components vars) }
 {
-    let Some(values) = first_solution(alloc, problem, base)? else {
+    let sets = bounds(alloc, problem, base)?;
+    let Some(values) = solution_in(alloc, problem, base, sets.as_slice())? else {
         return Ok(List::new(alloc));
     };
-    let domains = bounds(alloc, problem, base)?;
     backbone(
         alloc,
         problem,
         base,
-        domains.as_slice(),
+        sets.as_slice(),
         components,
         values.as_slice(),
         vars,

@@ -11,6 +11,7 @@ ghost use Rattle.consistency.specs.Cores.{IsCore, IsShowable};
 ghost use Rattle.consistency.specs.Worlds.{AreWorldsOf};
 
 use crate::base::model_base;
+use crate::guess::guessed;
 use crate::pairs::{all_pairs, joined};
 use crate::search::{SearchResult, solve};
 use crate::subjects::{SubjectSet, has_subject};
@@ -35,6 +36,9 @@ fn core_of(
 {
     let modes = modes.as_slice();
     let base = model_base(alloc, model, &worlds.rules, modes, seen.pairs.as_slice())?;
+    if let Some(_solution) = guessed(alloc, &worlds.rules, base.as_slice())? {
+        return Ok(None);
+    }
     match solve(alloc, &worlds.rules, base.as_slice())? {
         SearchResult::Found(_solution) => Ok(None),
         SearchResult::Clash(subjects) => Ok(Some(subjects)),

@@ -4,11 +4,13 @@
 
 mod backbone;
 mod base;
+mod bounds;
 mod calls;
 mod conflicts;
 mod denied;
 mod domain;
 mod found;
+mod guess;
 mod laws;
 mod observed;
 mod other;

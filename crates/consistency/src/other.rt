@@ -4,11 +4,11 @@ ghost use Rattle.std.specs.Prelude.{◌≡◌, ◌≢◌, ◌==◌, ◌&&◌, �
 ghost use Rattle.cca_base.specs.declared.limits.TheConstants.{MAX_CHOICES};
 ghost use Rattle.cca_base.specs.Sets.{has};
 ghost use Rattle.consistency.specs.Problem.{IsProblem};
-ghost use Rattle.consistency.specs.Search.{IsSolution, AreBounds};
+ghost use Rattle.consistency.specs.Bounds.{AreBounds};
+ghost use Rattle.consistency.specs.Search.{IsSolution};
 
-use crate::domain::Domain;
+use crate::guess::any_solution;
 use crate::problem::Problem;
-use crate::search::first_solution;
 use cca_base::{MAX_CHOICES, ValueSet};
 use std::alloc::{AllocError, Global};
 
@@ -56,7 +56,7 @@ fn has_other(
     ensures no { IfOk result (λ b. b ≡ false → (xs : List ℕ) → IsSolution problem.now.clauses base.now xs → slice_index xs subject ≡ value) }
 {
     let narrower = excluded(alloc, base, subject, value)?;
-    match first_solution(alloc, problem, narrower.as_slice())? {
+    match any_solution(alloc, problem, narrower.as_slice())? {
         Some(_) => Ok(true),
         None => Ok(false),
     }
@@ -67,18 +67,18 @@ pub fn is_forced(
     alloc: Global,
     problem: &Problem,
     base: &[ValueSet],
-    domains: &[Domain],
+    sets: &[ValueSet],
     subject: usize,
     value: u8,
 ) -> Result<bool, AllocError>
     requires proper { IsProblem problem.now.clauses base.now }
-    requires bounds { AreBounds problem.now.clauses base.now domains.now }
+    requires bounds { AreBounds problem.now.clauses base.now sets.now }
     requires subject { subject < length base.now }
     requires small { value < MAX_CHOICES }
     ensures yes { IfOk result (λ b. b ≡ true → (xs : List ℕ) → IsSolution problem.now.clauses base.now xs → slice_index xs subject ≡ value) }
     ensures no { IfOk result (λ b. b ≡ false → (xs : List ℕ) × IsSolution problem.now.clauses base.now xs × (slice_index xs subject ≢ value)) }
 {
-    if domains[subject].values == ValueSet::empty().with(value) {
+    if sets[subject] == ValueSet::empty().with(value) {
         return Ok(true);
     }
     let other = has_other(alloc, problem, base, subject, value)?;

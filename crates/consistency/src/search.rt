@@ -3,7 +3,7 @@
 
 ghost use Rattle.std.specs.Prelude.{◌≡◌, ◌++◌, ◌∷◌, [], ◌<◌, ◌≤◌, true, length, ℕ, List, IfOk, IfSome, IsNone, slice_index, nat_lt};
 ghost use Rattle.cca_base.specs.declared.limits.TheConstants.{MAX_CHOICES};
-ghost use Rattle.consistency.specs.Search.{IsSolution, IsFirst, KnowsAll, IsSearchResult, AreBounds, values_at};
+ghost use Rattle.consistency.specs.Search.{IsSolution, IsFirst, KnowsAll, IsSearchResult, values_at};
 ghost use Rattle.cca_base.specs.Sets.{has};
 ghost use Rattle.consistency.specs.Problem.{IsProblem};
 
@@ -105,20 +105,6 @@ fn whole_domains(alloc: Global, subjects: usize) -> Result<Vec<Domain>, AllocErr
             reason: no_subject(),
         })?;
     }
-    Ok(domains)
-}
-
-/// What propagation alone leaves of each subject's values.
-pub fn bounds(
-    alloc: Global,
-    problem: &Problem,
-    base: &[ValueSet],
-) -> Result<Vec<Domain>, AllocError>
-    requires { IsProblem problem.now.clauses base.now }
-    ensures { IfOk result (λ r. AreBounds problem.now.clauses base.now r.items) }
-{
-    let mut domains = whole_domains(alloc, base.len())?;
-    let _ = assume_all(alloc, problem, base, &mut domains)?;
     Ok(domains)
 }
 

@@ -1,0 +1,133 @@
+//! What propagation alone leaves of each subject's values. It keeps no reasons, assumes everything at once, and so takes
+//! much less than a search.
+
+ghost use Rattle.std.specs.Prelude.{◌≡◌, ◌≤◌, length, IfOk, OnOk, IfSome};
+ghost use Rattle.clause_form.specs.Clauses.{AreBelow, AllBelow};
+ghost use Rattle.consistency.specs.Problem.{IsProblem};
+ghost use Rattle.consistency.specs.Bounds.{OthersOut, Leaves, LeavesAll, AreBounds};
+
+use crate::problem::Problem;
+use cca_base::ValueSet;
+use clause_form::{Clause, Literal};
+use std::alloc::{AllocError, Global};
+
+/// The place of the one literal that can be true, or the length where none can. None comes where several can.
+fn only_open(literals: &[Literal], sets: &[ValueSet]) -> Option<usize>
+    requires { AreBelow (length sets.now) literals.now }
+    ensures place { IfSome result (λ k. k ≤ length literals.now) }
+    ensures others { IfSome result (λ k. OthersOut literals.now sets.now k) }
+{
+    let mut found = literals.len();
+    for (i, literal) in literals.iter().enumerate() {
+        let common = sets[literal.subject as usize].common(literal.values);
+        if !common.is_empty() {
+            if found < literals.len() {
+                return None;
+            }
+            found = i;
+        }
+    }
+    Some(found)
+}
+
+/// Narrows the set of the one subject that can still make the clause true, and says which, where it has lost values.
+fn narrow(literals: &[Literal], sets: &mut [ValueSet]) -> Option<u16>
+    requires { AreBelow (length sets.old) literals.now }
+    ensures { Leaves literals.now sets.old sets.new }
+{
+    let place = only_open(literals, sets)?;
+    if place == literals.len() {
+        return None;
+    }
+    let literal = literals[place];
+    let subject = literal.subject as usize;
+    let before = sets[subject];
+    let values = before.common(literal.values);
+    if values == before {
+        return None;
+    }
+    sets[subject] = values;
+    Some(literal.subject)
+}
+
+/// Looks at every clause, and notes which subjects have fewer values left.
+fn narrow_all(
+    clauses: &[Clause],
+    sets: &mut [ValueSet],
+    changed: &mut Vec<u16>,
+) -> Result<(), AllocError>
+    requires { AllBelow (length sets.old) clauses.now }
+    ensures { OnOk result (LeavesAll clauses.now sets.old sets.new) }
+{
+    for clause in clauses {
+        if let Some(subject) = narrow(clause.literals.as_slice(), sets) {
+            changed.push(subject)?;
+        }
+    }
+    Ok(())
+}
+
+/// The same of the clauses at some places.
+fn narrow_places(
+    clauses: &[Clause],
+    places: &[usize],
+    sets: &mut [ValueSet],
+    changed: &mut Vec<u16>,
+) -> Result<(), AllocError>
+    requires { AllBelow (length sets.old) clauses.now }
+    ensures { OnOk result (LeavesAll clauses.now sets.old sets.new) }
+{
+    for place in places {
+        if *place < clauses.len() {
+            if let Some(subject) = narrow(clauses[*place].literals.as_slice(), sets) {
+                changed.push(subject)?;
+            }
+        }
+    }
+    Ok(())
+}
+
+/// Looks at the clauses of what has changed, until nothing changes.
+pub fn settle(
+    problem: &Problem,
+    sets: &mut [ValueSet],
+    changed: &mut Vec<u16>,
+) -> Result<(), AllocError>
+    requires { AllBelow (length sets.old) problem.now.clauses }
+    ensures { OnOk result (LeavesAll problem.now.clauses sets.old sets.new) }
+{
+    let clauses = problem.clauses.as_slice();
+    for _ in 0..u32::MAX {
+        let Some(subject) = changed.pop() else {
+            return Ok(());
+        };
+        if let Some(places) = problem.places.get(subject as usize) {
+            narrow_places(clauses, places.as_slice(), sets, changed)?;
+        }
+    }
+    Ok(())
+}
+
+/// Looks at every clause, and again at those of what has changed, until nothing changes.
+fn narrow_whole(alloc: Global, problem: &Problem, sets: &mut [ValueSet]) -> Result<(), AllocError>
+    requires { AllBelow (length sets.old) problem.now.clauses }
+    ensures { OnOk result (LeavesAll problem.now.clauses sets.old sets.new) }
+{
+    let mut changed = Vec::with_capacity(alloc, sets.len())?;
+    narrow_all(problem.clauses.as_slice(), sets, &mut changed)?;
+    settle(problem, sets, &mut changed)
+}
+
+/// What propagation leaves of each subject's values.
+pub fn bounds(
+    alloc: Global,
+    problem: &Problem,
+    base: &[ValueSet],
+) -> Result<Vec<ValueSet>, AllocError>
+    requires { IsProblem problem.now.clauses base.now }
+    ensures { IfOk result (λ r. AreBounds problem.now.clauses base.now r.items) }
+{
+    let mut sets = Vec::from_slice(alloc, base)?;
+    narrow_whole(alloc, problem, &mut sets)?;
+    Ok(sets)
+}

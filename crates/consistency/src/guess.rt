@@ -1,0 +1,138 @@
+//! A solution that is guessed and tested: each subject takes the least value that propagation leaves it. Only where this fails
+//! is a search made.
+
+ghost use Rattle.std.specs.Prelude.{◌≡◌, ◌<◌, length, IfOk, IfSome, IsNone, ℕ, List};
+ghost use Rattle.cca_base.specs.declared.limits.TheConstants.{MAX_CHOICES};
+ghost use Rattle.clause_form.specs.Clauses.{AllBelow};
+ghost use Rattle.consistency.specs.Problem.{IsProblem};
+ghost use Rattle.consistency.specs.Search.{IsSolution};
+
+use crate::bounds::{bounds, settle};
+use crate::problem::Problem;
+use crate::search::first_solution;
+use crate::solution::is_solution;
+use cca_base::{List, MAX_CHOICES, ValueSet};
+use std::alloc::{AllocError, Global};
+
+/// The least value of the set.
+fn least(set: ValueSet) -> Option<u8>
+    ensures { IfSome result (λ value. value < MAX_CHOICES) }
+{
+    for value in 0..MAX_CHOICES as u8 {
+        if set.has(value) {
+            return Some(value);
+        }
+    }
+    None
+}
+
+/// Gives the subject its least value, and narrows the sets.
+fn pick(
+    problem: &Problem,
+    sets: &mut [ValueSet],
+    changed: &mut Vec<u16>,
+    subject: u16,
+) -> Result<Option<u8>, AllocError>
+    requires below { AllBelow (length sets.old) problem.now.clauses }
+    requires subject { subject < length sets.old }
+    ensures { length sets.new ≡ length sets.old }
+{
+    let Some(value) = least(sets[subject as usize]) else {
+        return Ok(None);
+    };
+    let alone = ValueSet::empty().with(value);
+    if sets[subject as usize] != alone {
+        sets[subject as usize] = alone;
+        changed.push(subject)?;
+        settle(problem, sets, changed)?;
+    }
+    Ok(Some(value))
+}
+
+/// A value for each subject, the least that is left after the choices before. None comes where nothing is left.
+fn picked(
+    alloc: Global,
+    problem: &Problem,
+    sets: &mut [ValueSet],
+) -> Result<Option<List<u8>>, AllocError>
+    requires below { AllBelow (length sets.old) problem.now.clauses }
+    requires small { length sets.old < 65536 }
+    ensures { IfOk result (λ o. IfSome o (λ values. length values ≡ length sets.old)) }
+{
+    let mut changed = Vec::new(alloc);
+    let mut values = Vec::with_capacity(alloc, sets.len())?;
+    for subject in 0..sets.len() as u16 {
+        match pick(problem, sets, &mut changed, subject)? {
+            Some(value) => values.push(value)?,
+            None => return Ok(None),
+        }
+    }
+    Ok(Some(List::of(values)))
+}
+
+/// Some solution that takes least values of these sets, where it is one.
+fn guess(
+    alloc: Global,
+    problem: &Problem,
+    base: &[ValueSet],
+    sets: &[ValueSet],
+) -> Result<Option<List<u8>>, AllocError>
+    requires proper { IsProblem problem.now.clauses base.now }
+    requires full { length sets.now ≡ length base.now }
+    ensures { IfOk result (λ o. IfSome o (IsSolution problem.now.clauses base.now)) }
+{
+    let mut left = Vec::from_slice(alloc, sets)?;
+    let Some(values) = picked(alloc, problem, &mut left)? else {
+        return Ok(None);
+    };
+    if is_solution(problem, base, values.as_slice()) {
+        return Ok(Some(values));
+    }
+    Ok(None)
+}
+
+/// Some solution, sought first in the sets. None comes exactly where there is none.
+pub fn solution_in(
+    alloc: Global,
+    problem: &Problem,
+    base: &[ValueSet],
+    sets: &[ValueSet],
+) -> Result<Option<List<u8>>, AllocError>
+    requires proper { IsProblem problem.now.clauses base.now }
+    requires full { length sets.now ≡ length base.now }
+    ensures some { IfOk result (λ o. IfSome o (IsSolution problem.now.clauses base.now)) }
+    ensures none { IfOk result (λ o. IsNone o → (xs : List ℕ) → IsSolution problem.now.clauses base.now xs → ⊥) }
+{
+    let guessed = guess(alloc, problem, base, sets)?;
+    if guessed.is_some() {
+        return Ok(guessed);
+    }
+    first_solution(alloc, problem, base)
+}
+
+/// Some solution, where a guess is one.
+pub fn guessed(
+    alloc: Global,
+    problem: &Problem,
+    base: &[ValueSet],
+) -> Result<Option<List<u8>>, AllocError>
+    requires { IsProblem problem.now.clauses base.now }
+    ensures { IfOk result (λ o. IfSome o (IsSolution problem.now.clauses base.now)) }
+{
+    let sets = bounds(alloc, problem, base)?;
+    guess(alloc, problem, base, sets.as_slice())
+}
+
+/// Some solution. None comes exactly where there is none.
+pub fn any_solution(
+    alloc: Global,
+    problem: &Problem,
+    base: &[ValueSet],
+) -> Result<Option<List<u8>>, AllocError>
+    requires proper { IsProblem problem.now.clauses base.now }
+    ensures some { IfOk result (λ o. IfSome o (IsSolution problem.now.clauses base.now)) }
+    ensures none { IfOk result (λ o. IsNone o → (xs : List ℕ) → IsSolution problem.now.clauses base.now xs → ⊥) }
+{
+    let sets = bounds(alloc, problem, base)?;
+    solution_in(alloc, problem, base, sets.as_slice())
+}
