@@ -22,7 +22,7 @@ use Rattle.cca_base.proofs.Members.{all_from, contains_here, contains_there, con
 use Rattle.cca_base.specs.declared.choice.Choice.{Choice}
 use Rattle.cca_base.specs.declared.limits.TheConstants.{MAX_COST}
 use Rattle.cca_base.specs.Choices.{IsRow, choice_cmp}
-use Rattle.successors.specs.Choices.{AreLeast, IsLeast, IsChange, AreChanges, IsAdded, failing, lesser_of, same_mode}
+use Rattle.successors.specs.Choices.{AreLeast, AreAllLeast, IsLeast, IsChange, AreChanges, IsAdded, failing, lesser_of, same_mode}
 use Rattle.cca_laws.proofs.CostLaws.{one_change}
 
 cost_of : (f : Failure) (c from to k : ℕ) → f ≡ failing c from to k → f.cost ≡ k
@@ -68,6 +68,17 @@ least_set fs f c from costs least h e g within is mode inside = elim (cases_eq m
 pub least_keeps : (fs : List Failure) (f : Failure) (c from : ℕ) (costs : List (Option ℕ)) → AreLeast fs c from costs → ((f.component ≡ c) × (f.source ≡ from) → ⊥) → AreLeast (fs ++ f ∷ []) c from costs
 least_keeps fs f c from costs h apart mode inside =
     least_other fs f c from mode (get_or costs mode None) (h mode inside) (λ k same. apart (ap (λ (x : Failure). x.component) same, ap (λ (x : Failure). x.source) same))
+
+-- a failure that is noted at its component is noted at all
+pub all_least_set : (fs : List Failure) (f : Failure) (s : List ℕ) (table : List (List (Option ℕ))) (costs : List (Option ℕ)) → f.component < length table
+    → (AreLeast fs f.component (get_or s f.component 0) (get_or table f.component []) → AreLeast (fs ++ f ∷ []) f.component (get_or s f.component 0) costs)
+    → AreAllLeast fs s table → AreAllLeast (fs ++ f ∷ []) s (set table f.component costs)
+all_least_set fs f s table costs within noted h c inside = elim (cases_eq c f.component) [
+  | inl same ↦ subst (λ z. AreLeast (fs ++ f ∷ []) z (get_or s z 0) (get_or (set table f.component costs) z [])) (sym same)
+      (subst (AreLeast (fs ++ f ∷ []) f.component (get_or s f.component 0)) (sym (get_or-set_same table f.component costs [] within)) (noted (h f.component within)))
+  | inr other ↦ subst (AreLeast (fs ++ f ∷ []) c (get_or s c 0)) (sym (get_or-set_other table f.component c costs [] other))
+      (least_keeps fs f c (get_or s c 0) (get_or table c []) (h c (omega (arith, length-set table f.component costs))) (λ both. other (sym both.0)))
+]
 
 -- ---- rows
 

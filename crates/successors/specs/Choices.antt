@@ -21,6 +21,10 @@ IsLeast failures c from to (Some k) = Contains failures (failing c from to k) ×
 abbrev pub AreLeast : List Failure → ℕ → ℕ → List (Option ℕ) → Type 0
 AreLeast fs c from costs = (mode : ℕ) → mode < length costs → IsLeast fs c from mode (slice_index_or costs mode None)
 
+-- the same of each component, from its mode
+abbrev pub AreAllLeast : List Failure → List ℕ → List (List (Option ℕ)) → Type 0
+AreAllLeast fs s table = (c : ℕ) → c < length table → AreLeast fs c (slice_index s c) (slice_index_or table c [])
+
 -- the lesser of a cost and one that may be known
 abbrev pub lesser_of : Option ℕ → ℕ → ℕ
 lesser_of None cost = cost

@@ -4,7 +4,7 @@ ghost use Rattle.std.specs.Prelude.{◌≡◌, IfOk};
 ghost use Rattle.cca_base.specs.State.{IsState};
 ghost use Rattle.successors.specs.Choices.{AreChoices, mode_after};
 
-use crate::row::row_of;
+use crate::row::{least_costs, row_of};
 use crate::sent::nominal;
 use cca_base::{Choices, Compiled, List, Pair, State};
 use std::alloc::{AllocError, Global};
@@ -37,10 +37,12 @@ pub fn choices(
 {
     let moved = nominal(compiled, state, command);
     let model = compiled.model();
+    let costs = least_costs(alloc, model, state.modes.as_slice())?;
     let mut rows = List::new(alloc);
     for c in 0..model.components().len() as u16 {
         let mode = *state.modes.get(c as usize);
-        let row = row_of(alloc, model, c, mode, nominal_mode(moved, c, mode))?;
+        let nominal = nominal_mode(moved, c, mode);
+        let row = row_of(alloc, model, c, mode, nominal, &costs[c as usize])?;
         rows.push(row)?;
     }
     Ok(Choices { rows })

@@ -1,13 +1,14 @@
 //! The choices of one component: its nominal mode, and each mode to which a failure leads, at the failure's least cost.
 
-ghost use Rattle.std.specs.Prelude.{◌≡◌, ◌≢◌, Some, ◌<◌, ◌↔◌, ℕ, Contains, None, IfOk, OnOk, List, ◌++◌, ◌∷◌, [], length, slice_index, slice_index_or};
+ghost use Rattle.std.specs.Prelude.{◌≡◌, ◌≢◌, All, map, Some, ◌<◌, ◌↔◌, ℕ, Contains, None, IfOk, OnOk, List, ◌++◌, ◌∷◌, [], length, slice_index, slice_index_or};
 ghost use Rattle.cca_base.specs.Model.{HasMode, mode_counts};
+ghost use Rattle.cca_base.specs.State.{IsState};
 ghost use Rattle.cca_base.specs.Successors.{ChangeCosts};
 ghost use Rattle.cca_base.specs.declared.model.Failure.{Failure};
 ghost use Rattle.cca_base.specs.Choices.{IsRow};
-ghost use Rattle.successors.specs.Choices.{AreLeast, IsLeast, AreChanges, IsAdded, lesser_of};
+ghost use Rattle.successors.specs.Choices.{AreLeast, AreAllLeast, IsLeast, AreChanges, IsAdded, lesser_of};
 
-use cca_base::{Choice, Failure, List, Model};
+use cca_base::{Choice, Component, Failure, List, Model};
 use std::alloc::{AllocError, Global};
 
 /// The lesser of a cost and one that may be known.
@@ -20,40 +21,60 @@ fn lesser(known: Option<u32>, cost: u32) -> u32
     }
 }
 
-/// Takes in a failure.
-fn note_cost(costs: &mut Vec<Option<u32>>, failure: &Failure, component: u16, from: u8)
-    requires { failure.now.component ≡ component → failure.now.target < length costs.old.items }
-    ensures full { length costs.new.items ≡ length costs.old.items }
-    ensures least { (fs : List Failure) → AreLeast fs component from costs.old.items → AreLeast (fs ++ failure.now ∷ []) component from costs.new.items }
+/// Takes in a failure of the component, where it leaves this mode.
+fn note_cost(costs: &mut List<Option<u32>>, failure: &Failure, from: u8)
+    requires { failure.now.target < length costs.old }
+    ensures full { length costs.new ≡ length costs.old }
+    ensures least { (fs : List Failure) → AreLeast fs failure.now.component from costs.old → AreLeast (fs ++ failure.now ∷ []) failure.now.component from costs.new }
 {
-    if failure.component != component {
-        return;
-    }
     if failure.source != from {
         return;
     }
     let target = failure.target as usize;
-    let least = lesser(costs[target], failure.cost);
-    costs[target] = Some(least);
+    let least = lesser(*costs.get(target), failure.cost);
+    costs.set(target, Some(least));
 }
 
-/// The least cost of the component's failures from a mode, for each of its modes.
-fn least_costs(
+/// Takes in a failure at its component's costs.
+fn note_failure(table: &mut Vec<List<Option<u32>>>, failure: &Failure, modes: &[u8])
+    requires full { length table.old.items ≡ length modes.now }
+    requires component { failure.now.component < length modes.now }
+    requires target { failure.now.target < length (slice_index_or table.old.items failure.now.component []) }
+    ensures sizes { map length table.new.items ≡ map length table.old.items }
+    ensures least { (fs : List Failure) → AreAllLeast fs modes.now table.old.items → AreAllLeast (fs ++ failure.now ∷ []) modes.now table.new.items }
+{
+    let component = failure.component as usize;
+    note_cost(&mut table[component], failure, modes[component]);
+}
+
+/// No cost for each mode of each component.
+fn no_costs(alloc: Global, components: &[Component]) -> Result<Vec<List<Option<u32>>>, AllocError>
+    ensures sizes { IfOk result (λ v. map length v.items ≡ map (λ x. length x.modes) components.now) }
+    ensures none { IfOk result (λ v. All (All (λ o. o ≡ None)) v.items) }
+{
+    let mut table = Vec::with_capacity(alloc, components.len())?;
+    for component in components {
+        let costs = vec![in alloc; None; component.modes.len()]?;
+        table.push(List::of(costs))?;
+    }
+    Ok(table)
+}
+
+/// The least cost of the failures from each component's mode, for each of its modes. All failures are gone through once.
+pub fn least_costs(
     alloc: Global,
     model: &Model,
-    component: u16,
-    from: u8,
-) -> Result<Vec<Option<u32>>, AllocError>
-    requires { component < length model.now.components }
-    ensures full { IfOk result (λ v. length v.items ≡ slice_index (mode_counts model.now) component) }
-    ensures each { IfOk result (λ v. AreLeast model.now.failures component from v.items) }
+    modes: &[u8],
+) -> Result<Vec<List<Option<u32>>>, AllocError>
+    requires { IsState model.now modes.now }
+    ensures sizes { IfOk result (λ v. map length v.items ≡ mode_counts model.now) }
+    ensures least { IfOk result (λ v. AreAllLeast model.now.failures modes.now v.items) }
 {
-    let modes = model.components().get(component as usize).modes.len();
-    let mut costs = vec![in alloc; None; modes]?;
+    let mut table = no_costs(alloc, model.components().as_slice())?;
     for failure in model.failures().as_slice() {
-        note_cost(&mut costs, failure, component, from);
+        note_failure(&mut table, failure, modes);
     }
-    Ok(costs)
+    Ok(table)
 }
 
 /// What the change to a mode costs, if there is one, where failures to it cost this at least.
@@ -81,22 +102,25 @@ fn add_choice(row: &mut Vec<Choice>, mode: u8, cost: Option<u64>) -> Result<(), 
     Ok(())
 }
 
-/// The modes to which the component can change, by cost and then by mode.
+/// The modes to which the component can change, by cost and then by mode, where failures to them cost this at least.
 pub fn row_of(
     alloc: Global,
     model: &Model,
     component: u16,
     from: u8,
     nominal: u8,
+    costs: &List<Option<u32>>,
 ) -> Result<List<Choice>, AllocError>
-    requires { component < length model.now.components }
+    requires component { component < length model.now.components }
+    requires full { length costs.now ≡ slice_index (mode_counts model.now) component }
+    requires least { AreLeast model.now.failures component from costs.now }
     ensures row { IfOk result IsRow }
     ensures each { IfOk result (AreChanges model.now component from nominal (slice_index (mode_counts model.now) component)) }
 {
-    let least = least_costs(alloc, model, component, from)?;
-    let mut row = Vec::new(alloc);
-    for to in 0..model.components().get(component as usize).modes.len() as u8 {
-        add_choice(&mut row, to, change(to, nominal, least[to as usize]))?;
+    let modes = model.components().get(component as usize).modes.len();
+    let mut row = Vec::with_capacity(alloc, modes)?;
+    for to in 0..modes as u8 {
+        add_choice(&mut row, to, change(to, nominal, *costs.get(to as usize)))?;
     }
     row.sort_unstable();
     Ok(List::of(row))

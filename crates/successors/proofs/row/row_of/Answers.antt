@@ -8,19 +8,19 @@ use Rattle.successors.proofs.Changes.{row_none, row_more, change_is, row_sorted,
 use Rattle.successors.proofs.row.row_of.Goals as goal
 
 pub loop-to-init : goal.loop-to-init
-loop-to-init c = row_none c.args.model.now c.args.component c.args.from c.args.nominal c.new-row.result.items c.new-row.ensures.items
+loop-to-init c = row_none c.args.model.now c.args.component c.args.from c.args.nominal c.in_ok-row.row.items c.in_ok-row.ensures.items
 
 pub loop-to-preserved : goal.loop-to-preserved
 loop-to-preserved c =
     let m = c.args.model.now in
     let comps = c.components.ensures.value in
     let get : c.get.result.now ≡ get_or m.components c.args.component c.get.result.now = subst (λ (l : List Component). c.get.result.now ≡ get_or l c.args.component c.get.result.now) comps c.get.ensures.item in
-    let modes = mode_count m c.args.component c.get.result.now c.requires get in
-    let within : c.loop-to.to < length c.in_ok-least.least.items = omega (arith, c.loop-to-test.true, c.len-to-end.ensures, modes, c.in_ok-least.ensures.full) in
-    let failure : c.index.result.now ≡ get_or c.in_ok-least.least.items c.loop-to.to None = c.index.ensures ∙ get_or_default c.in_ok-least.least.items c.loop-to.to c.index.result.now None within in
-    let least = subst (IsLeast m.failures c.args.component c.args.from c.loop-to.to) (sym failure) (c.in_ok-least.ensures.each c.loop-to.to within) in
+    let modes = mode_count m c.args.component c.get.result.now c.requires.component get in
+    let within : c.loop-to.to < length c.args.costs.now = omega (arith, c.loop-to-test.true, c.len-modes.ensures, modes, c.requires.full) in
+    let failure : c.get-in-loop-to.result.now ≡ get_or c.args.costs.now c.loop-to.to None = c.get-in-loop-to.ensures.item ∙ get_or_default c.args.costs.now c.loop-to.to c.get-in-loop-to.result.now None within in
+    let least = subst (IsLeast m.failures c.args.component c.args.from c.loop-to.to) (sym failure) (c.requires.least c.loop-to.to within) in
     row_more m c.args.component c.args.from c.args.nominal c.loop-to.to c.loop-to.row.items c.add_choice.new.row.items c.change.result
-    (change_is m c.args.component c.args.from c.args.nominal c.loop-to.to c.index.result.now c.change.result least c.change.ensures.same c.change.ensures.other) c.in_ok-add_choice.ensures c.loop-to.invariant
+    (change_is m c.args.component c.args.from c.args.nominal c.loop-to.to c.get-in-loop-to.result.now c.change.result least c.change.ensures.same c.change.ensures.other) c.in_ok-add_choice.ensures c.loop-to.invariant
 
 pub returns-clause-row : goal.returns-clause-row
 returns-clause-row c =
@@ -32,8 +32,8 @@ pub returns-clause-each : goal.returns-clause-each
 returns-clause-each c =
     let m = c.args.model.now in
     let get : c.get.result.now ≡ get_or m.components c.args.component c.get.result.now = subst (λ (l : List Component). c.get.result.now ≡ get_or l c.args.component c.get.result.now) c.components.ensures.value c.get.ensures.item in
-    let modes = mode_count m c.args.component c.get.result.now c.requires get in
-    let all : c.loop-to.to ≡ get_or (mode_counts m) c.args.component 0 = omega (arith, c.loop-to.auto.to-end, c.loop-to-test.false, c.len-to-end.ensures) in
+    let modes = mode_count m c.args.component c.get.result.now c.requires.component get in
+    let all : c.loop-to.to ≡ get_or (mode_counts m) c.args.component 0 = omega (arith, c.loop-to.auto.to-end, c.loop-to-test.false, c.len-modes.ensures) in
     subst (AreChanges m c.args.component c.args.from c.args.nominal (get_or (mode_counts m) c.args.component 0)) (sym c.of.ensures)
     (subst (λ n. AreChanges m c.args.component c.args.from c.args.nominal n c.sort_unstable.new.self.items) all
     (sorted_each m c.args.component c.args.from c.args.nominal c.loop-to.to c.loop-to.row.items c.sort_unstable.new.self.items c.loop-to.invariant.each c.sort_unstable.ensures.permutation))
