@@ -1,5 +1,5 @@
 -- What is pending, and what the worlds of the plant's state agree on of the mirrored variables, are what a tick observes.
-use Rattle.std.proofs.Common.{◌≡◌, ◌≢◌, ℕ, true, false, List, All, Contains, inl, inr, sym, subst, arith}
+use Rattle.std.proofs.Common.{Option, Some, IfSome, ◌≡◌, ◌≢◌, ℕ, true, false, List, All, Contains, inl, inr, sym, subst, arith}
 use Rattle.std.proofs.lemmas.Bool.{both_ways}
 use Rattle.std.proofs.lemmas.List.Elements.{All-contains}
 use Rattle.cca_base.specs.declared.cube.Pair.{Pair}
@@ -9,7 +9,8 @@ use Rattle.cca_base.specs.Sets.{has}
 use Rattle.cca_base.specs.State.{HasValue}
 use Rattle.cca_base.proofs.Members.{all_from}
 use Rattle.consistency.specs.Forced.{AreForced}
-use Rattle.consistency.specs.Observed.{IsObserved}
+use Rattle.consistency.specs.Observed.{IsObserved, IsShown, ShowsNow}
+use Rattle.consistency.specs.declared.mirror.Shown.{Shown}
 
 pub rising_once : (pairs : List Pair) → IsRising pairs → IsCube pairs
 rising_once pairs rising = λ i j d before within same. (let lt = rising i j d before within in omega (arith, lt, same))
@@ -39,3 +40,11 @@ observed_values m pending forced both old new union = all_from (λ p. HasValue m
   | inl before ↦ All-contains (λ q. HasValue m q.item q.value) pending p old before
   | inr one ↦ All-contains (λ q. HasValue m q.item q.value) forced p new one
 ])
+
+-- what is kept of these modes and these variables is what their worlds agree on
+pub shown_now : (m : PlantModel) (plant : List ℕ) (mirrored : ℕ) (last : Option Shown) (x : Shown) → last ≡ Some x → IfSome last (IsShown m) → ShowsNow plant mirrored last
+    → AreForced m plant mirrored x.seen.pairs × All (λ p. HasValue m p.item p.value) x.seen.pairs
+shown_now m plant mirrored last x is right now =
+    let own : IsShown m x = subst (λ (o : Option Shown). IfSome o (IsShown m)) is right in
+    let same : ShowsNow plant mirrored (Some x) = subst (λ (o : Option Shown). ShowsNow plant mirrored o) is now in
+    (subst (λ s. AreForced m s mirrored x.seen.pairs) same.0 (subst (λ v. AreForced m x.plant.modes v x.seen.pairs) same.1 own.forced), own.values)

@@ -19,7 +19,7 @@ fn whole_sets(alloc: Global, sizes: &[u8]) -> Result<Vec<ValueSet>, AllocError>
     ensures full { IfOk result (λ r. length r.items ≡ length sizes.now) }
     ensures values { IfOk result (λ r. (d v : ℕ) → d < length sizes.now → has (slice_index r.items d) v ≡ nat_lt v (slice_index sizes.now d)) }
 {
-    let mut sets = Vec::new(alloc);
+    let mut sets = Vec::with_capacity(alloc, sizes.len())?;
     for size in sizes {
         sets.push(ValueSet::full(*size))?;
     }

@@ -70,25 +70,37 @@ fn picked(
     Ok(Some(List::of(values)))
 }
 
-/// Some solution that takes least values of these sets, where it is one.
+/// The solution that takes least values of these sets, where it is one. The sets are narrowed by it.
 fn guess(
     alloc: Global,
     problem: &Problem,
     base: &[ValueSet],
-    sets: &[ValueSet],
+    sets: &mut [ValueSet],
 ) -> Result<Option<List<u8>>, AllocError>
     requires proper { IsProblem problem.now.clauses base.now }
-    requires full { length sets.now ≡ length base.now }
+    requires full { length sets.old ≡ length base.now }
     ensures { IfOk result (λ o. IfSome o (IsSolution problem.now.clauses base.now)) }
 {
-    let mut left = Vec::from_slice(alloc, sets)?;
-    let Some(values) = picked(alloc, problem, &mut left)? else {
+    let Some(values) = picked(alloc, problem, sets)? else {
         return Ok(None);
     };
     if is_solution(problem, base, values.as_slice()) {
         return Ok(Some(values));
     }
     Ok(None)
+}
+
+/// Some solution, where a guess is one.
+pub fn guessed(
+    alloc: Global,
+    problem: &Problem,
+    base: &[ValueSet],
+) -> Result<Option<List<u8>>, AllocError>
+    requires { IsProblem problem.now.clauses base.now }
+    ensures { IfOk result (λ o. IfSome o (IsSolution problem.now.clauses base.now)) }
+{
+    let mut sets = bounds(alloc, problem, base)?;
+    guess(alloc, problem, base, &mut sets)
 }
 
 /// Some solution, sought first in the sets. None comes exactly where there is none.
@@ -103,24 +115,12 @@ pub fn solution_in(
     ensures some { IfOk result (λ o. IfSome o (IsSolution problem.now.clauses base.now)) }
     ensures none { IfOk result (λ o. IsNone o → (xs : List ℕ) → IsSolution problem.now.clauses base.now xs → ⊥) }
 {
-    let guessed = guess(alloc, problem, base, sets)?;
+    let mut left = Vec::from_slice(alloc, sets)?;
+    let guessed = guess(alloc, problem, base, &mut left)?;
     if guessed.is_some() {
         return Ok(guessed);
     }
     first_solution(alloc, problem, base)
-}
-
-/// Some solution, where a guess is one.
-pub fn guessed(
-    alloc: Global,
-    problem: &Problem,
-    base: &[ValueSet],
-) -> Result<Option<List<u8>>, AllocError>
-    requires { IsProblem problem.now.clauses base.now }
-    ensures { IfOk result (λ o. IfSome o (IsSolution problem.now.clauses base.now)) }
-{
-    let sets = bounds(alloc, problem, base)?;
-    guess(alloc, problem, base, sets.as_slice())
 }
 
 /// Some solution. None comes exactly where there is none.
@@ -129,10 +129,13 @@ pub fn any_solution(
     problem: &Problem,
     base: &[ValueSet],
 ) -> Result<Option<List<u8>>, AllocError>
-    requires proper { IsProblem problem.now.clauses base.now }
+    requires { IsProblem problem.now.clauses base.now }
     ensures some { IfOk result (λ o. IfSome o (IsSolution problem.now.clauses base.now)) }
     ensures none { IfOk result (λ o. IsNone o → (xs : List ℕ) → IsSolution problem.now.clauses base.now xs → ⊥) }
 {
-    let sets = bounds(alloc, problem, base)?;
-    solution_in(alloc, problem, base, sets.as_slice())
+    let guessed = guessed(alloc, problem, base)?;
+    if guessed.is_some() {
+        return Ok(guessed);
+    }
+    first_solution(alloc, problem, base)
 }

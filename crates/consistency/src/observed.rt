@@ -7,6 +7,7 @@ ghost use Rattle.cca_base.specs.State.{HasValue, HasWorld, IsState};
 ghost use Rattle.consistency.specs.Observed.{IsObserved};
 ghost use Rattle.consistency.specs.Worlds.{AreWorldsOf};
 
+use crate::mirror::Mirror;
 use crate::worlds::Worlds;
 use cca_base::{List, Model, Pair, Seen, State, VarSet};
 use std::alloc::{AllocError, Global};
@@ -46,7 +47,7 @@ impl Worlds {
         ensures seen { IfOk result (λ seen. IsObserved model.now plant.now.modes mirrored pending.now.pairs seen.pairs) }
         ensures values { IfOk result (λ seen. All (λ p. HasValue model.now p.item p.value) seen.pairs) }
     {
-        let shown = self.forced(alloc, model, plant, mirrored)?;
-        union(alloc, pending, &shown.pairs)
+        let mut mirror = Mirror::new();
+        self.observed_by(alloc, model, plant, mirrored, pending, &mut mirror)
     }
 }
