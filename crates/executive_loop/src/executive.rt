@@ -14,7 +14,7 @@ use crate::events::change;
 use crate::standing::{Standing, nothing, start};
 use crate::tick::make_tick;
 use cca_base::{Compiled, Event, Goal, Seen, State, TickReport, VarSet};
-use consistency::Worlds;
+use consistency::{Mirror, Worlds};
 use policy_tables::Tables;
 use std::alloc::{AllocError, Global};
 use std::marker::Model;
@@ -27,6 +27,8 @@ pub struct Executive {
     compiled: Rc<Compiled>,
     /// The clauses of the model's rules, made once for all ticks.
     worlds: Worlds,
+    /// What the mirrored variables showed last, asked for again only after the plant has moved or others are mirrored.
+    mirror: Mirror,
     standing: Standing,
     tables: Option<Tables>,
     last_seen: Seen,
@@ -34,6 +36,7 @@ pub struct Executive {
 
 impl Model for Executive {
     ghost use Rattle.std.specs.Option.{option_map};
+    ghost use Rattle.consistency.specs.Observed.{IsMirror};
     ghost use Rattle.consistency.specs.Worlds.{AreWorldsOf};
     ghost use Rattle.executive_loop.specs.Parts.{ExecutiveParts, IsExecutive};
     ghost use Rattle.executive_loop.specs.Standing.{state_of};
@@ -52,7 +55,7 @@ impl Model for Executive {
       tables = e.tables;
     } };
 
-    ghost invariant = { λ e. AreWorldsOf e.compiled.value.model e.worlds × IsExecutive (record {
+    ghost invariant = { λ e. (AreWorldsOf e.compiled.value.model e.worlds × IsMirror e.compiled.value.model e.mirror) × IsExecutive (record {
       compiled = e.compiled.value;
       state = state_of e.standing;
       last_seen = e.last_seen.pairs;
@@ -66,12 +69,14 @@ impl Executive {
         ensures { IfOk result (λ e. e ≡ record { compiled = compiled; state = start compiled.model 0; last_seen = []; tables = None }) }
     {
         let worlds = Worlds::of(alloc, compiled.model())?;
+        let mirror = Mirror::new();
         let standing = start(alloc, &compiled, 0)?;
         let compiled = Rc::new(alloc, compiled)?;
         Ok(Executive {
             alloc,
             compiled,
             worlds,
+            mirror,
             standing,
             tables: None,
             last_seen: nothing(alloc),
@@ -95,6 +100,7 @@ impl Executive {
                 self.alloc,
                 &self.compiled,
                 &self.worlds,
+                &mut self.mirror,
                 &mut self.standing,
                 &mut self.tables,
                 &mut self.last_seen,

@@ -3,13 +3,14 @@
 ghost use Rattle.std.specs.Prelude.{All, IfOk};
 ghost use Rattle.cca_base.specs.State.{HasValue};
 ghost use Rattle.cca_base.specs.Trace.{Observed};
+ghost use Rattle.consistency.specs.Observed.{IsMirror};
 ghost use Rattle.consistency.specs.Worlds.{AreWorldsOf};
 ghost use Rattle.trace_laws.specs.Fits.{Fits};
 ghost use Rattle.executive_loop.specs.Standing.{state_of};
 
 use crate::standing::Standing;
 use cca_base::{Compiled, Seen};
-use consistency::Worlds;
+use consistency::{Mirror, Worlds};
 use std::alloc::{AllocError, Global};
 
 /// The pending observations, and the mirrored variables with one value. The error is out of memory.
@@ -18,18 +19,22 @@ pub(crate) fn observe(
     alloc: Global,
     compiled: &Compiled,
     worlds: &Worlds,
+    mirror: &mut Mirror,
     standing: &Standing,
 ) -> Result<Seen, AllocError>
     requires worlds { AreWorldsOf compiled.now.model worlds.now }
+    requires mirror { IsMirror compiled.now.model mirror.old }
     requires fits { Fits compiled.now (state_of standing.now) }
     ensures seen { IfOk result (λ seen. Observed compiled.now.model (state_of standing.now) seen.pairs) }
     ensures values { IfOk result (λ seen. All (λ p. HasValue compiled.now.model p.item p.value) seen.pairs) }
+    ensures mirror { IsMirror compiled.now.model mirror.new }
 {
-    worlds.observed(
+    worlds.observed_by(
         alloc,
         compiled.model(),
         standing.plant.state(),
         standing.mirrored,
         &standing.pending,
+        mirror,
     )
 }

@@ -6,6 +6,7 @@ ghost use Rattle.cca_base.specs.Plans.{Promising};
 ghost use Rattle.cca_base.specs.State.{IsState};
 ghost use Rattle.cca_base.specs.Successors.{Nominal};
 ghost use Rattle.cca_base.specs.Trace.{TickShows};
+ghost use Rattle.consistency.specs.Observed.{IsMirror};
 ghost use Rattle.consistency.specs.Worlds.{AreWorldsOf};
 ghost use Rattle.trace_laws.specs.Fits.{Fits};
 ghost use Rattle.trace_laws.specs.Tables.{TablesShown};
@@ -18,7 +19,7 @@ use crate::answer::{command_of, reply_in};
 use crate::observed::observe;
 use crate::standing::{Standing, nothing};
 use cca_base::{Compiled, Seen, Shown, State, TickReport};
-use consistency::Worlds;
+use consistency::{Mirror, Worlds};
 use mode_estimator::{Estimate, estimate_by};
 use policy_tables::Tables;
 use std::alloc::{AllocError, Global};
@@ -91,11 +92,13 @@ pub(crate) fn make_tick(
     alloc: Global,
     compiled: &Rc<Compiled>,
     worlds: &Worlds,
+    mirror: &mut Mirror,
     standing: &mut Standing,
     tables: &mut Option<Tables>,
     last_seen: &mut Seen,
 ) -> Result<TickReport, AllocError>
     requires worlds { AreWorldsOf compiled.now.value.model worlds.now }
+    requires mirror { IsMirror compiled.now.value.model mirror.old }
     requires fits { Fits compiled.now.value (state_of standing.old) }
     requires tables { IfSome tables.old (AreTablesOf compiled.now.value) }
     requires room { standing.old.ticks + 1 < 2 ^ 64 }
@@ -104,6 +107,7 @@ pub(crate) fn make_tick(
     ensures takes { IfOk result (λ report. TablesShown base_of covers (option_map (λ g. g.pairs) standing.old.goal) tables.old report.shown tables.new) }
     ensures covers { IfOk result (λ report. AreCoveringShown tables.new standing.new.estimate.modes report.shown) }
     ensures tables { OnOk result (IfSome tables.new (AreTablesOf compiled.now.value)) }
+    ensures mirror { IsMirror compiled.now.value.model mirror.new }
     ensures seen { IfOk result (λ report. SeenAt compiled.now.value.model (state_of standing.old) report.shown last_seen.new.pairs) }
     ensures err { OnErr result (standing.new ≡ standing.old) }
     ensures err_tables { OnErr result (tables.new ≡ tables.old) }
@@ -117,7 +121,7 @@ pub(crate) fn make_tick(
             shown: Shown::Holding,
         });
     }
-    let seen = observe(alloc, compiled, worlds, standing)?;
+    let seen = observe(alloc, compiled, worlds, mirror, standing)?;
     let shown = match estimate_by(
         alloc,
         compiled,

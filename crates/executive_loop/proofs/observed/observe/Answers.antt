@@ -6,5 +6,5 @@ use Rattle.executive_loop.proofs.observed.observe.Goals as goal
 pub returns-clause-seen : goal.returns-clause-seen
 returns-clause-seen c =
     let x = c.args.standing.now in
-    let own = subst (λ (m : PlantModel). IfOk c.observed.result (λ seen. IsObserved m c.state.result.now.modes x.mirrored x.pending.pairs seen.pairs)) c.model.ensures.value c.observed.ensures.seen in
-    subst (λ (s : List ℕ). IfOk c.observed.result (λ seen. IsObserved c.args.compiled.now.model s x.mirrored x.pending.pairs seen.pairs)) c.state.ensures own
+    let own = subst (λ (m : PlantModel). IfOk c.observed_by.result (λ seen. IsObserved m c.state.result.now.modes x.mirrored x.pending.pairs seen.pairs)) c.model.ensures.value c.observed_by.ensures.seen in
+    subst (λ (s : List ℕ). IfOk c.observed_by.result (λ seen. IsObserved c.args.compiled.now.model s x.mirrored x.pending.pairs seen.pairs)) c.state.ensures own

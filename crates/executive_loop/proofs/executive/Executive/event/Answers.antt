@@ -11,7 +11,7 @@ pub invariant_of-self-in-Tick : goal.invariant_of-self-in-Tick
 invariant_of-self-in-Tick c =
     let b : CompiledModel = c.self.inside.compiled.value in
     let before = c.self.invariant.1 in (
-      c.self.invariant.0,
+      (c.self.invariant.0.0, c.in_ok-report.ensures.mirror),
       record {
         compiled = before.compiled;
         fits = fits_after b (state_of c.self.inside.standing) (state_of c.make_tick.new.standing) event.Tick (Some c.in_ok-report.report) before.compiled before.fits tt
