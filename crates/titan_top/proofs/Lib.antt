@@ -8,6 +8,7 @@ pub mod CheckStatuses
 pub mod CheckTexts
 pub mod DocumentsAreTexts
 pub mod EverySource
+pub mod FittingLines
 pub mod FormAnswers
 pub mod FormStatuses
 pub mod JustMadeTicks

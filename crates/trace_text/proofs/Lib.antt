@@ -16,5 +16,7 @@ mod ReadReports
 mod ReadWords
 mod RowsOfModels
 mod SameMembers
+pub mod ShortLines
+mod ShortWords
 mod WordsApart
 mod WordsByPlace
