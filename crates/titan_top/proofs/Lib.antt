@@ -1,4 +1,5 @@
 pub mod AtScript
+pub mod BehindDocuments
 pub mod CountedTicks
 pub mod CheckAtScript
 pub mod CheckEvents
@@ -16,8 +17,11 @@ pub mod MachineLaws
 pub mod MadeTexts
 pub mod NeverEnds
 pub mod OutcomesAreOne
+pub mod OwnTraces
 pub mod PrintedDocuments
 pub mod PrintedTexts
+pub mod ProvenLines
+pub mod ProvenTicks
 pub mod RunLines
 pub mod DocumentsAreOne
 pub mod ScriptLines
@@ -26,6 +30,7 @@ pub mod RunTexts
 pub mod SeedWords
 pub mod SureRuns
 pub mod ShowTexts
+pub mod ShownPlans
 pub mod TraceIsChecked
 pub mod TraceOfRun
 pub mod TrialRuns

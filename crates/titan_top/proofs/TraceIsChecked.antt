@@ -13,7 +13,7 @@ use Rattle.cca_base.specs.declared.state.World as worlds
 use Rattle.cca_base.specs.Accepted.{CompiledModel, IsCompiled}
 use Rattle.cca_base.specs.Model.{WellFormed}
 use Rattle.cca_base.specs.PlantModel.{PlantModel}
-use Rattle.cca_base.specs.Trace.{ExecutiveState, Changes, start}
+use Rattle.cca_base.specs.Trace.{ExecutiveState, GoalOrder, Changes, start}
 use Rattle.plan_checker.specs.Checked.{AsGiven, Takes}
 use Rattle.plan_checker.specs.Reasons.{Printed, OnEstimate, AnswersGoal, IsVerdict}
 use Rattle.plan_checker.specs.Worlds.{SomeAreSeen}
@@ -100,19 +100,19 @@ module _ (m : PlantModel) where
 -- ---- the ticks
 
 -- events that are no ticks count none
-counted : (m : PlantModel) (x : ExecutiveState) (e : Event) (y : ExecutiveState) → Changes m AsGiven x e y → y.ticks ≡ x.ticks
-counted m x (event.Goal pairs) y (p, h, e) = ap (λ (s : ExecutiveState). s.ticks) e
-counted m x event.Clear y e = ap (λ (s : ExecutiveState). s.ticks) e
-counted m x (event.Observe pairs) y (p, h, e) = ap (λ (s : ExecutiveState). s.ticks) e
-counted m x (event.Fault p) y e = ap (λ (s : ExecutiveState). s.ticks) e
-counted m x (event.Mirror v) y e = ap (λ (s : ExecutiveState). s.ticks) e
-counted m x event.Reset y e = ap (λ (s : ExecutiveState). s.ticks) e
-counted m x event.Tick y e = absurd e
+pub counted : (m : PlantModel) (ordering : GoalOrder) (x : ExecutiveState) (e : Event) (y : ExecutiveState) → Changes m ordering x e y → y.ticks ≡ x.ticks
+counted m ordering x (event.Goal pairs) y (p, h, e) = ap (λ (s : ExecutiveState). s.ticks) e
+counted m ordering x event.Clear y e = ap (λ (s : ExecutiveState). s.ticks) e
+counted m ordering x (event.Observe pairs) y (p, h, e) = ap (λ (s : ExecutiveState). s.ticks) e
+counted m ordering x (event.Fault p) y e = ap (λ (s : ExecutiveState). s.ticks) e
+counted m ordering x (event.Mirror v) y e = ap (λ (s : ExecutiveState). s.ticks) e
+counted m ordering x event.Reset y e = ap (λ (s : ExecutiveState). s.ticks) e
+counted m ordering x event.Tick y e = absurd e
 
 comes_counted : (m : PlantModel) (events : List Event) (x : ExecutiveState) (next : TraceSoFar) → ComesTo m x events next → next.state.ticks ≡ x.ticks
 comes_counted m [] x next is = ap (λ (t : TraceSoFar). t.state.ticks) is
 comes_counted m (e ∷ events) x next (inl h) = ap (λ (t : TraceSoFar). t.state.ticks) h.1
-comes_counted m (e ∷ events) x next (inr (y, c, h)) = comes_counted m events y next h ∙ counted m x e y c
+comes_counted m (e ∷ events) x next (inr (y, c, h)) = comes_counted m events y next h ∙ counted m AsGiven x e y c
 
 takes_counted : (m : PlantModel) (x : ExecutiveState) (shown : Shown) (y : ExecutiveState) → Takes m x shown y → y.ticks ≡ x.ticks + 1
 takes_counted m x (Estimated cost state reply) y h = ap (λ (s : ExecutiveState). s.ticks) h.after
@@ -135,12 +135,14 @@ module _ (m : PlantModel) (good : WellFormed m) where
 
   checked_tick : (x : ExecutiveState) (t : Printed) → IsVerdict m x t Yes → OnEstimate t.report.shown (λ cost s reply. SeesPairs m x) → IsCheckedTick m x t
   checked_tick x t v sees = record {
-    number = ((v 1).line refl).number;
+    lines = (v 1).line refl;
     successor = shows_successor m good x t v (seen_of x t.report.shown ((v 8).answer refl) sees);
     reply = shows_reply m good x t v;
     safety = shows_safety m good x t v;
     world = (v 3).world refl;
     answer = (v 8).answer refl;
+    back = (v 7).back refl;
+    written = (v 9).written refl;
   }
 
   -- the ticks behind these events, from the next one on

@@ -39,7 +39,7 @@ use Rattle.titan_top.proofs.ScriptRuns.{script_model}
 
 -- the events of a script may come
 module _ (b : CompiledModel) where
-  abbrev Says : ExecutiveState → ℕ → List (List ℕ) → Document → Type 0
+  abbrev pub Says : ExecutiveState → ℕ → List (List ℕ) → Document → Type 0
   Says x n ls r = SaysScript b.model x.pending x.mirrored n ls r
 
   line_comes : (o : Option ℕ) (x : ExecutiveState) (n : ℕ) (l : List ℕ) (ls : List (List ℕ)) (v : Result (Option Event) ℕ) (r : Document) (last : ExecutiveState) (reports : List TickReport) → v ≡ event_line b.model x.pending x.mirrored l
@@ -56,7 +56,7 @@ module _ (b : CompiledModel) where
       let may = event_comes b.model x.pending x.mirrored l (Some e) (sym g) in
       subst (λ (d : Document). AllMayCome b.model (IsSorted b.order) x d.events) (sym is) (event_first b (Promising b) x e y report rest.events may acts (on y rest others says more))
 
-  script_comes : (ls : List (List ℕ)) (x : ExecutiveState) (n : ℕ) (r : Document) (last : ExecutiveState) (reports : List TickReport) → Says x n ls r → Makes b (Promising b) x r.events last reports → AllMayCome b.model (IsSorted b.order) x r.events
+  pub script_comes : (ls : List (List ℕ)) (x : ExecutiveState) (n : ℕ) (r : Document) (last : ExecutiveState) (reports : List TickReport) → Says x n ls r → Makes b (Promising b) x r.events last reports → AllMayCome b.model (IsSorted b.order) x r.events
   script_comes [] x n r last reports is made = subst (λ (d : Document). AllMayCome b.model (IsSorted b.order) x d.events) (sym is) tt
   script_comes (l ∷ ls) x n r last reports says made =
       line_comes (line_code (n + 1) l) x (n + 1) l ls (event_line b.model x.pending x.mirrored l) r last reports refl says made (λ y d others h k. script_comes ls y (n + 1) d last others h k)

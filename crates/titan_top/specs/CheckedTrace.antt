@@ -1,11 +1,11 @@
 -- What a checked trace is, by the model's rules and guards alone: the theorem of the checker.
-use Rattle.std.specs.Prelude.{◌≡◌, ◌⊎◌, ℕ, ◌+◌, List, [], ◌∷◌, ◌++◌, length, flat_map, Option, Some, None}
+use Rattle.std.specs.Prelude.{◌≡◌, ◌⊎◌, ℕ, List, [], ◌∷◌, ◌++◌, length, flat_map}
 use Rattle.cca_base.specs.declared.events.Event.{Event}
 use Rattle.cca_base.specs.Accepted.{CompiledModel, IsCompiled}
 use Rattle.cca_base.specs.PlantModel.{PlantModel}
 use Rattle.cca_base.specs.Trace.{ExecutiveState, Changes, start}
 use Rattle.plan_checker.specs.Checked.{AsGiven, Takes, ShowsSuccessor, ShowsReply, ShowsSafety}
-use Rattle.plan_checker.specs.Reasons.{Printed, HasItsWorld, AnswersGoal}
+use Rattle.plan_checker.specs.Reasons.{Printed, HasItsLines, HasItsWorld, LeadsBack, AnswersGoal, WritesRoute}
 use Rattle.trace_laws.specs.Events.{IsTick}
 use Rattle.titan_top.specs.CheckScript.{Traced, ReadsScript, no_events}
 use Rattle.titan_top.specs.Document.{EndsModel, Scripted}
@@ -14,14 +14,16 @@ use Rattle.titan_top.specs.TickProofs.{tick_text}
 use Rattle.titan_top.specs.Verdicts.{checked_line}
 use Rattle.titan_top.specs.declared.status.Status.TheVariants.{Ended}
 
--- the printed tick is next, and it shows a consistent estimate of its cost with a world of it, a reply that fits the goal and what came before, and a command that is safe
+-- the printed tick is next and has the lines that belong to it, and it shows a consistent estimate of its cost with a world of it, a reply that fits the goal and what came before, and a command that is safe, whose way back is written out and leads to a mending of the estimate
 pub record IsCheckedTick (m : PlantModel) (x : ExecutiveState) (t : Printed) : Type 0 where
-  pub number : t.report.tick ≡ x.ticks + 1
+  pub lines : HasItsLines x t
   pub successor : ShowsSuccessor m x t
   pub reply : ShowsReply x t
   pub safety : ShowsSafety m x t
   pub world : HasItsWorld m x t
   pub answer : AnswersGoal x t.report.shown
+  pub back : LeadsBack m t
+  pub written : WritesRoute t
 
 -- the printed ticks are those of the events, one after the other from x on: each is checked and then taken, and the other events are made
 abbrev pub AreChecked : PlantModel → ExecutiveState → List Event → List Printed → Type 0

@@ -6,6 +6,7 @@ use Rattle.cca_base.specs.Model.{WellFormed, IsComplete}
 use Rattle.model_syntax.specs.Printing.{printed_model}
 use Rattle.model_syntax.specs.RoundTrip.{ReadsTo}
 use Rattle.line_machine.specs.Lines.{lines_in, all_lines}
+use Rattle.titan_top.specs.CheckEnds.{IsAllYes}
 use Rattle.titan_top.specs.CheckMachine.{CheckState, check_machine, check_first}
 use Rattle.titan_top.specs.Document.{Document, IsDocument, nothing_read}
 use Rattle.titan_top.specs.Headline.{IsTraceOf}
@@ -16,6 +17,7 @@ use Rattle.model_syntax.specs.Lines.{ModelSoFar}
 use Rattle.titan_top.specs.Notations.{closing}
 use Rattle.titan_top.specs.declared.counts.Counts.{Counts}
 use Rattle.titan_top.specs.Output.{Outcome, outcome_of, IsOutcomeFor, IsOutcome}
+use Rattle.titan_top.specs.OwnTraces.{HasOwnTrace}
 use Rattle.titan_top.specs.RunMachine.{RunState, run_machine, run_first}
 use Rattle.titan_top.specs.ShowMachine.{show_machine}
 use Rattle.titan_top.specs.Statuses.{end_status}
@@ -58,6 +60,10 @@ IsRunSoFar notation bytes text =
 pub record RunsAreTraced : Type 0 where
   pub whole : (notation : Notation) (input : List ℕ) (o : Outcome) → IsOutcomeFor (Run notation) input o → IsTraceOf notation input o
   pub so_far : (notation : Notation) (bytes text : List ℕ) (t : Next RunState) → IsLineByLine notation → IsSure run_machine (run_first notation) bytes t text → IsRunSoFar notation bytes text
+
+-- what a run with proofs prints of a document is checked: each tick of it gets a yes, and no line is left
+abbrev pub OwnTracesAreChecked : Type 0
+OwnTracesAreChecked = (input : List ℕ) → HasOwnTrace input → IsAllYes input
 
 -- an input says one thing
 abbrev pub DocumentsAreOne : Type 0

@@ -17,6 +17,7 @@ pub mod Notations
 pub mod OneStep
 pub mod OneText
 pub mod Output
+pub mod OwnTraces
 pub mod Results
 pub mod RunMachine
 pub mod RunStages

@@ -37,7 +37,7 @@ module _ (b : CompiledModel) (x : ExecutiveState) where
   one_estimate Holding v w h k = h ∙ sym k
 
   route_to_once : (s : List ℕ) (goal : Option (List Pair)) (r q : Route) → IsRouteTo b s goal r → IsRouteTo b s goal q → r ≡ q
-  route_to_once s goal r q (pairs, is, h) (others, is', k) = one_route b s others r q (subst (λ g. IsRoute b s g r) (same_Some pairs others (sym is ∙ is')) h) k
+  route_to_once s goal r q (pairs, is, h, home) (others, is', k, home') = one_route b s others r q (subst (λ g. IsRoute b s g r) (same_Some pairs others (sym is ∙ is')) h) k
 
   reply_once : (s : List ℕ) (goal : Option (List Pair)) (reply : Reply) (r q : Option Route) → ProvesReply b s goal reply r → ProvesReply b s goal reply q → r ≡ q
   reply_once s goal (Send k) (Some r) (Some q) h j = ap (λ z. Some z) (route_to_once s goal r q h j)

@@ -1,6 +1,6 @@
 //! An input has one outcome, which its machine prints and which its first bytes begin; and what is shown is read as that model.
 
-ghost use Rattle.titan_top.specs.Laws.{DocumentsAreOne, OutcomesAreOne, RunsAreTraced, TextsAreOutcomes, SureTextBegins, OutcomesFit, PrintedTextsReadBack};
+ghost use Rattle.titan_top.specs.Laws.{DocumentsAreOne, OutcomesAreOne, RunsAreTraced, TextsAreOutcomes, SureTextBegins, OutcomesFit, OwnTracesAreChecked, PrintedTextsReadBack};
 
 /// For words and an input there is one outcome at most: one text, and one status without faults.
 #[tactic(auto, using(crate::proofs::OutcomesAreOne::outcomes_are_one))]
@@ -42,4 +42,10 @@ pub fn outcomes_fit()
 #[tactic(auto, using(crate::proofs::PrintedTexts::printed_texts_read_back))]
 pub fn printed_texts_read_back()
     ensures { PrintedTextsReadBack }
+{}
+
+/// What a run with proofs prints of a document is checked.
+#[tactic(auto, using(crate::proofs::OwnTraces::own_traces_are_checked))]
+pub fn own_traces_are_checked()
+    ensures { OwnTracesAreChecked }
 {}

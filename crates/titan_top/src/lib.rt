@@ -23,8 +23,8 @@ mod verdicts;
 mod words;
 
 pub use laws::{
-    documents_are_one, outcomes_are_one, outcomes_fit, printed_texts_read_back, runs_are_traced,
-    sure_text_begins, texts_are_outcomes,
+    documents_are_one, outcomes_are_one, outcomes_fit, own_traces_are_checked,
+    printed_texts_read_back, runs_are_traced, sure_text_begins, texts_are_outcomes,
 };
 pub use status::Status;
 pub use top::titan;

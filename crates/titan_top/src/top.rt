@@ -6,6 +6,7 @@ ghost use Rattle.titan_wire.specs.Wire.{Rose, HasRoom};
 ghost use Rattle.titan_top.specs.CheckedTrace.{IsCheckedTrace};
 ghost use Rattle.titan_top.specs.Headline.{IsTraceOf};
 ghost use Rattle.titan_top.specs.Output.{Outcome, IsOutcomeFor, IsOutcome, NothingRefused, SomeRefused, SomeRejected, usage, usage_text, AreNoForm};
+ghost use Rattle.titan_top.specs.OwnTraces.{HasOwnTrace};
 ghost use Rattle.titan_top.specs.Statuses.{status_of, end_status};
 ghost use Rattle.titan_top.specs.Streams.{HasRoomForWords, StreamedFor, InTurnFor, StreamsAs, input_for};
 ghost use Rattle.titan_top.specs.Wire.{Writes, WritesAs};
@@ -133,6 +134,10 @@ pub fn titan<S: Source, K: Sink>(
         IfSome (input_for (form_of (texts words.now.items)) (S.left source.old)) (λ input. SomeRefused (form_of (texts words.now.items)) input → (result ≡ Status.Refused) ⊎ (result ≡ Status.Memory)) }
     ensures rejected_where { ¬ (Rose (S.faults source.old) (S.faults source.new)) → ¬ (Rose (K.faults sink.old) (K.faults sink.new)) →
         IfSome (input_for (form_of (texts words.now.items)) (S.left source.old)) (λ input. SomeRejected (form_of (texts words.now.items)) input → (result ≡ Status.Rejected) ⊎ (result ≡ Status.Memory)) }
+
+    // What a run with proofs prints is accepted: behind its own text, of which nothing is refused, a check of it ends with a Yes to each tick.
+    ensures own_traces { ¬ (Rose (S.faults source.old) (S.faults source.new)) → ¬ (Rose (K.faults sink.old) (K.faults sink.new)) → form_of (texts words.now.items) ≡ Some Form.Check →
+        IfSome (S.left source.old) (λ input. HasOwnTrace input → (result ≡ Status.Ended) ⊎ (result ≡ Status.Memory)) }
 
     // Each fault has its cause.
     ensures read { result ≡ Status.ReadFault → Rose (S.faults source.old) (S.faults source.new) }

@@ -13,6 +13,7 @@ use Rattle.titan_top.proofs.TraceIsChecked.{check_is_checked}
 use Rattle.titan_top.proofs.TraceOfRun.{run_is_traced, trial_is_traced}
 use Rattle.titan_top.proofs.WordsOfForms.{form_text, form_nothing, form_something, form_no, the_form, usage_answers, usage_completes}
 use Rattle.titan_top.proofs.FormStatuses.{no_read, form_ended, form_refused, form_rejected, ended_where, refused_where, rejected_where, completes}
+use Rattle.titan_top.proofs.OwnTraces.{own_where}
 use Rattle.titan_top.proofs.EverySource.{only_check, run_at_end, show_silent, show_to_script}
 use Rattle.titan_top.proofs.top.titan.Goals as goal
 
@@ -50,6 +51,11 @@ returns-in-Some-clause-ended_where g c read write =
     let is = rw c.deref.ensures.value at c.in-Some.ensures in
     rw c.status_of.ensures (subst (λ f. IfSome (input_for (form_of (texts c.args.words.now.items)) (g.S.Source.left c.args.source.now)) (λ input. NothingRefused f input → (status_of c.drive_form.result ≡ Ended) ⊎ (status_of c.drive_form.result ≡ Memory))) is
     (ended_where c.in-Some.form _ c.drive_form.result _ _ (read_text _ c.args.words.now.items c.in-Some.form (rw c.deref.ensures.value at c.in-Some.ensures) (g.S.Source.left c.args.source.now) c.drive_form.ensures.text) (c.drive_form.ensures.complete read write)))
+
+pub returns-in-Some-clause-own_traces : goal.returns-in-Some-clause-own_traces
+returns-in-Some-clause-own_traces g c read write check =
+    rw c.status_of.ensures (own_where c.in-Some.form (the_form c.args.words.now.items c.in-Some.form (rw c.deref.ensures.value at c.in-Some.ensures) Check check) (g.S.Source.left c.args.source.now) c.drive_form.result _ _
+    c.drive_form.ensures.text (c.drive_form.ensures.complete read write))
 
 pub returns-in-Some-clause-refused_where : goal.returns-in-Some-clause-refused_where
 returns-in-Some-clause-refused_where g c read write =
