@@ -42,7 +42,7 @@ fn is_report(report: &Option<TickReport>, comes: Comes<'_>) -> bool {
 }
 
 /// The event of a line, as the executive stands.
-fn event_of(alloc: Global, executive: &Executive, line: &str) -> Option<Event>
+pub fn event_of(alloc: Global, executive: &Executive, line: &str) -> Option<Event>
     ensures { IfSome result (MayCome executive.now.compiled.model executive.now.state.pending executive.now.state.mirrored) }
 {
     let model = executive.compiled().model();
@@ -87,7 +87,7 @@ fn comes_of(
 }
 
 /// An executive of the model of this text, at the start.
-fn opened(alloc: Global, text: &str) -> Option<Executive>
+pub fn opened(alloc: Global, text: &str) -> Option<Executive>
     ensures { IfSome result (λ executive. executive.state.ticks ≡ 0) }
 {
     let Some(compiled) = compiled_of(alloc, text) else {
