@@ -1,9 +1,11 @@
--- The model without any part is well formed.
-use Rattle.std.proofs.Common.{arith}
-use Rattle.cca_base.specs.Model.{WellFormed, empty_model}
+-- The model without any part is well formed, and one of the first version is well formed in the second.
+use Rattle.std.proofs.Common.{ℕ, inr, refl, arith}
+use Rattle.cca_base.specs.PlantModel.{PlantModel}
+use Rattle.cca_base.specs.Model.{WellFormed, IsVersion, RepairsFit, empty_model, in_second}
 
-pub empty_well_formed : WellFormed empty_model
-empty_well_formed = record {
+pub empty_well_formed : (version : ℕ) → IsVersion version → WellFormed (empty_model version)
+empty_well_formed version known = record {
+  version = known;
   limits = record { components = omega arith; variables = omega arith; rules = omega arith; moves = omega arith; failures = omega arith };
   names = record { each = λ k d h. absurd (omega arith); different = λ i j d h k. absurd (omega arith) };
   command_names = record { each = λ k d h. absurd (omega arith); different = λ i j d h k. absurd (omega arith) };
@@ -14,9 +16,47 @@ empty_well_formed = record {
   failures = λ k d h. absurd (omega arith);
   repairs = record {
     one_target = λ c mode a b p q. absurd (omega (arith, p.of_model.1));
-    none_into = λ k d h. absurd (omega arith);
+    no_cycle = λ c mode n p. absurd (omega (arith, p.1.of_model.1));
+    at_once = λ first c mode next p. absurd (omega (arith, p.of_model.1));
+    only_repairs_enter = λ k d h. absurd (omega arith);
     only_repairs_leave = λ k d h. absurd (omega arith);
   };
   commands = λ i j d h k. absurd (omega arith);
   first_use = λ i command move e h. absurd cc;
+}
+
+-- the rules of the first version are those of the second, and one more
+second_fits : (m : PlantModel) → RepairsFit m.version m.moves → RepairsFit 2 m.moves
+second_fits m h = record {
+  one_target = h.one_target;
+  no_cycle = h.no_cycle;
+  at_once = λ first. absurd cc;
+  only_repairs_enter = h.only_repairs_enter;
+  only_repairs_leave = h.only_repairs_leave;
+}
+
+pub second_well_formed : (m : PlantModel) → WellFormed m → WellFormed (in_second m)
+second_well_formed m h = record {
+  version = inr refl;
+  limits = record { components = h.limits.components; variables = h.limits.variables; rules = h.limits.rules; moves = h.limits.moves; failures = h.limits.failures };
+  names = h.names;
+  command_names = h.command_names;
+  components = h.components;
+  variables = h.variables;
+  rules = λ k d within. record { fits = (h.rules k d within).fits; shallow = (h.rules k d within).shallow };
+  moves = λ k d within. record {
+    source = (h.moves k d within).source;
+    target = (h.moves k d within).target;
+    command = (h.moves k d within).command;
+    guard = record { fits = (h.moves k d within).guard.fits; shallow = (h.moves k d within).guard.shallow };
+  };
+  failures = λ k d within. record {
+    source = (h.failures k d within).source;
+    target = (h.failures k d within).target;
+    costs = (h.failures k d within).costs;
+    cheap = (h.failures k d within).cheap;
+  };
+  repairs = second_fits m h.repairs;
+  commands = h.commands;
+  first_use = h.first_use;
 }

@@ -17,7 +17,7 @@ use Rattle.cca_base.specs.declared.model.Failure.{Failure}
 use Rattle.cca_base.specs.declared.limits.TheConstants.{MAX_COMPONENTS, MAX_VARIABLES, MAX_RULES, MAX_MOVES, MAX_FAILURES}
 use Rattle.cca_base.specs.PlantModel.{PlantModel}
 use Rattle.cca_base.specs.Names.{is_name, AreNames, AreDifferent}
-use Rattle.cca_base.specs.Model.{WellFormed, mode_counts, value_counts, AreChoices, IsComponent, IsFormula, IsMove, IsFailure, RepairsFit, IsNext, AreInOrderOfFirstUse, is_broken, is_repair_of, is_used, names_of, with_component, with_variable, with_rule, with_command, with_move, with_failure}
+use Rattle.cca_base.specs.Model.{WellFormed, mode_counts, value_counts, AreChoices, IsComponent, IsFormula, IsMove, IsFailure, RepairsFit, IsNext, AreInOrderOfFirstUse, RepairChain, is_broken, is_repair_of, is_used, names_of, with_component, with_variable, with_rule, with_command, with_move, with_failure}
 
 -- ---- names
 
@@ -55,6 +55,7 @@ pub component_kept : (m : PlantModel) (x : Component) → WellFormed m → lengt
 component_kept m x h few good named new =
     let e : Extends m (with_component m x) = record { modes = counts_push (λ c. length c.modes) m.components x; values = counts_same (value_counts m); commands = omega arith } in
     record {
+      version = h.version;
       limits = record { components = omega (arith, length_push m.components x); variables = h.limits.variables; rules = h.limits.rules; moves = h.limits.moves; failures = h.limits.failures };
       names =
           let old : List (List ℕ) = map (λ c. c.name) m.components in
@@ -75,6 +76,7 @@ pub variable_kept : (m : PlantModel) (x : Variable) → WellFormed m → length 
 variable_kept m x h few good named new =
     let e : Extends m (with_variable m x) = record { modes = counts_same (mode_counts m); values = counts_push (λ v. length v.values) m.variables x; commands = omega arith } in
     record {
+      version = h.version;
       limits = record { components = h.limits.components; variables = omega (arith, length_push m.variables x); rules = h.limits.rules; moves = h.limits.moves; failures = h.limits.failures };
       names =
           let front : List (List ℕ) = map (λ c. c.name) m.components in
@@ -96,6 +98,7 @@ pub rule_kept : (m : PlantModel) (x : Formula) → WellFormed m → length m.rul
 rule_kept m x h few good =
     let e : Extends m (with_rule m x) = record { modes = counts_same (mode_counts m); values = counts_same (value_counts m); commands = omega arith } in
     record {
+      version = h.version;
       limits = record { components = h.limits.components; variables = h.limits.variables; rules = omega (arith, length_push m.rules x); moves = h.limits.moves; failures = h.limits.failures };
       names = h.names;
       command_names = h.command_names;
@@ -113,6 +116,7 @@ pub command_kept : (m : PlantModel) (x : List ℕ) → WellFormed m → IsTrue (
 command_kept m x h named new =
     let e : Extends m (with_command m x) = record { modes = counts_same (mode_counts m); values = counts_same (value_counts m); commands = omega (arith, length_push m.commands x) } in
     record {
+      version = h.version;
       limits = record { components = h.limits.components; variables = h.limits.variables; rules = h.limits.rules; moves = h.limits.moves; failures = h.limits.failures };
       names = h.names;
       command_names = AreNames-push m.commands x named new h.command_names;
@@ -130,6 +134,7 @@ pub failure_kept : (m : PlantModel) (x : Failure) → WellFormed m → length m.
 failure_kept m x h few good =
     let e : Extends m (with_failure m x) = record { modes = counts_same (mode_counts m); values = counts_same (value_counts m); commands = omega arith } in
     record {
+      version = h.version;
       limits = record { components = h.limits.components; variables = h.limits.variables; rules = h.limits.rules; moves = h.limits.moves; failures = omega (arith, length_push m.failures x) };
       names = h.names;
       command_names = h.command_names;
@@ -177,12 +182,13 @@ first_use_push moves x h used i command move is before =
     ]
 
 -- no move with its command is of another component, or leaves the same mode; every command before its own is used
-pub move_kept : (m : PlantModel) (x : Move) → WellFormed m → length m.moves < MAX_MOVES → IsMove m x → RepairsFit (m.moves ++ x ∷ [])
+pub move_kept : (m : PlantModel) (x : Move) → WellFormed m → length m.moves < MAX_MOVES → IsMove m x → RepairsFit m.version (m.moves ++ x ∷ [])
     → All (λ y. y.command ≡ x.command → (y.component ≡ x.component) × (y.source ≢ x.source)) m.moves
     → ((command : ℕ) → command < x.command → IsTrue (is_used m.moves command)) → WellFormed (with_move m x)
 move_kept m x h few good repairs fit used =
     let e : Extends m (with_move m x) = record { modes = counts_same (mode_counts m); values = counts_same (value_counts m); commands = omega arith } in
     record {
+      version = h.version;
       limits = record { components = h.limits.components; variables = h.limits.variables; rules = h.limits.rules; moves = omega (arith, length_push m.moves x); failures = h.limits.failures };
       names = h.names;
       command_names = h.command_names;
@@ -218,15 +224,24 @@ mended_push moves x ordinary c mode a h =
     in
     record { repair = h.repair; of_model = old; mends = h.mends; target = h.target }
 
+-- and so lengthens no chain
+chain_push : (moves : List Move) (x : Move) → x.repair ≡ false → (c a b n : ℕ) → RepairChain (moves ++ x ∷ []) c a b n → RepairChain moves c a b n
+chain_push moves x ordinary c a b zero e = e
+chain_push moves x ordinary c a b (suc n) p = (p.0, mended_push moves x ordinary c a p.0 p.1, chain_push moves x ordinary c p.0 b n p.2)
+
 -- an ordinary move that keeps off broken modes
-pub ordinary_fits : (moves : List Move) (x : Move) → RepairsFit moves → x.repair ≡ false → is_broken moves x.component x.source ≡ false → is_broken moves x.component x.target ≡ false → RepairsFit (moves ++ x ∷ [])
-ordinary_fits moves x h ordinary off into =
+pub ordinary_fits : (version : ℕ) (moves : List Move) (x : Move) → RepairsFit version moves → x.repair ≡ false → is_broken moves x.component x.source ≡ false
+    → is_broken moves x.component x.target ≡ false → RepairsFit version (moves ++ x ∷ [])
+ordinary_fits version moves x h ordinary off into =
     let same : (c mode : ℕ) → is_broken (moves ++ x ∷ []) c mode ≡ is_broken moves c mode = broken_push moves x ordinary in
     record {
       one_target = λ c mode a b p q. h.one_target c mode a b (mended_push moves x ordinary c mode a p) (mended_push moves x ordinary c mode b q);
-      none_into = All-push (λ move. is_broken (moves ++ x ∷ []) move.component move.target ≡ false) moves x
-          (All-weaker (λ move. is_broken moves move.component move.target ≡ false) (λ move. is_broken (moves ++ x ∷ []) move.component move.target ≡ false) (λ y free. same y.component y.target ∙ free) moves h.none_into)
-          (same x.component x.target ∙ into);
+      no_cycle = λ c mode n p. h.no_cycle c mode n (chain_push moves x ordinary c mode mode (suc n) p);
+      at_once = λ first c mode next p. same c next ∙ h.at_once first c mode next (mended_push moves x ordinary c mode next p);
+      only_repairs_enter = All-push (λ move. IsTrue (is_broken (moves ++ x ∷ []) move.component move.target) → IsTrue move.repair) moves x
+          (All-weaker (λ move. IsTrue (is_broken moves move.component move.target) → IsTrue move.repair) (λ move. IsTrue (is_broken (moves ++ x ∷ []) move.component move.target) → IsTrue move.repair)
+          (λ y enters broken. enters (sym (same y.component y.target) ∙ broken)) moves h.only_repairs_enter)
+          (λ broken. absurd (false≢true (sym into ∙ sym (same x.component x.target) ∙ broken)));
       only_repairs_leave = All-push (λ move. IsTrue (is_broken (moves ++ x ∷ []) move.component move.source) → IsTrue move.repair) moves x
           (All-weaker (λ move. IsTrue (is_broken moves move.component move.source) → IsTrue move.repair) (λ move. IsTrue (is_broken (moves ++ x ∷ []) move.component move.source) → IsTrue move.repair)
           (λ y leaves broken. leaves (sym (same y.component y.source) ∙ broken)) moves h.only_repairs_leave)

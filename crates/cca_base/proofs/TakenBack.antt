@@ -25,6 +25,7 @@ kept m some free moves k d within =
 
 pub taken_back : (m : PlantModel) → 0 < length m.commands → is_used m.moves (length m.commands - 1) ≡ false → WellFormed m → WellFormed (without_last_command m)
 taken_back m some free h = record {
+  version = h.version;
   limits = record { components = h.limits.components; variables = h.limits.variables; rules = h.limits.rules; moves = h.limits.moves; failures = h.limits.failures };
   names = h.names;
   command_names = record {

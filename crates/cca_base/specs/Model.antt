@@ -1,5 +1,5 @@
 -- Which models are well formed.
-use Rattle.std.specs.Prelude.{◌≡◌, ◌≢◌, ◌==◌, ◌&&◌, Bool, ℕ, zero, suc, ◌-◌, ◌<◌, ◌≤◌, true, false, IsTrue, List, [], ◌∷◌, ◌++◌, length, map, take, All, AllPairs, slice_get, slice_index, Some, Contains}
+use Rattle.std.specs.Prelude.{◌≡◌, ◌≢◌, ◌==◌, ◌&&◌, Bool, ℕ, zero, suc, ◌-◌, ◌<◌, ◌≤◌, true, false, IsTrue, List, [], ◌∷◌, ◌++◌, ◌⊎◌, length, map, take, All, AllPairs, slice_get, slice_index, Some, Contains}
 use Rattle.std.specs.List.{list_any}
 use Rattle.cca_base.specs.declared.formula.Formula.{Formula}
 use Rattle.cca_base.specs.declared.model.Component.{Component}
@@ -73,17 +73,28 @@ abbrev pub RepairChain : List Move → ℕ → ℕ → ℕ → ℕ → Type 0
 RepairChain moves c from to zero = from ≡ to
 RepairChain moves c from to (suc n) = (next : ℕ) × IsNext moves c from next × RepairChain moves c next to n
 
--- the mended mode of a broken mode: repairs lead to it, and it is not broken
+-- the mode stands in the chain of another: it is that mode, or repairs lead on to it
+abbrev pub IsInChain : List Move → ℕ → ℕ → ℕ → Type 0
+IsInChain moves c from to = (n : ℕ) × RepairChain moves c from to n
+
+-- the mended mode of a broken mode: the first in its chain that is not broken
 pub record IsMended (moves : List Move) (c mode mended : ℕ) : Type 0 where
   pub broken : is_broken moves c mode ≡ true
   pub sound : is_broken moves c mended ≡ false
   pub count : ℕ
   pub chain : RepairChain moves c mode mended count
 
--- all repairs of a mode lead to one mode; nothing leads into a broken mode, and only repairs leave one
-pub record RepairsFit (moves : List Move) : Type 0 where
+-- no repair leads to a broken mode
+abbrev pub MendsAtOnce : List Move → Type 0
+MendsAtOnce moves = (c mode next : ℕ) → IsNext moves c mode next → is_broken moves c next ≡ false
+
+-- all repairs of a mode lead to one mode, and no mode stands in its chain twice; in the first version no next mode is broken.
+-- Only repairs lead into a broken mode or leave one
+pub record RepairsFit (version : ℕ) (moves : List Move) : Type 0 where
   pub one_target : (c mode a b : ℕ) → IsNext moves c mode a → IsNext moves c mode b → a ≡ b
-  pub none_into : All (λ move. is_broken moves move.component move.target ≡ false) moves
+  pub no_cycle : (c mode n : ℕ) → RepairChain moves c mode mode (suc n) → ⊥
+  pub at_once : version ≡ 1 → MendsAtOnce moves
+  pub only_repairs_enter : All (λ move. IsTrue (is_broken moves move.component move.target) → IsTrue move.repair) moves
   pub only_repairs_leave : All (λ move. IsTrue (is_broken moves move.component move.source) → IsTrue move.repair) moves
 
 -- moves with one command are of one component, and leave different modes
@@ -111,8 +122,13 @@ pub record KeepsLimits (m : PlantModel) : Type 0 where
 abbrev pub names_of : PlantModel → List (List ℕ)
 names_of m = map (λ c. c.name) m.components ++ map (λ v. v.name) m.variables
 
--- the parts of the model fit one another; it may have commands that no move uses yet
+-- there are two versions of documents, 1 and 2
+abbrev pub IsVersion : ℕ → Type 0
+IsVersion version = (version ≡ 1) ⊎ (version ≡ 2)
+
+-- the parts of the model fit one another by the rules of its version; it may have commands that no move uses yet
 pub record WellFormed (m : PlantModel) : Type 0 where
+  pub version : IsVersion m.version
   pub limits : KeepsLimits m
   pub names : AreNames (names_of m)
   pub command_names : AreNames m.commands
@@ -121,7 +137,7 @@ pub record WellFormed (m : PlantModel) : Type 0 where
   pub rules : All (IsFormula m) m.rules
   pub moves : All (IsMove m) m.moves
   pub failures : All (IsFailure m) m.failures
-  pub repairs : RepairsFit m.moves
+  pub repairs : RepairsFit m.version m.moves
   pub commands : CommandsFit m.moves
   pub first_use : AreInOrderOfFirstUse m.moves
 
@@ -130,8 +146,12 @@ abbrev pub IsComplete : PlantModel → Type 0
 IsComplete m = (command : ℕ) → command < length m.commands → IsTrue (is_used m.moves command)
 
 -- the model without any part
-abbrev pub empty_model : PlantModel
-empty_model = record { components = []; variables = []; rules = []; commands = []; moves = []; failures = [] }
+abbrev pub empty_model : ℕ → PlantModel
+empty_model version = record { version = version; components = []; variables = []; rules = []; commands = []; moves = []; failures = [] }
+
+-- the same model in the second version
+abbrev pub in_second : PlantModel → PlantModel
+in_second m = record m { version = 2 }
 
 -- the model with one more component
 abbrev pub with_component : PlantModel → Component → PlantModel

@@ -6,8 +6,9 @@ use Rattle.cca_base.specs.declared.model.Variable.{Variable}
 use Rattle.cca_base.specs.declared.model.Move.{Move}
 use Rattle.cca_base.specs.declared.model.Failure.{Failure}
 
--- components, variables and moves are numbered by their places in these lists
+-- components, variables and moves are numbered by their places in these lists; the version says which rules hold for repairs
 pub record PlantModel : Type 0 where
+  pub version : ℕ
   pub components : List Component
   pub variables : List Variable
   pub rules : List Formula

@@ -1,8 +1,8 @@
 -- The sound part of a state, and its mendings.
-use Rattle.std.specs.Prelude.{◌≡◌, ℕ, ◌<◌, ◌+◌, ◌⊎◌, not, List, [], ◌∷◌, length, slice_index, filter}
+use Rattle.std.specs.Prelude.{◌≡◌, ℕ, ◌<◌, ◌+◌, not, List, [], ◌∷◌, length, slice_index, filter}
 use Rattle.cca_base.specs.declared.cube.Pair.{Pair}
 use Rattle.cca_base.specs.PlantModel.{PlantModel}
-use Rattle.cca_base.specs.Model.{is_broken, IsMended}
+use Rattle.cca_base.specs.Model.{is_broken, IsInChain}
 
 -- the pairs of some modes, the first of which is that of component c
 abbrev pub pairs_from : ℕ → List ℕ → List Pair
@@ -17,7 +17,7 @@ pairs_of s = pairs_from 0 s
 abbrev pub sound_pairs : PlantModel → List ℕ → List Pair
 sound_pairs m s = filter (λ p. not (is_broken m.moves p.item p.value)) (pairs_of s)
 
--- each component stands as it did, or was broken and stands in its mended mode
+-- each component stands in a mode of the chain of its mode
 pub record Mending (m : PlantModel) (s s2 : List ℕ) : Type 0 where
   pub full : length s2 ≡ length s
-  pub each : (c : ℕ) → c < length s → (slice_index s2 c ≡ slice_index s c) ⊎ IsMended m.moves c (slice_index s c) (slice_index s2 c)
+  pub each : (c : ℕ) → c < length s → IsInChain m.moves c (slice_index s c) (slice_index s2 c)

@@ -15,7 +15,7 @@ pub const LIMIT: u8 = 4;
 /// The command belongs to another component, or to another move from this mode.
 pub const AMBIGUOUS: u8 = 5;
 
-/// The move leads to a broken mode, or breaks a mode to which a move leads.
+/// An ordinary move leads to a broken mode, or a repair breaks a mode to which one leads. In the first version repairs count too.
 pub const INTO_BROKEN: u8 = 6;
 
 /// An ordinary move leaves a broken mode.

@@ -1,10 +1,11 @@
 //! Models of concurrent components: modes, variables, rules, moves and failures.
 
 ghost use Rattle.std.specs.Prelude.{◌≡◌, ◌↔◌, [], ◌∷◌, ◌++◌, ◌-◌, ◌<◌, false, length, Contains, IfSome, IsNone, OnOk, OnErr, IsTrue};
-ghost use Rattle.cca_base.specs.Model.{WellFormed, IsMended, is_broken, is_used, empty_model, with_component, with_variable, with_rule, with_command, without_last_command, with_move, with_failure};
+ghost use Rattle.cca_base.specs.Model.{WellFormed, IsVersion, IsNext, IsMended, IsInChain, is_broken, is_used, empty_model, in_second, with_component, with_variable, with_rule, with_command, without_last_command, with_move, with_failure};
 ghost use Rattle.cca_base.specs.Repairs.{Mending};
 
 use crate::formula::Formula;
+use crate::limits::MAX_CHOICES;
 use crate::list::List;
 use crate::name::Name;
 use crate::state::State;
@@ -61,6 +62,8 @@ pub struct Failure {
 /// A well-formed model of concurrent components.
 #[derive(Debug, Drop)]
 pub struct Model {
+    /// The version of its document, 1 or 2.
+    version: u8,
     components: List<Component>,
     variables: List<Variable>,
     rules: List<Formula>,
@@ -82,6 +85,7 @@ impl std::marker::Model for Model {
     ghost use Rattle.cca_base.specs.Model.{WellFormed};
 
     ghost view = { λ m. record {
+      version = m.version;
       components = m.components;
       variables = m.variables;
       rules = m.rules;
@@ -91,6 +95,7 @@ impl std::marker::Model for Model {
     } };
 
     ghost invariant = { λ m. WellFormed (record {
+      version = m.version;
       components = m.components;
       variables = m.variables;
       rules = m.rules;
@@ -101,18 +106,53 @@ impl std::marker::Model for Model {
 }
 
 impl Model {
-    /// The model without any part.
+    /// The model of a version without any part.
     #[tactic(auto, using(crate::proofs::EmptyModel::empty_well_formed))]
-    pub fn empty(alloc: Global) -> Model
-        ensures { result ≡ empty_model }
+    pub fn empty(alloc: Global, version: u8) -> Model
+        requires { IsVersion version }
+        ensures { result ≡ empty_model version }
     {
         Model {
+            version,
             components: List::new(alloc),
             variables: List::new(alloc),
             rules: List::new(alloc),
             commands: List::new(alloc),
             moves: List::new(alloc),
             failures: List::new(alloc),
+        }
+    }
+
+    /// The version of its document, 1 or 2.
+    pub fn version(&self) -> u8
+        ensures value { result ≡ self.now.version }
+        ensures well_formed { WellFormed self.now }
+    {
+        self.version
+    }
+
+    /// The same model in the second version.
+    #[tactic(auto, using(crate::proofs::EmptyModel::second_well_formed))]
+    pub fn to_second(self) -> Model
+        ensures { result ≡ in_second self }
+    {
+        let Model {
+            version: _,
+            components,
+            variables,
+            rules,
+            commands,
+            moves,
+            failures,
+        } = self;
+        Model {
+            version: 2,
+            components,
+            variables,
+            rules,
+            commands,
+            moves,
+            failures,
         }
     }
 
@@ -245,8 +285,8 @@ impl Model {
 
     /// The mode that the repairs of the component's mode lead to.
     /// None comes exactly where no repair leaves it.
-    pub fn mended(&self, c: u16, m: u8) -> Option<u8>
-        ensures mended { IfSome result (IsMended self.now.moves c m) }
+    pub fn next_mode(&self, c: u16, m: u8) -> Option<u8>
+        ensures next { IfSome result (IsNext self.now.moves c m) }
         ensures none { IsNone result ↔ (is_broken self.now.moves c m ≡ false) }
     {
         for x in self.moves().as_slice() {
@@ -257,20 +297,52 @@ impl Model {
         None
     }
 
-    /// Whether the other mode is the mended mode of the component's mode. No component has a number past the last one.
-    fn mends(&self, component: usize, mode: u8, other: u8) -> bool
-        ensures { IsTrue result ↔ IsMended self.now.moves component mode other }
+    /// The mended mode: the first in the chain of the component's mode that isn't broken.
+    /// None comes exactly where the mode itself isn't broken.
+    pub fn mended(&self, c: u16, m: u8) -> Option<u8>
+        ensures mended { IfSome result (IsMended self.now.moves c m) }
+        ensures none { IsNone result ↔ (is_broken self.now.moves c m ≡ false) }
     {
-        if component >= self.components().len() {
-            return false;
+        let _moves = self.moves();
+        let mut mode = self.next_mode(c, m)?;
+        for taken in 0..MAX_CHOICES {
+            match self.next_mode(c, mode) {
+                Some(next) => mode = next,
+                None => return Some(mode),
+            }
         }
-        match self.mended(component as u16, mode) {
-            Some(mended) => mended == other,
-            None => false,
-        }
+        unreachable!()
     }
 
-    /// Whether each component stands in the second state as in the first, or was broken there and stands in its mended mode.
+    /// Whether the other mode stands in the chain of the component's mode.
+    pub fn is_in_chain(&self, c: u16, mode: u8, other: u8) -> bool
+        ensures { IsTrue result ↔ IsInChain self.now.moves c mode other }
+    {
+        let _moves = self.moves();
+        let mut at = mode;
+        for taken in 0..MAX_CHOICES {
+            if at == other {
+                return true;
+            }
+            match self.next_mode(c, at) {
+                Some(next) => at = next,
+                None => return false,
+            }
+        }
+        unreachable!()
+    }
+
+    /// Whether the other mode stands in the chain of the mode. Without such a component a mode's chain is that mode alone.
+    fn mends(&self, component: usize, mode: u8, other: u8) -> bool
+        ensures { IsTrue result ↔ IsInChain self.now.moves component mode other }
+    {
+        if component >= self.components().len() {
+            return mode == other;
+        }
+        self.is_in_chain(component as u16, mode, other)
+    }
+
+    /// Whether each component stands in the second state in a mode of the chain of its mode in the first.
     pub fn is_mending(&self, from: &State, to: &State) -> bool
         ensures { IsTrue result ↔ Mending self.now from.now.modes to.now.modes }
     {
@@ -280,7 +352,7 @@ impl Model {
         for component in 0..from.modes.len() {
             let mode = *from.modes.get(component);
             let other = *to.modes.get(component);
-            if mode != other && !self.mends(component, mode, other) {
+            if !self.mends(component, mode, other) {
                 return false;
             }
         }

@@ -1,5 +1,5 @@
 -- The edges.
-use Rattle.std.proofs.Common.{◌≡◌, ◌<◌, ◌≤◌, ℕ, zero, suc, Bool, true, false, [], ◌∷◌, Some, Contains, refl, ap, ◌∙◌, arith}
+use Rattle.std.proofs.Common.{inl, ◌≡◌, ◌<◌, ◌≤◌, ℕ, zero, suc, Bool, true, false, [], ◌∷◌, Some, Contains, refl, ap, ◌∙◌, arith}
 use Rattle.std.specs.Prelude.{slice_get, IsTrue, codes}
 use Rattle.std.proofs.lemmas.Bool.{false≢true}
 use Rattle.std.proofs.lemmas.List.Elements.{All-nil}
@@ -11,6 +11,7 @@ use Rattle.cca_base.specs.declared.model.Move.{Move}
 use Rattle.cca_base.specs.declared.limits.TheConstants.{MAX_CHOICES}
 use Rattle.cca_base.specs.PlantModel.{PlantModel}
 use Rattle.cca_base.specs.Formula.{Printed, printed_step, fits_step}
+use Rattle.cca_base.proofs.NextModes.{at_once_fits}
 use Rattle.cca_base.specs.Model.{WellFormed, AreChoices, IsComponent, IsFormula, IsMove, IsFailure, is_repair_of, is_broken, mode_counts, value_counts}
 use Rattle.cca_laws.proofs.SmallModels.{are_names, are_choices, own_fit, own_first_use}
 use Rattle.cca_laws.proofs.Tiny.{one_at, two_at}
@@ -44,6 +45,7 @@ own_command (suc (suc i)) move e = absurd (none-some move e)
 
 fails : (cost : ℕ) → 0 < cost → cost ≤ 1000000 → WellFormed (failing_lamp 0 cost)
 fails cost above below = record {
+  version = inl refl;
   limits = record { components = omega arith; variables = omega arith; rules = omega arith; moves = omega arith; failures = omega arith };
   names = are_names (codes "lamp" ∷ []) refl refl;
   command_names = are_names (codes "lamp_on" ∷ codes "lamp_off" ∷ []) refl refl;
@@ -56,11 +58,9 @@ fails cost above below = record {
       (record { source = omega arith; target = omega arith; command = omega arith; guard = always_fits (failing_lamp 0 cost) });
   failures = one_at (IsFailure (failing_lamp 0 cost)) (record { component = 0; source = 0; target = 1; cost = cost })
       (record { source = omega arith; target = omega arith; costs = above; cheap = below });
-  repairs = record {
-    one_target = λ c mode a b p q. absurd (no_repairs p.repair c mode p.mends p.of_model);
-    none_into = two_at (λ (move : Move). is_broken lamp.moves move.component move.target ≡ false) on_move off_move refl refl;
-    only_repairs_leave = two_at (λ (move : Move). IsTrue (is_broken lamp.moves move.component move.source) → IsTrue move.repair) on_move off_move (λ e. e) (λ e. e);
-  };
+  repairs = at_once_fits 1 lamp.moves (λ c mode a b p q. absurd (no_repairs p.repair c mode p.mends p.of_model))
+      (two_at (λ (move : Move). is_broken lamp.moves move.component move.target ≡ false) on_move off_move refl refl)
+      (two_at (λ (move : Move). IsTrue (is_broken lamp.moves move.component move.source) → IsTrue move.repair) on_move off_move (λ e. e) (λ e. e));
   commands = own_fit lamp.moves own_command;
   first_use = own_first_use lamp.moves own_command;
 }

@@ -16,17 +16,17 @@ use Rattle.cca_base.specs.Trace.{start, Observed}
 use Rattle.cca_base.specs.Runs.{Trace}
 use Rattle.cca_laws.specs.Examples.{nothing_compiled}
 
-no_needs : (c u : ℕ) → Needs empty_model c u → ⊥
+no_needs : (c u : ℕ) → Needs (empty_model 1) c u → ⊥
 no_needs c u h = contains_none h.move h.of_model
 
-no_path : (c : ℕ) (between : List ℕ) (u : ℕ) → Path empty_model c between u → ⊥
+no_path : (c : ℕ) (between : List ℕ) (u : ℕ) → Path (empty_model 1) c between u → ⊥
 no_path c [] u h = no_needs c u h
 no_path c (d ∷ between) u h = no_needs c d h.0
 
 pub empty_compiled : IsCompiled nothing_compiled
 empty_compiled = record {
   accepted = record {
-    well_formed = empty_well_formed;
+    well_formed = empty_well_formed 1 (inl refl);
     complete = λ command h. absurd (omega arith);
     worlds = λ s state. ([], record { full = refl; values = λ v h. absurd (omega arith); rules = λ k d h. absurd (omega arith) });
     few_ways = λ k d h. absurd (omega arith);
@@ -44,7 +44,7 @@ only_empty : (s : List ℕ) → length s ≡ 0 → IsEarlier s [] → ⊥
 only_empty [] e h = absurd cc
 only_empty (x ∷ s) e h = absurd (omega arith)
 
-empty_estimate : Estimate empty_model [] None [] [] 0
+empty_estimate : Estimate (empty_model 1) [] None [] [] 0
 empty_estimate = record {
   consistent = record {
     costs = record {
@@ -64,7 +64,7 @@ empty_estimate = record {
   first = λ other h before. only_empty other h.costs.state.full before;
 }
 
-nothing_seen : Observed empty_model (start empty_model 0) []
+nothing_seen : Observed (empty_model 1) (start (empty_model 1) 0) []
 nothing_seen = record {
   rising = λ i j d lt h. absurd (omega arith);
   each = λ p. (λ among. inl among, λ h. elim h [ inl among ↦ among | inr shown ↦ absurd (false≢true (sym (has-empty p.item) ∙ shown.0)) ]);
@@ -72,12 +72,12 @@ nothing_seen = record {
 
 pub empty_trace : Trace nothing_compiled (IsChosenReply nothing_compiled) (event.Tick ∷ []) (record { tick = 1; shown = Estimated 0 (record { modes = [] }) Idle } ∷ [])
 empty_trace = record {
-  ticks = record { since = []; before = start empty_model 0; report = record { tick = 1; shown = Estimated 0 (record { modes = [] }) Idle } } ∷ [];
+  ticks = record { since = []; before = start (empty_model 1) 0; report = record { tick = 1; shown = Estimated 0 (record { modes = [] }) Idle } } ∷ [];
   made = (
     refl,
     refl,
     refl,
-    start empty_model 1,
+    start (empty_model 1) 1,
     record {
       going = refl;
       seen = [];

@@ -35,3 +35,5 @@ pub mod ChoiceLaws
 pub mod MendGoal
 pub mod MendPicks
 pub mod MendRoute
+pub mod ChainExamples
+pub mod FirstVersion

@@ -30,7 +30,7 @@ wanted p (inl (stands, sound)) =
     let own = stands_sound p.item p.value stands sound in
     contains_here b_is_x p (c_is_ok ∷ []) (λ k. record { item = own.0 k; value = own.1 k })
 wanted p (inr (mode, at, mended, reached)) =
-    let own = only_m_has_next p.item mode p.value (next_of_mended mending.moves well_formed.repairs p.item mode p.value mended) in
+    let own = only_m_has_next p.item mode p.value (next_of_mended mending.moves (well_formed.repairs.at_once refl) p.item mode p.value mended) in
     contains_there b_is_x p (c_is_ok ∷ []) (contains_here c_is_ok p [] (λ k. record { item = own.0 k; value = own.2 k }))
 
 pub back_goal : IsBackGoal mending_compiled (0 ∷ 0 ∷ []) (b_is_x ∷ c_is_ok ∷ [])

@@ -1,5 +1,5 @@
 -- The model with a reset is well formed.
-use Rattle.std.proofs.Common.{◌≡◌, ◌==◌, ℕ, zero, suc, Bool, true, false, [], ◌∷◌, Some, Contains, refl, sym, ap, ◌∙◌, arith}
+use Rattle.std.proofs.Common.{inl, ◌≡◌, ◌==◌, ℕ, zero, suc, Bool, true, false, [], ◌∷◌, Some, Contains, refl, sym, ap, ◌∙◌, arith}
 use Rattle.std.specs.Prelude.{slice_get, IsTrue, codes}
 use Rattle.std.proofs.lemmas.Bool.{false≢true, and_parts, eqb-true}
 use Rattle.std.proofs.lemmas.List.Elements.{All-nil}
@@ -10,6 +10,7 @@ use Rattle.cca_base.specs.declared.formula.Subject.TheVariants.{Component}
 use Rattle.cca_base.specs.declared.model.Variable.{Variable}
 use Rattle.cca_base.specs.declared.model.Move.{Move}
 use Rattle.cca_base.specs.Formula.{Printed, fits_step}
+use Rattle.cca_base.proofs.NextModes.{at_once_fits}
 use Rattle.cca_base.specs.Model.{WellFormed, AreChoices, IsComponent, IsFormula, IsMove, IsFailure, IsNext, is_repair_of, is_broken, IsComplete, names_of}
 use Rattle.cca_laws.proofs.Tiny.{two_at, five_at}
 use Rattle.cca_laws.proofs.SmallModels.{are_names, are_choices, own_fit, own_first_use}
@@ -51,6 +52,7 @@ guard_fits = record {
 
 pub well_formed : WellFormed mending
 well_formed = record {
+  version = inl refl;
   limits = record { components = omega arith; variables = omega arith; rules = omega arith; moves = omega arith; failures = omega arith };
   names = are_names (names_of mending) refl refl;
   command_names = are_names mending.commands refl refl;
@@ -67,12 +69,10 @@ well_formed = record {
       (record { source = omega arith; target = omega arith; command = omega arith; guard = always_fits mending })
       (record { source = omega arith; target = omega arith; command = omega arith; guard = guard_fits });
   failures = All-nil (IsFailure mending);
-  repairs = record {
-    one_target = λ c mode a b p q. sym (only_m_has_next c mode a p).2 ∙ (only_m_has_next c mode b q).2;
-    none_into = five_at (λ (move : Move). is_broken mending.moves move.component move.target ≡ false) reset_move z_move ok_move go_move back_move refl refl refl refl refl;
-    only_repairs_leave = five_at (λ (move : Move). IsTrue (is_broken mending.moves move.component move.source) → IsTrue move.repair)
-        reset_move z_move ok_move go_move back_move (λ e. e) (λ e. e) (λ e. e) (λ e. e) (λ e. e);
-  };
+  repairs = at_once_fits 1 mending.moves (λ c mode a b p q. sym (only_m_has_next c mode a p).2 ∙ (only_m_has_next c mode b q).2)
+      (five_at (λ (move : Move). is_broken mending.moves move.component move.target ≡ false) reset_move z_move ok_move go_move back_move refl refl refl refl refl)
+      (five_at (λ (move : Move). IsTrue (is_broken mending.moves move.component move.source) → IsTrue move.repair)
+      reset_move z_move ok_move go_move back_move (λ e. e) (λ e. e) (λ e. e) (λ e. e) (λ e. e));
   commands = own_fit mending.moves own_command;
   first_use = own_first_use mending.moves own_command;
 }

@@ -6,7 +6,7 @@ use Rattle.std.proofs.lemmas.Option.{same_Some}
 use Rattle.list_laws.proofs.Places.{value_at}
 use Rattle.cca_base.specs.declared.cube.Pair.{Pair}
 use Rattle.cca_base.specs.declared.model.Move.{Move}
-use Rattle.cca_base.specs.Model.{IsMended}
+use Rattle.cca_base.specs.Model.{IsMended, IsInChain}
 use Rattle.cca_base.specs.Repairs.{Mending}
 use Rattle.cca_base.specs.Sets.{has}
 use Rattle.cca_base.specs.State.{Follows}
@@ -62,7 +62,7 @@ m_is_mended = record {
 mended : Mending mending (0 ∷ 0 ∷ []) (1 ∷ 0 ∷ [])
 mended = record {
   full = refl;
-  each = below_two (λ c. (slice_index (1 ∷ 0 ∷ []) c ≡ slice_index (0 ∷ 0 ∷ []) c) ⊎ IsMended mending.moves c (slice_index (0 ∷ 0 ∷ []) c) (slice_index (1 ∷ 0 ∷ []) c)) (inr m_is_mended) (inl refl);
+  each = below_two (λ c. IsInChain mending.moves c (slice_index (0 ∷ 0 ∷ []) c) (slice_index (1 ∷ 0 ∷ []) c)) (1, (1, record { repair = reset_move; of_model = (0, omega arith, refl); mends = refl; target = refl }, refl)) (0, refl);
 }
 
 pub go_allowed : Allowed mending (0 ∷ 0 ∷ []) 3 (0 ∷ 1 ∷ [])

@@ -21,7 +21,7 @@ allowed_run m s t [] r = r
 allowed_run m s t (k ∷ ks) r = (r.0, r.1.step, allowed_run m r.0 t ks r.2)
 
 pub mends_itself : (m : PlantModel) (s : List ℕ) → Mending m s s
-mends_itself m s = record { full = refl; each = λ c h. inl refl }
+mends_itself m s = record { full = refl; each = λ c h. (0, refl) }
 
 pub repair_allowed : (m : PlantModel) (s t : List ℕ) (k : ℕ) → (step : Step m s k t) → IsTrue step.move.repair → Allowed m s k t
 repair_allowed m s t k step repair = record { step = step; back = inl repair }

@@ -14,6 +14,8 @@ use Rattle.cca_base.specs.Model.{HasMode}
 use Rattle.cca_base.specs.State.{Follows, Holds, IsState, IsWorld, HasValue}
 use Rattle.cca_base.specs.Steps.{Step, Run, Allowed, support}
 use Rattle.cca_base.specs.Repairs.{Mending}
+use Rattle.cca_base.specs.Model.{IsInChain}
+use Rattle.cca_base.proofs.NextModes.{next_broken}
 use Rattle.cca_laws.proofs.Tiny.{one_at, three_at, below_one, below_two, below_three}
 use Rattle.cca_laws.proofs.FormulaExamples.{truth_mode, truth_iff}
 use Rattle.cca_laws.proofs.FreeMoves.{always}
@@ -208,10 +210,11 @@ opens move own (suc (suc (suc zero)), h, e) = absurd (omega (arith, ap (λ (y : 
 opens move own (suc (suc (suc (suc k))), h, e) = absurd (omega arith)
 
 no_mending : (s2 : List ℕ) → slice_get s2 1 ≡ Some 1 → Mending no_way_back (1 ∷ 0 ∷ []) s2 → ⊥
-no_mending s2 h mending = elim (mending.each 1 (omega arith)) [
-  | inl same ↦ omega (arith, value_at s2 1 1 h, same)
-  | inr mended ↦ false≢true mended.broken
-]
+no_mending s2 h mending = along (mending.each 1 (omega arith))
+  where
+    along : IsInChain no_way_back.moves 1 0 (slice_index s2 1) → ⊥
+    along (zero, same) = omega (arith, value_at s2 1 1 h, same)
+    along (suc n, p) = false≢true (next_broken no_way_back.moves 1 0 p.0 p.1)
 
 not_allowed : (s : List ℕ) → Allowed no_way_back (1 ∷ 0 ∷ []) 2 s → ⊥
 not_allowed s allowed =

@@ -1,5 +1,5 @@
 -- The valve is well formed.
-use Rattle.std.proofs.Common.{◌≡◌, ℕ, zero, suc, Bool, true, false, [], ◌∷◌, Some, Contains, refl, sym, ap, ◌∙◌, arith}
+use Rattle.std.proofs.Common.{inl, ◌≡◌, ℕ, zero, suc, Bool, true, false, [], ◌∷◌, Some, Contains, refl, sym, ap, ◌∙◌, arith}
 use Rattle.std.specs.Prelude.{slice_get, IsTrue, codes}
 use Rattle.std.proofs.lemmas.Bool.{false≢true}
 use Rattle.std.proofs.lemmas.Option.{same_Some, none-some}
@@ -9,6 +9,7 @@ use Rattle.cca_base.specs.declared.formula.Subject.TheVariants.{Component, Varia
 use Rattle.cca_base.specs.declared.model.Variable as variable
 use Rattle.cca_base.specs.declared.model.Move.{Move}
 use Rattle.cca_base.specs.Formula.{Printed, printed_step, fits_step, depth}
+use Rattle.cca_base.proofs.NextModes.{at_once_fits}
 use Rattle.cca_base.specs.Model.{WellFormed, AreChoices, IsComponent, IsFormula, IsMove, IsFailure, IsNext, is_repair_of, is_broken, IsComplete, names_of}
 use Rattle.cca_laws.proofs.Tiny.{one_at, two_at, five_at}
 use Rattle.cca_laws.proofs.SmallModels.{are_names, are_choices, own_fit, own_first_use}
@@ -63,6 +64,7 @@ own_command (suc (suc (suc (suc (suc i))))) move e = absurd (none-some move e)
 
 well_formed : WellFormed valve_model
 well_formed = record {
+  version = inl refl;
   limits = record { components = omega arith; variables = omega arith; rules = omega arith; moves = omega arith; failures = omega arith };
   names = are_names (names_of valve_model) refl refl;
   command_names = are_names valve_model.commands refl refl;
@@ -82,12 +84,10 @@ well_formed = record {
   failures = two_at (IsFailure valve_model) (record { component = 1; source = 0; target = 2; cost = 4 }) (record { component = 1; source = 1; target = 2; cost = 6 })
       (record { source = omega arith; target = omega arith; costs = omega arith; cheap = omega arith })
       (record { source = omega arith; target = omega arith; costs = omega arith; cheap = omega arith });
-  repairs = record {
-    one_target = λ c mode a b p q. sym (mends_to_closed c mode a p p.of_model) ∙ mends_to_closed c mode b q q.of_model;
-    none_into = five_at (λ (move : Move). is_broken valve_model.moves move.component move.target ≡ false) on_move off_move open_move close_move reset_move refl refl refl refl refl;
-    only_repairs_leave = five_at (λ (move : Move). IsTrue (is_broken valve_model.moves move.component move.source) → IsTrue move.repair)
-        on_move off_move open_move close_move reset_move (λ e. e) (λ e. e) (λ e. e) (λ e. e) (λ e. e);
-  };
+  repairs = at_once_fits 1 valve_model.moves (λ c mode a b p q. sym (mends_to_closed c mode a p p.of_model) ∙ mends_to_closed c mode b q q.of_model)
+      (five_at (λ (move : Move). is_broken valve_model.moves move.component move.target ≡ false) on_move off_move open_move close_move reset_move refl refl refl refl refl)
+      (five_at (λ (move : Move). IsTrue (is_broken valve_model.moves move.component move.source) → IsTrue move.repair)
+      on_move off_move open_move close_move reset_move (λ e. e) (λ e. e) (λ e. e) (λ e. e) (λ e. e));
   commands = own_fit valve_model.moves own_command;
   first_use = own_first_use valve_model.moves own_command;
 }

@@ -36,6 +36,7 @@ poor_rule = roll-Formula (Formula-F.Iff (flow_in 2) (either (both (mode_in 0 2) 
 -- three components that may go bad
 abbrev pub three : PlantModel
 three = record {
+  version = 1;
   components =
       record { name = codes "p"; modes = codes "ok" ∷ codes "bad" ∷ []; start = 0 } ∷ record { name = codes "q"; modes = codes "ok" ∷ codes "bad" ∷ []; start = 0 }
       ∷ record { name = codes "r"; modes = codes "ok" ∷ codes "bad" ∷ []; start = 0 } ∷ [];

@@ -15,7 +15,7 @@ use Rattle.cca_base.specs.Runs.{Trace}
 
 -- the empty model, compiled
 abbrev pub nothing_compiled : CompiledModel
-nothing_compiled = record { model = empty_model; ways = []; order = []; bounds = [] }
+nothing_compiled = record { model = empty_model 1; ways = []; order = []; bounds = [] }
 
 -- it is compiled, and a tick estimates the empty state and is idle
 abbrev pub EmptyTicks : Type 0
@@ -37,6 +37,7 @@ off_move = record { component = 0; source = 1; target = 0; command = 1; repair =
 -- the lamp
 abbrev pub lamp : PlantModel
 lamp = record {
+  version = 1;
   components = record { name = codes "lamp"; modes = codes "off" ∷ codes "on" ∷ []; start = 0 } ∷ [];
   variables = [];
   rules = [];

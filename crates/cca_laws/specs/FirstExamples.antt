@@ -25,6 +25,7 @@ pipe_rule = roll-Formula (Formula-F.Iff (flow_in 2) (both (mode_in 0 1) (mode_in
 -- a pump that may die and a pipe that may burst, each at cost 5
 abbrev pub pumping : PlantModel
 pumping = record {
+  version = 1;
   components =
       record { name = codes "pump"; modes = codes "on" ∷ codes "dead" ∷ []; start = 0 } ∷ record { name = codes "pipe"; modes = codes "fine" ∷ codes "burst" ∷ []; start = 0 } ∷ [];
   variables = record { name = codes "flow"; values = codes "none" ∷ codes "some" ∷ []; sensed = true } ∷ [];

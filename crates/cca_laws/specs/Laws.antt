@@ -34,9 +34,13 @@ AllowedPlansRun = (m : PlantModel) (s t : List ℕ) (ks : List ℕ) → AllowedP
 abbrev pub MendsItself : Type 0
 MendsItself = (m : PlantModel) (s : List ℕ) → Mending m s s
 
--- in a well-formed model the mended mode is the one that the repairs lead to
+-- in a well-formed model of the first version the mended mode is the one that the repairs lead to
 abbrev pub MendedIsNext : Type 0
-MendedIsNext = (m : PlantModel) → WellFormed m → (c mode mended : ℕ) → IsMended m.moves c mode mended ↔ IsNext m.moves c mode mended
+MendedIsNext = (m : PlantModel) → WellFormed m → m.version ≡ 1 → (c mode mended : ℕ) → IsMended m.moves c mode mended ↔ IsNext m.moves c mode mended
+
+-- a mode has one mended mode at most
+abbrev pub OneMended : Type 0
+OneMended = (m : PlantModel) → WellFormed m → (c mode a b : ℕ) → IsMended m.moves c mode a → IsMended m.moves c mode b → a ≡ b
 
 -- a repair that is a step is allowed, also where nothing leads back
 abbrev pub RepairsAreAllowed : Type 0

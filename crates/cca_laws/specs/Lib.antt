@@ -1,6 +1,7 @@
 pub mod Cited
 pub mod Examples
 pub mod Laws
+pub mod FirstVersion
 pub mod FormulaExamples
 pub mod ValveExamples
 pub mod CostExamples
@@ -15,4 +16,5 @@ pub mod MirrorExamples
 pub mod FirstExamples
 pub mod CauseExamples
 pub mod MendExamples
+pub mod ChainExamples
 pub mod Conditions

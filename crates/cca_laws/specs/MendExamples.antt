@@ -33,6 +33,7 @@ back_move = record { component = 1; source = 1; target = 0; command = 4; repair 
 -- c is m, ok or z, and starts broken; b is x or y
 abbrev pub mending : PlantModel
 mending = record {
+  version = 1;
   components =
       record { name = codes "c"; modes = codes "m" ∷ codes "ok" ∷ codes "z" ∷ []; start = 0 } ∷ record { name = codes "b"; modes = codes "x" ∷ codes "y" ∷ []; start = 0 } ∷ [];
   variables = [];

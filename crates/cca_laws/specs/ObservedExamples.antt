@@ -9,6 +9,7 @@ use Rattle.cca_base.specs.Trace.{start, Changes, Observed}
 -- two sensed variables that nothing ties
 abbrev pub loose : PlantModel
 loose = record {
+  version = 1;
   components = [];
   variables =
       record { name = codes "x"; values = codes "low" ∷ codes "high" ∷ []; sensed = true } ∷ record { name = codes "y"; values = codes "low" ∷ codes "high" ∷ []; sensed = true }

@@ -19,6 +19,7 @@ wordy_move = record { component = 2; source = 0; target = 1; command = 0; repair
 -- a is p or r, b is n or q, and c is off or on
 abbrev pub wordy : PlantModel
 wordy = record {
+  version = 1;
   components =
       record { name = codes "a"; modes = codes "p" ∷ codes "r" ∷ []; start = 0 } ∷ record { name = codes "b"; modes = codes "n" ∷ codes "q" ∷ []; start = 0 }
       ∷ record { name = codes "c"; modes = codes "off" ∷ codes "on" ∷ []; start = 0 } ∷ [];

@@ -38,6 +38,7 @@ flow_rule = roll-Formula (Formula-F.Iff (flow_in 2) (mode_in 1 2))
 -- the valve and its driver
 abbrev pub valve_model : PlantModel
 valve_model = record {
+  version = 1;
   components =
       record { name = codes "drv"; modes = codes "off" ∷ codes "on" ∷ []; start = 0 }
       ∷ record { name = codes "valve"; modes = codes "closed" ∷ codes "open" ∷ codes "stuck" ∷ []; start = 0 } ∷ [];

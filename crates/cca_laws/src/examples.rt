@@ -14,6 +14,7 @@ ghost use Rattle.cca_laws.specs.MirrorExamples.{MirrorsJoin, AgainAfterTick, Mir
 ghost use Rattle.cca_laws.specs.FirstExamples.{LesserWorldIsFirst, GreaterWorldIsNot, PipeIsBurst, PumpIsNotDead};
 ghost use Rattle.cca_laws.specs.CauseExamples.{DriverServesValve, ValveServesNoDriver};
 ghost use Rattle.cca_laws.specs.MendExamples.{MendingIsCompiled, GoingIsAllowed, BackGoalIsMended, RouteComesBack};
+ghost use Rattle.cca_laws.specs.ChainExamples.{UnitIsWellFormed, OnlyInSecond, NextIsLatched, MendedIsOk, OkHasNoMended, ChainOfHung, MendingsOfHung, MendingsOfLatched, MendingsOfOk, LatchedIsNotSound, TwoCommandsMend, NoChainGoesRound, NoRepairStays, OneNextMode, OnlyRepairsEnter, OnlyRepairsLeave};
 ghost use Rattle.cca_laws.specs.RightExamples.{WrongIsNotRight, FaultsExcuse, ResetsEndExcuses, ResetKeepsTicks};
 
 /// The empty model.
@@ -146,4 +147,28 @@ pub fn mends()
     ensures going { GoingIsAllowed }
     ensures goal { BackGoalIsMended }
     ensures route { RouteComesBack }
+{}
+
+/// A unit that two repairs mend: its modes, and where it may stand once it is mended.
+pub fn chains()
+    ensures well_formed { UnitIsWellFormed }
+    ensures second { OnlyInSecond }
+    ensures next { NextIsLatched }
+    ensures mended { MendedIsOk }
+    ensures none { OkHasNoMended }
+    ensures chain { ChainOfHung }
+    ensures hung { MendingsOfHung }
+    ensures latched { MendingsOfLatched }
+    ensures ok { MendingsOfOk }
+    ensures sound { LatchedIsNotSound }
+    ensures plan { TwoCommandsMend }
+{}
+
+/// Moves and repairs that no version allows.
+pub fn no_chains()
+    ensures round { NoChainGoesRound }
+    ensures stays { NoRepairStays }
+    ensures next { OneNextMode }
+    ensures enter { OnlyRepairsEnter }
+    ensures leave { OnlyRepairsLeave }
 {}

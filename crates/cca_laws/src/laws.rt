@@ -1,13 +1,15 @@
 //! Laws: what holds of every model.
 
 ghost use Rattle.cca_laws.specs.Conditions.{FollowsIsDecided, SufficientCubesHavePrimes};
-ghost use Rattle.cca_laws.specs.Laws.{RunsJoin, AllowedPlansRun, MendsItself, MendedIsNext, RepairsAreAllowed, ImplicantsGiveSteps, OneEstimate, NeverBoth, OneObserved, OneFixedTrace, OneFirstMissing, NoneUnderNoOrder, SendsServe, StandingIsReached, StandingGivesNoCommands, FreeIsNominal, FirstIsRight, OneCompiled, InOrderIsPairwise, OrdersHaveNoneTwice, NominalIsFree, OneCost, CommandsAreUsed, NeverIdle, AsManyAsTicks};
+ghost use Rattle.cca_laws.specs.FirstVersion.{RulesAsBefore, FirstIsSecond, MendingsAsBefore};
+ghost use Rattle.cca_laws.specs.Laws.{RunsJoin, AllowedPlansRun, MendsItself, OneMended, MendedIsNext, RepairsAreAllowed, ImplicantsGiveSteps, OneEstimate, NeverBoth, OneObserved, OneFixedTrace, OneFirstMissing, NoneUnderNoOrder, SendsServe, StandingIsReached, StandingGivesNoCommands, FreeIsNominal, FirstIsRight, OneCompiled, InOrderIsPairwise, OrdersHaveNoneTwice, NominalIsFree, OneCost, CommandsAreUsed, NeverIdle, AsManyAsTicks};
 
 /// Runs and plans.
 pub fn plans()
     ensures join { RunsJoin }
     ensures allowed { AllowedPlansRun }
     ensures itself { MendsItself }
+    ensures one_mended { OneMended }
     ensures mended { MendedIsNext }
     ensures repairs { RepairsAreAllowed }
     ensures implicants { ImplicantsGiveSteps }
@@ -60,4 +62,11 @@ pub fn orders()
 pub fn conditions()
     ensures decided { FollowsIsDecided }
     ensures primes { SufficientCubesHavePrimes }
+{}
+
+/// What repairs are in the first version.
+pub fn first_version()
+    ensures rules { RulesAsBefore }
+    ensures second { FirstIsSecond }
+    ensures mendings { MendingsAsBefore }
 {}

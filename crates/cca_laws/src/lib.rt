@@ -7,10 +7,12 @@ mod examples;
 mod laws;
 
 pub use examples::{
-    causes, changes, edges, empty, firsts, formulas, implicants, lamp, mends, mirrors, more,
-    observed, right, serves, successors, valve,
+    causes, chains, changes, edges, empty, firsts, formulas, implicants, lamp, mends, mirrors,
+    more, no_chains, observed, right, serves, successors, valve,
 };
-pub use laws::{compiled, conditions, costs, estimates, goals, orders, plans, traces};
+pub use laws::{
+    compiled, conditions, costs, estimates, first_version, goals, orders, plans, traces,
+};
 
 /// The definitions are cited.
 pub fn cited()

@@ -1,14 +1,25 @@
-use Rattle.std.proofs.Common.{refl, ◌∙◌}
-use Rattle.cca_base.proofs.Found.{found, repairs}
-use Rattle.cca_base.proofs.NextModes.{mended_of_next}
+use Rattle.std.proofs.Common.{refl, subst, suc, ◌+◌, ◌≡◌, arith}
+use Rattle.cca_base.specs.Model.{RepairChain}
+use Rattle.cca_base.proofs.NextModes.{next_broken, chain_one, chain_join, chain_short}
 use Rattle.cca_base.proofs.model.Model.mended.Goals as goal
 
-pub returns-then-x-m-clause-mended : goal.returns-then-x-m-clause-mended
-returns-then-x-m-clause-mended c =
-    let x = c.x-item.result in
-    mended_of_next c.args.self.now.moves c.moves.ensures.well_formed.repairs c.args.c c.args.m x.target (record {
-      repair = x;
-      of_model = found _ _ c.loop-x.x-index x (c.as_slice-x-items.ensures ∙ c.moves.ensures.value) c.loop-x-test.true c.x-item.is;
-      mends = repairs x _ _ c.if-x.true c.if-x-c.true c.if-x-m.true;
-      target = refl;
-    })
+pub returns-in-None-clause-mended : goal.returns-in-None-clause-mended
+returns-in-None-clause-mended c = record {
+  broken = next_broken c.args.self.now.moves c.args.c c.args.m c.loop-taken.invariant.0 c.loop-taken.invariant.1;
+  sound = c.in-None.ensures.none.0 refl;
+  count = suc c.loop-taken.taken;
+  chain = c.loop-taken.invariant;
+}
+
+pub loop-taken-preserved : goal.loop-taken-preserved
+loop-taken-preserved c =
+    let moves = c.args.self.now.moves in
+    let longer : suc c.loop-taken.taken + 1 ≡ suc (c.loop-taken.taken + 1) = omega arith in
+    subst (RepairChain moves c.args.c c.args.m c.in-Some.next) longer
+    (chain_join moves c.args.c c.args.m c.loop-taken.mode c.in-Some.next (suc c.loop-taken.taken) 1 c.loop-taken.invariant
+    (chain_one moves c.args.c c.loop-taken.mode c.in-Some.next c.in-Some.ensures.next))
+
+pub unreachable-requires : goal.unreachable-requires
+unreachable-requires c =
+    let short = chain_short c.args.self.now c.moves-moves.ensures.well_formed c.args.c c.args.m c.loop-taken.mode (suc c.loop-taken.taken) c.loop-taken.invariant in
+    omega (arith, short, c.loop-taken-test.false)

@@ -1,7 +1,7 @@
-use Rattle.std.proofs.Common.{◌≡◌, drop}
-use Rattle.std.specs.List.{list_any}
-use Rattle.cca_base.specs.Model.{is_broken, is_repair_of}
+use Rattle.std.proofs.Common.{suc}
+use Rattle.cca_base.specs.Model.{RepairChain}
 use Rattle.cca_base.proofs.model.Model.mended.Given as goal
 
-abbrev pub invariant-loop-x : goal.invariant-loop-x
-invariant-loop-x l = list_any (is_repair_of l.c l.m) (drop l.x-index l.x-items) ≡ is_broken l.self.moves l.c l.m
+-- so many repairs lead to the mode
+abbrev pub invariant-loop-taken : goal.invariant-loop-taken
+invariant-loop-taken l = RepairChain l.self.moves l.c l.m l.mode (suc l.taken)
