@@ -19,7 +19,7 @@ use Rattle.cca_base.proofs.Growth.{component_kept, variable_kept}
 use Rattle.formula_syntax.proofs.LeastLaws.{least_none}
 use Rattle.formula_syntax.specs.Lookups.{subject_of, or_else, place_of}
 use Rattle.formula_syntax.specs.Meanings.{has_twice}
-use Rattle.model_syntax.specs.Codes.{least, is_long, is_taken, start_mode, list_passes, component_code, new_component, variable_code, new_variable}
+use Rattle.model_syntax.specs.Codes.{is_long, is_taken, start_mode, list_passes, component_code, new_component, variable_code, new_variable}
 use Rattle.model_syntax.specs.Lines.{is_bare_name}
 use Rattle.model_syntax.proofs.NamesInGrowth.{not_some}
 use Rattle.model_syntax.proofs.FirstPlaces.{none_passes}

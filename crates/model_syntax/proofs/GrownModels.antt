@@ -8,20 +8,17 @@ use Rattle.cca_base.specs.declared.model.Move.{Move}
 use Rattle.cca_base.specs.declared.model.Failure.{Failure}
 use Rattle.cca_base.specs.PlantModel.{PlantModel}
 use Rattle.cca_base.specs.Model.{WellFormed, with_component, with_variable, with_rule, with_move, with_failure}
-use Rattle.text_base.specs.Lexemes.{Lexeme, word, number}
-use Rattle.model_syntax.specs.Printing.{joined, component_said, variable_said, formula_said, move_said, failure_said, lines_said}
+use Rattle.text_base.specs.Lexemes.{Lexeme, word}
+use Rattle.model_syntax.specs.Printing.{joined, header_said, component_said, variable_said, formula_said, move_said, failure_said, lines_said}
 use Rattle.model_syntax.specs.Shorter.{AddsLine}
 use Rattle.model_syntax.proofs.KeptLines.{Grows, keeps_all, keeps_push, rules_stay, moves_stay, failures_stay}
 
 abbrev Lines : Type 0
 Lines = List (List Lexeme)
 
-abbrev first : List Lexeme
-first = word (codes "titan") ∷ number (codes "1") ∷ []
-
--- the lines of a model by their kinds
-abbrev page : Lines → Lines → Lines → Lines → Lines → Lines
-page a b c d e = first ∷ a ++ b ++ c ++ d ++ e
+-- the lines of a model by their kinds, behind that of its version
+abbrev page : List Lexeme → Lines → Lines → Lines → Lines → Lines → Lines
+page first a b c d e = first ∷ a ++ b ++ c ++ d ++ e
 
 -- ---- one line more of a kind
 
@@ -35,30 +32,34 @@ four x b c d e = simp append_assoc
 behind_both : (x y z : Lines) (l : List Lexeme) → (x ++ (y ++ l ∷ [])) ++ z ≡ (x ++ y) ++ l ∷ z
 behind_both x y z l = ap (λ (w : Lines). w ++ z) (sym (append_assoc x y (l ∷ []))) ∙ append_assoc (x ++ y) (l ∷ []) z
 
-below_first : {a b : Lines} → a ≡ b → first ∷ a ≡ first ∷ b
-below_first e = ap (λ (x : Lines). first ∷ x) e
+module _ (first : List Lexeme) where
+  below_first : {a b : Lines} → a ≡ b → first ∷ a ≡ first ∷ b
+  below_first e = ap (λ (x : Lines). first ∷ x) e
 
-more_first : (a b c d e : Lines) (l : List Lexeme) → page (a ++ l ∷ []) b c d e ≡ (first ∷ a) ++ l ∷ (b ++ c ++ d ++ e)
-more_first a b c d e l = below_first (four (a ++ l ∷ []) b c d e ∙ append_assoc a (l ∷ []) (b ++ c ++ d ++ e))
+  more_first : (a b c d e : Lines) (l : List Lexeme) → page first (a ++ l ∷ []) b c d e ≡ (first ∷ a) ++ l ∷ (b ++ c ++ d ++ e)
+  more_first a b c d e l = below_first (four (a ++ l ∷ []) b c d e ∙ append_assoc a (l ∷ []) (b ++ c ++ d ++ e))
 
-more_second : (a b c d e : Lines) (l : List Lexeme) → page a (b ++ l ∷ []) c d e ≡ (first ∷ a ++ b) ++ l ∷ (c ++ d ++ e)
-more_second a b c d e l = below_first (three (a ++ (b ++ l ∷ [])) c d e ∙ behind_both a b (c ++ d ++ e) l)
+  more_second : (a b c d e : Lines) (l : List Lexeme) → page first a (b ++ l ∷ []) c d e ≡ (first ∷ a ++ b) ++ l ∷ (c ++ d ++ e)
+  more_second a b c d e l = below_first (three (a ++ (b ++ l ∷ [])) c d e ∙ behind_both a b (c ++ d ++ e) l)
 
-more_third : (a b c d e : Lines) (l : List Lexeme) → page a b (c ++ l ∷ []) d e ≡ (first ∷ a ++ b ++ c) ++ l ∷ (d ++ e)
-more_third a b c d e l = below_first (append_assoc (a ++ b ++ (c ++ l ∷ [])) d e ∙ behind_both (a ++ b) c (d ++ e) l)
+  more_third : (a b c d e : Lines) (l : List Lexeme) → page first a b (c ++ l ∷ []) d e ≡ (first ∷ a ++ b ++ c) ++ l ∷ (d ++ e)
+  more_third a b c d e l = below_first (append_assoc (a ++ b ++ (c ++ l ∷ [])) d e ∙ behind_both (a ++ b) c (d ++ e) l)
 
-more_fourth : (a b c d e : Lines) (l : List Lexeme) → page a b c (d ++ l ∷ []) e ≡ (first ∷ a ++ b ++ c ++ d) ++ l ∷ e
-more_fourth a b c d e l = below_first (behind_both (a ++ b ++ c) d e l)
+  more_fourth : (a b c d e : Lines) (l : List Lexeme) → page first a b c (d ++ l ∷ []) e ≡ (first ∷ a ++ b ++ c ++ d) ++ l ∷ e
+  more_fourth a b c d e l = below_first (behind_both (a ++ b ++ c) d e l)
 
-more_fifth : (a b c d e : Lines) (l : List Lexeme) → page a b c d (e ++ l ∷ []) ≡ (first ∷ a ++ b ++ c ++ d ++ e) ++ l ∷ []
-more_fifth a b c d e l = below_first (sym (append_assoc (a ++ b ++ c ++ d) e (l ∷ [])))
+  more_fifth : (a b c d e : Lines) (l : List Lexeme) → page first a b c d (e ++ l ∷ []) ≡ (first ∷ a ++ b ++ c ++ d ++ e) ++ l ∷ []
+  more_fifth a b c d e l = below_first (sym (append_assoc (a ++ b ++ c ++ d) e (l ∷ [])))
 
-same_page : (a b c d e v w x y z : Lines) → a ≡ v → b ≡ w → c ≡ x → d ≡ y → e ≡ z → page a b c d e ≡ page v w x y z
-same_page a b c d e v w x y z p q r s t = cc
+same_page : (first head : List Lexeme) → first ≡ head → (a b c d e v w x y z : Lines) → a ≡ v → b ≡ w → c ≡ x → d ≡ y → e ≡ z → page first a b c d e ≡ page head v w x y z
+same_page first head o a b c d e v w x y z p q r s t = cc
 
 -- ---- one item more
 
 module _ (m : PlantModel) (h : WellFormed m) where
+  abbrev first : List Lexeme
+  first = header_said m.version
+
   abbrev cs : Lines
   cs = map component_said m.components
 
@@ -97,9 +98,9 @@ module _ (m : PlantModel) (h : WellFormed m) where
         front = first ∷ cs;
         back = vs ++ rs ++ ms ++ fs;
         line = component_said x;
-        before = below_first (four cs vs rs ms fs);
-        after = same_page _ _ _ _ _ (cs ++ component_said x ∷ []) vs rs ms fs (map_push component_said m.components x) refl (rules_stay m n g m.rules h.rules) (moves_stay m n g m.moves h.moves) (failures_stay m n g m.failures h.failures)
-            ∙ more_first cs vs rs ms fs (component_said x);
+        before = below_first first (four cs vs rs ms fs);
+        after = same_page first first refl _ _ _ _ _ (cs ++ component_said x ∷ []) vs rs ms fs (map_push component_said m.components x) refl (rules_stay m n g m.rules h.rules) (moves_stay m n g m.moves h.moves) (failures_stay m n g m.failures h.failures)
+            ∙ more_first first cs vs rs ms fs (component_said x);
         no_longer = short;
       }
 
@@ -111,9 +112,9 @@ module _ (m : PlantModel) (h : WellFormed m) where
         front = first ∷ cs ++ vs;
         back = rs ++ ms ++ fs;
         line = variable_said x;
-        before = below_first (three (cs ++ vs) rs ms fs);
-        after = same_page _ _ _ _ _ cs (vs ++ variable_said x ∷ []) rs ms fs refl (map_push variable_said m.variables x) (rules_stay m n g m.rules h.rules) (moves_stay m n g m.moves h.moves) (failures_stay m n g m.failures h.failures)
-            ∙ more_second cs vs rs ms fs (variable_said x);
+        before = below_first first (three (cs ++ vs) rs ms fs);
+        after = same_page first first refl _ _ _ _ _ cs (vs ++ variable_said x ∷ []) rs ms fs refl (map_push variable_said m.variables x) (rules_stay m n g m.rules h.rules) (moves_stay m n g m.moves h.moves) (failures_stay m n g m.failures h.failures)
+            ∙ more_second first cs vs rs ms fs (variable_said x);
         no_longer = short;
       }
 
@@ -126,10 +127,10 @@ module _ (m : PlantModel) (h : WellFormed m) where
         front = first ∷ cs ++ vs ++ rs;
         back = ms ++ fs;
         line = line;
-        before = below_first (append_assoc (cs ++ vs ++ rs) ms fs);
-        after = same_page _ _ _ _ _ cs vs (rs ++ line ∷ []) ms fs refl refl (map_push (rule_said n) m.rules x ∙ ap (λ (y : Lines). y ++ line ∷ []) (rules_stay m n g m.rules h.rules)) (moves_stay m n g m.moves h.moves)
+        before = below_first first (append_assoc (cs ++ vs ++ rs) ms fs);
+        after = same_page first first refl _ _ _ _ _ cs vs (rs ++ line ∷ []) ms fs refl refl (map_push (rule_said n) m.rules x ∙ ap (λ (y : Lines). y ++ line ∷ []) (rules_stay m n g m.rules h.rules)) (moves_stay m n g m.moves h.moves)
             (failures_stay m n g m.failures h.failures)
-            ∙ more_third cs vs rs ms fs line;
+            ∙ more_third first cs vs rs ms fs line;
         no_longer = short;
       }
 
@@ -143,16 +144,16 @@ module _ (m : PlantModel) (h : WellFormed m) where
         back = [];
         line = line;
         before = sym (append-nil (lines_said m));
-        after = same_page _ _ _ _ _ cs vs rs ms (fs ++ line ∷ []) refl refl (rules_stay m n g m.rules h.rules) (moves_stay m n g m.moves h.moves)
+        after = same_page first first refl _ _ _ _ _ cs vs rs ms (fs ++ line ∷ []) refl refl (rules_stay m n g m.rules h.rules) (moves_stay m n g m.moves h.moves)
             (map_push (failure_said n) m.failures x ∙ ap (λ (y : Lines). y ++ line ∷ []) (failures_stay m n g m.failures h.failures))
-            ∙ more_fifth cs vs rs ms fs line;
+            ∙ more_fifth first cs vs rs ms fs line;
         no_longer = short;
       }
 
   -- a move may bring a command with it
-  pub move_adds : (k : PlantModel) (x : Move) (text : List ℕ) → Grows m (with_move k x) → k.components ≡ m.components → k.variables ≡ m.variables → k.rules ≡ m.rules → k.moves ≡ m.moves → k.failures ≡ m.failures
+  pub move_adds : (k : PlantModel) (x : Move) (text : List ℕ) → Grows m (with_move k x) → k.version ≡ m.version → k.components ≡ m.components → k.variables ≡ m.variables → k.rules ≡ m.rules → k.moves ≡ m.moves → k.failures ≡ m.failures
       → length (joined (move_said (with_move k x) x)) ≤ length text → AddsLine m (with_move k x) text
-  move_adds k x text g ec ev er em ef short =
+  move_adds k x text g ez ec ev er em ef short =
       let n = with_move k x in
       let line = move_said n x in
       record {
@@ -160,9 +161,9 @@ module _ (m : PlantModel) (h : WellFormed m) where
         back = fs;
         line = line;
         before = refl;
-        after = same_page _ _ _ _ _ cs vs rs (ms ++ line ∷ []) fs (ap (map component_said) ec) (ap (map variable_said) ev) (ap (map (rule_said n)) er ∙ rules_stay m n g m.rules h.rules)
+        after = same_page (header_said k.version) first (ap header_said ez) _ _ _ _ _ cs vs rs (ms ++ line ∷ []) fs (ap (map component_said) ec) (ap (map variable_said) ev) (ap (map (rule_said n)) er ∙ rules_stay m n g m.rules h.rules)
             (map_push (move_said n) k.moves x ∙ ap (λ (y : List Move). map (move_said n) y ++ line ∷ []) em ∙ ap (λ (y : Lines). y ++ line ∷ []) (moves_stay m n g m.moves h.moves))
             (ap (map (failure_said n)) ef ∙ failures_stay m n g m.failures h.failures)
-            ∙ more_fourth cs vs rs ms fs line;
+            ∙ more_fourth first cs vs rs ms fs line;
         no_longer = short;
       }

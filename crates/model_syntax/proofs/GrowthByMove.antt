@@ -1,13 +1,13 @@
 -- Moves, repairs and commands of a model that grows by a move.
-use Rattle.std.proofs.Common.{◌≡◌, ◌≢◌, ℕ, ◌-◌, ◌<◌, Bool, true, false, not, cond, ◌&&◌, ◌||◌, ◌==◌, ◌⊎◌, eqb, get_or, List, [], ◌∷◌, ◌++◌, length, take, Option, Some, None, IsTrue, All, Contains, inl, inr, refl, sym, ap, subst, ◌∙◌, arith}
+use Rattle.std.proofs.Common.{◌≡◌, ◌≢◌, ℕ, ◌-◌, ◌<◌, Bool, true, false, not, cond, ◌&&◌, ◌||◌, ◌==◌, ◌⊎◌, eqb, List, [], ◌∷◌, ◌++◌, length, take, Option, Some, None, IsTrue, All, inl, inr, refl, sym, ap, ◌∙◌, arith}
 use Rattle.std.specs.Prelude.{nat_le, nat_eq, is_some, unwrap_or}
 use Rattle.std.specs.List.{list_any}
 use Rattle.std.specs.Str.{bytes_eq}
 use Rattle.std.specs.Cmp.Lexicographic.{pointwise}
 use Rattle.std.proofs.Math.Bool.{or-false}
-use Rattle.std.proofs.lemmas.Bool.{and_parts, and_from, eqb-true, eq-eqb, cases_Bool, cases_lt, false≢true, or_parts, not-false, or_from, or_cases}
+use Rattle.std.proofs.lemmas.Bool.{eqb-true, eq-eqb, cases_Bool, cases_lt, false≢true, or_parts, not-false}
 use Rattle.std.proofs.lemmas.List.{length_push}
-use Rattle.std.proofs.lemmas.List.Elements.{All-nil, All-cons, All-push, All-weaker, Contains-push_cases}
+use Rattle.std.proofs.lemmas.List.Elements.{All-nil, All-cons, All-weaker}
 use Rattle.std.proofs.lemmas.List.Folds.{list_any-append, list_any_none}
 use Rattle.std.proofs.lemmas.List.Quantifiers.{position-Some}
 use Rattle.std.proofs.lemmas.Slice.Eq.{bytes_eq-Decides}
@@ -16,11 +16,12 @@ use Rattle.std.specs.Map.{lookup}
 use Rattle.cca_base.specs.declared.model.Move.{Move}
 use Rattle.cca_base.specs.declared.limits.TheConstants.{MAX_MOVES}
 use Rattle.cca_base.specs.PlantModel.{PlantModel}
-use Rattle.cca_base.specs.Model.{WellFormed, IsFormula, IsMove, HasMode, IsNext, RepairsFit, IsComplete, is_broken, is_repair_of, is_used, with_command, without_last_command, with_move}
-use Rattle.cca_base.proofs.Growth.{move_kept, ordinary_fits, command_kept}
+use Rattle.cca_base.specs.Model.{WellFormed, IsFormula, IsMove, HasMode, RepairsFit, IsComplete, is_used, with_command, without_last_command, with_move}
+use Rattle.cca_base.proofs.Growth.{move_kept, command_kept}
+use Rattle.model_syntax.proofs.RepairCodes.{codes_keep_rules}
 use Rattle.formula_syntax.specs.Lookups.{place_of, or_else}
 use Rattle.model_syntax.specs.Reader.{NumbersFit}
-use Rattle.model_syntax.specs.Codes.{least, is_long, command_number, with_named, leads_to, leaves_unmarked, is_ambiguous, is_into_broken, is_unmarked_exit, mends_twice, move_faults}
+use Rattle.model_syntax.specs.Codes.{least, is_long, command_number, with_named, leads_to, is_ambiguous, is_into_broken, is_unmarked_exit, mends_twice, is_repair_cycle, move_faults}
 use Rattle.model_syntax.specs.Lines.{is_bare_name}
 use Rattle.formula_syntax.proofs.LeastLaws.{least_none}
 use Rattle.model_syntax.proofs.AddedParts.{below, is_named}
@@ -51,131 +52,29 @@ and_false false b e h = absurd cc
 any_push : {X : Type 0} (p : X → Bool) (xs : List X) (x : X) → list_any p (xs ++ x ∷ []) ≡ (list_any p xs || p x)
 any_push p xs x = list_any-append p xs (x ∷ []) ∙ ap (λ b. list_any p xs || b) (or-false (p x))
 
-eqb_sym : (a b : ℕ) → eqb a b ≡ eqb b a
-eqb_sym a b = elim (cases_Bool (eqb a b)) [
-  | inl e ↦ e ∙ sym (eq-eqb b a (sym (eqb-true a b e)))
-  | inr e ↦ elim (cases_Bool (eqb b a)) [
-    | inl f ↦ absurd (false≢true (sym e ∙ eq-eqb a b (sym (eqb-true b a f))))
-    | inr f ↦ e ∙ sym f
-  ]
-]
-
-both_sym : (a b c d : ℕ) → (eqb a b && eqb c d) ≡ (eqb b a && eqb d c)
-both_sym a b c d = ap (λ x. x && eqb c d) (eqb_sym a b) ∙ ap (λ x. eqb b a && x) (eqb_sym c d)
-
--- ---- a repair
-
-module _ (moves : List Move) (x : Move) (h : RepairsFit moves) (repair : x.repair ≡ true) (into : is_broken moves x.component x.target ≡ false)
-    (led : list_any (leads_to x.component x.source) (moves ++ x ∷ []) ≡ false)
-    (unmarked : list_any (leaves_unmarked x.component x.source) moves ≡ false)
-    (one : list_any (λ y. y.repair && ((y.component == x.component && y.source == x.source) && not (y.target == x.target))) moves ≡ false) where
-  -- whether x repairs a mode
-  repairs_it : (c mode : ℕ) → is_repair_of c mode x ≡ (x.component == c && x.source == mode)
-  repairs_it c mode = ap (λ b. b && (x.component == c && x.source == mode)) repair
-
-  -- nothing leads to what x repairs
-  not_into : All (λ move. (x.component == move.component && x.source == move.target) ≡ false) (moves ++ x ∷ [])
-  not_into = All-weaker (λ y. leads_to x.component x.source y ≡ false) (λ move. (x.component == move.component && x.source == move.target) ≡ false)
-      (λ y e. both_sym x.component y.component x.source y.target ∙ e) (moves ++ x ∷ []) (all_of_any (leads_to x.component x.source) (moves ++ x ∷ []) led)
-
-  broken_after : (c mode : ℕ) → is_broken (moves ++ x ∷ []) c mode ≡ (is_broken moves c mode || (x.component == c && x.source == mode))
-  broken_after c mode = any_push (is_repair_of c mode) moves x ∙ ap (λ b. is_broken moves c mode || b) (repairs_it c mode)
-
-  none_into_before : All (λ move. is_broken moves move.component move.target ≡ false) (moves ++ x ∷ [])
-  none_into_before = All-push (λ move. is_broken moves move.component move.target ≡ false) moves x h.none_into into
-
-  -- the target of another repair of the same mode
-  same_target : (c mode a : ℕ) → IsNext moves c mode a → is_repair_of c mode x ≡ true → a ≡ x.target
-  same_target c mode a p q =
-      let y = p.repair in
-      let is = and_parts x.repair (x.component == c && x.source == mode) q in
-      let ends = and_parts (x.component == c) (x.source == mode) is.1 in
-      let its = and_parts y.repair (y.component == c && y.source == mode) p.mends in
-      let its_ends = and_parts (y.component == c) (y.source == mode) its.1 in
-      let same_c : y.component ≡ x.component = eqb-true y.component c its_ends.0 ∙ sym (eqb-true x.component c ends.0) in
-      let same_s : y.source ≡ x.source = eqb-true y.source mode its_ends.1 ∙ sym (eqb-true x.source mode ends.1) in
-      let not_other = at_member (λ y. (y.repair && ((y.component == x.component && y.source == x.source) && not (y.target == x.target))) ≡ false) moves y
-      (all_of_any (λ y. y.repair && ((y.component == x.component && y.source == x.source) && not (y.target == x.target))) moves one) p.of_model in
-      let step = and_false y.repair _ not_other its.0 in
-      let last = and_false (y.component == x.component && y.source == x.source) _ step (and_from (y.component == x.component) (y.source == x.source) (eq-eqb y.component x.component same_c) (eq-eqb y.source x.source same_s)) in
-      sym p.target ∙ eqb-true y.target x.target (not-false (y.target == x.target) last)
-    where
-      at_member : {X : Type 0} (P : X → Type 0) (xs : List X) (y : X) → All P xs → Contains xs y → P y
-      at_member P xs y all (k, within, is) = subst P is (all k y within)
-
-  mended_by : (c mode a : ℕ) → IsNext (moves ++ x ∷ []) c mode a → IsNext moves c mode a ⊎ ((is_repair_of c mode x ≡ true) × (a ≡ x.target))
-  mended_by c mode a p = elim (Contains-push_cases moves x p.repair p.of_model) [
-    | inl old ↦ inl (record { repair = p.repair; of_model = old; mends = p.mends; target = p.target })
-    | inr e ↦ inr (ap (is_repair_of c mode) e ∙ p.mends, sym p.target ∙ ap (λ (y : Move). y.target) (sym e))
-  ]
-
-  pub repair_fits : RepairsFit (moves ++ x ∷ [])
-  repair_fits = record {
-    one_target = λ c mode a b p q. elim (mended_by c mode a p) [
-      | inl old ↦ elim (mended_by c mode b q) [
-        | inl also ↦ h.one_target c mode a b old also
-        | inr new ↦ same_target c mode a old new.0 ∙ sym new.1
-      ]
-      | inr new ↦ elim (mended_by c mode b q) [
-        | inl old ↦ new.1 ∙ sym (same_target c mode b old new.0)
-        | inr also ↦ new.1 ∙ sym also.1
-      ]
-    ];
-    none_into = λ k d within.
-        broken_after _ _ ∙ or_from (is_broken moves _ _) _ (none_into_before k d within) (not_into k d within);
-    only_repairs_leave = All-push (λ move. IsTrue (is_broken (moves ++ x ∷ []) move.component move.source) → IsTrue move.repair) moves x
-        (λ k d within broken. leaves k d within (or_cases _ _ (sym (broken_after _ _) ∙ broken)))
-        (λ broken. repair);
-  }
-    where
-      marked : All (λ y. leaves_unmarked x.component x.source y ≡ false) moves
-      marked = all_of_any (leaves_unmarked x.component x.source) moves unmarked
-
-      leaves : (k : ℕ) (d : Move) (within : k < length moves) → (let y = get_or moves k d in (is_broken moves y.component y.source ≡ true) ⊎ ((x.component == y.component && x.source == y.source) ≡ true) → IsTrue y.repair)
-      leaves k d within (inl old) = h.only_repairs_leave k d within old
-      leaves k d within (inr new) =
-          let y = get_or moves k d in
-          elim (cases_Bool y.repair) [
-            | inl r ↦ r
-            | inr r ↦
-                let m = marked k d within in
-                let f = sym m ∙ ap (λ b. not b && (y.component == x.component && y.source == x.source)) r ∙ sym (both_sym x.component y.component x.source y.source) ∙ new in
-                absurd cc
-          ]
-
 -- ---- what holds where no code applies to a move
 
 pub record MayMove (m : PlantModel) (x : Move) (command : List ℕ) : Type 0 where
   pub short : is_long command ≡ false
   pub room : nat_le MAX_MOVES (length m.moves) ≡ false
   pub clear : is_ambiguous m.moves x ≡ false
-  pub into : is_into_broken m.moves x ≡ false
+  pub into : is_into_broken m x ≡ false
   pub exit : is_unmarked_exit m.moves x ≡ false
   pub one : mends_twice m.moves x ≡ false
+  pub cycle : is_repair_cycle m x ≡ false
 
 pub may_move : (m : PlantModel) (x : Move) (command : List ℕ) → least ((4, is_long command || nat_le MAX_MOVES (length m.moves)) ∷ move_faults m x) ≡ None → MayMove m x command
 may_move m x command e =
     let a = least_none 4 (is_long command || nat_le MAX_MOVES (length m.moves)) (move_faults m x) e in
-    let b = least_none 5 (is_ambiguous m.moves x) ((6, is_into_broken m.moves x) ∷ (7, is_unmarked_exit m.moves x) ∷ (8, mends_twice m.moves x) ∷ []) a.1 in
-    let c = least_none 6 (is_into_broken m.moves x) ((7, is_unmarked_exit m.moves x) ∷ (8, mends_twice m.moves x) ∷ []) b.1 in
-    let d = least_none 7 (is_unmarked_exit m.moves x) ((8, mends_twice m.moves x) ∷ []) c.1 in
-    let f = least_none 8 (mends_twice m.moves x) [] d.1 in
+    let b = least_none 5 (is_ambiguous m.moves x) ((6, is_into_broken m x) ∷ (7, is_unmarked_exit m.moves x) ∷ (8, mends_twice m.moves x) ∷ (21, is_repair_cycle m x) ∷ []) a.1 in
+    let c = least_none 6 (is_into_broken m x) ((7, is_unmarked_exit m.moves x) ∷ (8, mends_twice m.moves x) ∷ (21, is_repair_cycle m x) ∷ []) b.1 in
+    let d = least_none 7 (is_unmarked_exit m.moves x) ((8, mends_twice m.moves x) ∷ (21, is_repair_cycle m x) ∷ []) c.1 in
+    let f = least_none 8 (mends_twice m.moves x) ((21, is_repair_cycle m x) ∷ []) d.1 in
+    let g = least_none 21 (is_repair_cycle m x) [] f.1 in
     let limits = or_parts (is_long command) (nat_le MAX_MOVES (length m.moves)) a.0 in
-    record { short = limits.0; room = limits.1; clear = b.0; into = c.0; exit = d.0; one = f.0 }
+    record { short = limits.0; room = limits.1; clear = b.0; into = c.0; exit = d.0; one = f.0; cycle = g.0 }
 
 module _ (m : PlantModel) (x : Move) (command : List ℕ) (w : WellFormed m) (may : MayMove m x command) where
-  into_parts : (is_broken m.moves x.component x.target ≡ false) × ((x.repair && list_any (leads_to x.component x.source) (m.moves ++ x ∷ [])) ≡ false)
-  into_parts = or_parts (is_broken m.moves x.component x.target) _ may.into
-
-  exit_parts : ((not x.repair && is_broken m.moves x.component x.source) ≡ false) × ((x.repair && list_any (leaves_unmarked x.component x.source) m.moves) ≡ false)
-  exit_parts = or_parts (not x.repair && is_broken m.moves x.component x.source) _ may.exit
-
-  repairs_after : RepairsFit (m.moves ++ x ∷ [])
-  repairs_after = elim (cases_Bool x.repair) [
-    | inl r ↦ repair_fits m.moves x w.repairs r into_parts.0 (and_false x.repair _ into_parts.1 r) (and_false x.repair _ exit_parts.1 r) (and_false x.repair _ may.one r)
-    | inr r ↦ ordinary_fits m.moves x w.repairs r (and_false (not x.repair) _ exit_parts.0 (ap not r)) into_parts.0
-  ]
-
   own_command : (y : Move) → (y.command == x.command && (not (y.component == x.component) || y.source == x.source)) ≡ false → y.command ≡ x.command → (y.component ≡ x.component) × (y.source ≢ x.source)
   own_command y e same =
       let p = or_parts (not (y.component == x.component)) (y.source == x.source) (and_false (y.command == x.command) _ e (eq-eqb y.command x.command same)) in
@@ -187,6 +86,9 @@ module _ (m : PlantModel) (x : Move) (command : List ℕ) (w : WellFormed m) (ma
       (all_of_any (λ y. y.command == x.command && (not (y.component == x.component) || y.source == x.source)) m.moves may.clear)
 
   module _ (good : IsFormula m x.guard) (source : HasMode m x.component x.source) (target : HasMode m x.component x.target) (complete : IsComplete m) (number : x.command ≡ command_number m command) where
+    repairs_after : RepairsFit m.version (m.moves ++ x ∷ [])
+    repairs_after = codes_keep_rules m w x may.into may.exit may.one may.cycle
+
     -- the number of a command that the model has
     number_old : (k : ℕ) → place_of m.commands command ≡ Some k → x.command < length m.commands
     number_old k e =

@@ -1,5 +1,5 @@
 -- An item is read from its spelling, and from nothing else.
-use Rattle.std.proofs.Common.{◌≡◌, ℕ, Bool, true, false, codes, List, [], ◌∷◌, ◌++◌, Option, Some, None, refl, ap, subst, ◌∙◌, arith}
+use Rattle.std.proofs.Common.{◌≡◌, ℕ, Bool, true, false, codes, List, [], ◌∷◌, ◌++◌, Option, Some, None, refl, sym, ap, subst, ◌∙◌, arith}
 use Rattle.std.proofs.lemmas.Option.{same_Some}
 use Rattle.text_base.proofs.LexemeLaws.{kind_is, lexeme_is}
 use Rattle.list_laws.proofs.Tests.{cond_found}
@@ -8,7 +8,8 @@ use Rattle.text_base.specs.declared.token.Kind.TheVariants.{Number}
 use Rattle.text_base.specs.Lexemes.{Lexeme, word, number, symbol, comma, same_kind, is_lexeme, next_is, name_word_at}
 use Rattle.text_base.specs.Lists.{names_at, ended, name_list_spelled, names_spelled, AreNameWords}
 use Rattle.text_base.specs.Chain.{◌>>=◌}
-use Rattle.model_syntax.specs.Items.{Ends, Item, Header, Component, Variable, Rule, Move, Failure, Script, number_at, ends_at, header_at, component_at, sensed_at, variable_at, move_at, failure_at, item_of, ends_spelled, sensed_spelled, move_word, line_spelled, IsSpelled}
+use Rattle.formula_syntax.specs.Lookups.{or_else}
+use Rattle.model_syntax.specs.Items.{Ends, Item, Header, Component, Variable, Rule, Move, Failure, Script, number_at, ends_at, header_of, header_at, component_at, sensed_at, variable_at, move_at, failure_at, item_of, ends_spelled, sensed_spelled, move_word, line_spelled, IsSpelled}
 use Rattle.text_base.proofs.ChainLaws.{bind_some, then, next_read, after}
 use Rattle.text_base.proofs.NameGrammar.{reads_name, name_read, reads_names, names_read}
 use Rattle.text_base.proofs.PairGrammar.{equals_sign}
@@ -28,13 +29,21 @@ number_read (l ∷ ls) x e =
     let P : List ℕ × List Lexeme → Type 0 = λ y. l ∷ ls ≡ number y.0 ∷ y.1 in
     subst P (same_Some (l.1, ls) x p.1) (ap (λ (k : Kind). (k, l.1) ∷ ls) (kind_is l.0 Number p.0))
 
+header_one : (second : Bool) (digits : List ℕ) (ls : List Lexeme) (i : Item) → line_spelled (Header second) ≡ word (codes "titan") ∷ number digits ∷ [] → header_of second digits ls ≡ Some i
+    → IsWritten (word (codes "titan") ∷ ls) i
+header_one second digits ls i spelled e =
+    let a = bind_some (next_is (number digits) ls) (ended (Header second)) i e in
+    let d = ended_read (Header second) i a.0 a.2 in
+    let w = next_read (number digits) ls a.0 a.1 ∙ after (number digits) d.0 in
+    same_item IsWritten (word (codes "titan") ∷ ls) (Header second) i d.1 (after (word (codes "titan")) w ∙ sym spelled, tt)
+
 header_written : (ls : List Lexeme) (i : Item) → header_at ls ≡ Some i → IsWritten (word (codes "titan") ∷ ls) i
 unfolding header_at
-header_written ls i e =
-    let a = bind_some (next_is (number (codes "1")) ls) (ended Header) i e in
-    let d = ended_read Header i a.0 a.2 in
-    let w = next_read (number (codes "1")) ls a.0 a.1 ∙ after (number (codes "1")) d.0 in
-    same_item IsWritten (word (codes "titan") ∷ ls) Header i d.1 (after (word (codes "titan")) w, tt)
+header_written ls i e = go (header_of false (codes "1") ls) refl e
+  where
+    go : (o : Option Item) → header_of false (codes "1") ls ≡ o → or_else o (header_of true (codes "2") ls) ≡ Some i → IsWritten (word (codes "titan") ∷ ls) i
+    go (Some j) is e = header_one false (codes "1") ls i refl (is ∙ e)
+    go None is e = header_one true (codes "2") ls i refl e
 
 -- ---- components
 
@@ -228,7 +237,8 @@ failure_written ls i e =
 
 pub item_again : (i : Item) → IsSpelled i → item_of (line_spelled i) ≡ Some i
 unfolding header_at
-item_again Header h = refl
+item_again (Header false) h = refl
+item_again (Header true) h = refl
 item_again (Component name modes start) h = reads_component name modes start h
 item_again (Variable name values sensed) h = reads_variable name values sensed h
 item_again (Rule formula) h = refl

@@ -91,11 +91,11 @@ module _ (m : PlantModel) (w : WellFormed m) (text : List ℕ) where
 
   -- a command leaves all else as it was
   abbrev KeepsItems : PlantModel → Type 0
-  KeepsItems k = (k.components ≡ m.components) × (k.variables ≡ m.variables) × (k.rules ≡ m.rules) × (k.moves ≡ m.moves) × (k.failures ≡ m.failures)
+  KeepsItems k = (k.version ≡ m.version) × (k.components ≡ m.components) × (k.variables ≡ m.variables) × (k.rules ≡ m.rules) × (k.moves ≡ m.moves) × (k.failures ≡ m.failures)
 
   named_keeps : (b : Bool) (command : List ℕ) → KeepsItems (cond b m (with_command m command))
-  named_keeps true command = (refl, refl, refl, refl, refl)
-  named_keeps false command = (refl, refl, refl, refl, refl)
+  named_keeps true command = (refl, refl, refl, refl, refl, refl)
+  named_keeps false command = (refl, refl, refl, refl, refl, refl)
 
   -- a component that has a mode is declared
   declared : (c a : ℕ) → HasMode m c a → 0 < slice_index (mode_counts m) c
@@ -132,7 +132,7 @@ module _ (m : PlantModel) (w : WellFormed m) (text : List ℕ) where
         let short : NoLonger (move_words said) (move_words (spelling t)) = behind_all front said (spelling t) (formula_printed (grown x) t g known) in
         let line = move_said (grown x) (new x) in
         let short_line : NoLonger line (move_words (spelling t)) = subst (λ (y : List Lexeme). NoLonger y (move_words (spelling t))) (sym (move_printed x g h)) short in
-        move_adds m w (with_named m command) (new x) text g k.0 k.1 k.2 k.3 k.4 (printed text line (move_words (spelling t)) short_line (whole_passes t []) room)
+        move_adds m w (with_named m command) (new x) text g k.0 k.1 k.2 k.3 k.4 k.5 (printed text line (move_words (spelling t)) short_line (whole_passes t []) room)
 
     move_known : (x : ℕ × ℕ × ℕ) → move_code_from m repair (Some x) command t ≡ None → names_unknown m t ≡ false
     move_known x e =
@@ -178,7 +178,7 @@ module _ (m : PlantModel) (w : WellFormed m) (text : List ℕ) where
   with_number n digits f r = elim r [ inl p ↦ (p.0, p.2, p.3) | inr q ↦ absurd (let e = q.1 in cc) ]
 
   item_adds : (n : PlantModel) (item : Item) → HasRoom text (line_spelled item) → IsNextOfItem m item (Goes n) → Adds n
-  item_adds n items.Header room e = absurd cc
+  item_adds n (items.Header second) room e = absurd cc
   item_adds n (items.Component name modes start) room e = component_line n name modes start room e
   item_adds n (items.Variable name values sensed) room e = variable_line n name values sensed room e
   item_adds n (items.Rule formula) room e =

@@ -39,7 +39,7 @@ bare_list [] rest h free = refl
 bare_list (name ∷ names) rest h free = bare_names name names rest h free
 
 words_of_item : (i : Item) → IsSpelled i → OfKinds (line_spelled i) → HasBareNames i
-words_of_item Header s h = tt
+words_of_item (Header second) s h = tt
 words_of_item (Component name modes start) s h =
     let rest = name_list_spelled modes ++ word (codes "start") ∷ word start ∷ [] in
     let a = first (word (codes "component")) (word name ∷ symbol (codes "=") ∷ rest) h in

@@ -1,11 +1,12 @@
 -- What the lines of a model lead to is well formed, and uses each of its commands.
-use Rattle.std.proofs.Common.{◌≡◌, ℕ, inl, inr, Bool, true, false, cond, ◌||◌, List, [], ◌∷◌, length, map, Option, Some, None, Result, Ok, Err, refl, sym, ap, subst, ◌∙◌}
+use Rattle.std.proofs.Common.{◌≡◌, ◌⊎◌, ℕ, inl, inr, Bool, true, false, cond, ◌||◌, List, [], ◌∷◌, length, map, Option, Some, None, Result, Ok, Err, refl, sym, ap, subst, ◌∙◌}
 use Rattle.std.specs.Prelude.{nat_le}
 use Rattle.cca_base.specs.declared.formula.Subject.TheVariants as subjects
 use Rattle.cca_base.specs.declared.limits.TheConstants.{MAX_RULES, MAX_MOVES}
 use Rattle.cca_base.specs.declared.model.Move.{Move}
 use Rattle.cca_base.specs.PlantModel.{PlantModel}
-use Rattle.cca_base.specs.Model.{HasMode, with_component, with_variable, with_rule, with_move, with_failure}
+use Rattle.cca_base.specs.Model.{HasMode, in_second, with_component, with_variable, with_rule, with_move, with_failure}
+use Rattle.cca_base.proofs.EmptyModel.{second_well_formed}
 use Rattle.text_base.specs.Tokens.{Tok, tokens_of, IsOfItsKind}
 use Rattle.std.specs.List.{AllByRecursion}
 use Rattle.std.proofs.lemmas.Bool.{or_parts}
@@ -172,7 +173,7 @@ failure_good m n ends k good h = failure_good_from m n ends k (ends_of m ends) g
 -- ---- lines
 
 item_good : (m n : PlantModel) (item : Item) → IsGood m → HasBareNames item → IsNextOfItem m item (Goes n) → IsGood n
-item_good m n items.Header good bare h = absurd cc
+item_good m n (items.Header second) good bare h = absurd cc
 item_good m n (items.Component name modes start) good bare h = component_good m n name modes start good bare h
 item_good m n (items.Variable name values sensed) good bare h = variable_good m n name values sensed good bare h
 item_good m n (items.Rule formula) good bare h = rule_good m n formula good h
@@ -193,9 +194,10 @@ next_goes (Goes m) t e = let same : t ≡ record { model = m; begun = true } = c
 next_goes (Refused code) t e = absurd cc
 next_goes Ended t e = absurd cc
 
-opening_same : (m : PlantModel) (form : Option Item) (t : ModelSoFar) → Reads t ≡ opening m form → m ≡ t.model
+opening_same : (m : PlantModel) (form : Option Item) (t : ModelSoFar) → Reads t ≡ opening m form → (t.model ≡ m) ⊎ (t.model ≡ in_second m)
 opening_same m None t e = absurd cc
-opening_same m (Some items.Header) t e = let same : t ≡ record { model = m; begun = true } = cc in ap (λ (r : ModelSoFar). r.model) (sym same)
+opening_same m (Some (items.Header false)) t e = let same : t ≡ record { model = m; begun = true } = cc in inl (ap (λ (r : ModelSoFar). r.model) same)
+opening_same m (Some (items.Header true)) t e = let same : t ≡ record { model = in_second m; begun = true } = cc in inr (ap (λ (r : ModelSoFar). r.model) same)
 opening_same m (Some (items.Component name modes start)) t e = absurd cc
 opening_same m (Some (items.Variable name values sensed)) t e = absurd cc
 opening_same m (Some (items.Rule formula)) t e = absurd cc
@@ -205,7 +207,10 @@ opening_same m (Some items.Script) t e = absurd cc
 
 leads_good : (begun : Bool) (m : PlantModel) (form : Option Item) (t : ModelSoFar) → IsGood m → ((item : Item) → form ≡ Some item → HasBareNames item) → LeadsByForm begun m form (Reads t) → IsGood t.model
 leads_good true m form t good bare (next, h, e) = form_good m t.model form good bare (subst (IsNextOfForm m form) (next_goes next t e) h)
-leads_good false m form t good bare h = subst IsGood (opening_same m form t h) good
+leads_good false m form t good bare h = elim (opening_same m form t h) [
+  | inl same ↦ subst IsGood (sym same) good
+  | inr second ↦ subst IsGood (sym second) (record { well_formed = second_well_formed m good.well_formed; complete = good.complete })
+]
 
 tokens_good : (s t : ModelSoFar) (ts : Result (List Tok) ℕ) → IsGood s.model → ((toks : List Tok) → ts ≡ Ok toks → AllByRecursion IsOfItsKind toks) → LeadsByTokens s ts (Reads t) → IsGood t.model
 tokens_good s t (Err at) good kinds h = absurd cc

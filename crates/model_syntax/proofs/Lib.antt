@@ -39,3 +39,6 @@ pub mod PrintedFaults
 pub mod PrintedMoves
 pub mod JoinedBytes
 pub mod PrintedModel
+mod ChainTests
+mod RepairCodes
+mod RepairsAsBefore

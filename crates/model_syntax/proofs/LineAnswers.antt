@@ -11,7 +11,7 @@ use Rattle.model_syntax.specs.declared.line_end.LineEnd.TheVariants as ends
 use Rattle.model_syntax.specs.Items.{Item, item_of}
 use Rattle.model_syntax.specs.Lines.{Goes, Refused, Ended, ModelSoFar, LineOutcome, Reads, Refuses, Finishes, IsNextOfItem, FailsModel, AnswersItem, FailsLine, AnswersLine, LeadsByForm, LeadsByTokens}
 
--- the reading behind `titan 1`
+-- the reading behind the line of the version
 abbrev begun : PlantModel → ModelSoFar
 begun m = record { model = m; begun = true }
 
@@ -19,7 +19,7 @@ fails_item : (e : Stop) (item : Item) (old new : PlantModel) → FailsModel e ol
 fails_item stops.Memory item old new h = ap begun h
 fails_item (stops.Refused refusal) item old new h = ((Refused refusal.code, h.0, refl), h.1, ap begun h.2)
 
--- behind `titan 1`
+-- behind the line of the version
 pub item_answers : (r : Result LineEnd Stop) (item : Item) (old new : PlantModel) → AnswersItem r old new (IsNextOfItem old item) → AnswersLine r (begun old) (begun new) (LeadsByForm true old (Some item))
 item_answers (Ok ends.Going) item old new h = (Goes new, h, refl)
 item_answers (Ok ends.Script) item old new h = ((Ended, h.0, refl), ap begun h.1)

@@ -31,7 +31,7 @@ number_once digits f a b (inr (none, h)) (inl (k, less, g, i)) = absurd (none k 
 number_once digits f a b (inr (none, h)) (inr (other, i)) = h ∙ sym i
 
 item_once : (m : PlantModel) (item : Item) (a b : Next) → IsNextOfItem m item a → IsNextOfItem m item b → a ≡ b
-item_once m Header a b h k = h ∙ sym k
+item_once m (Header second) a b h k = h ∙ sym k
 item_once m (Component name modes start) a b h k = h ∙ sym k
 item_once m (Variable name values sensed) a b h k = h ∙ sym k
 item_once m (Rule formula) a b h k = text_once formula (rule_next m) a b h k

@@ -44,10 +44,10 @@ fits_list name choices h c =
 
 -- ---- components
 
-module _ (all : List Component) (names : AreNames (map (λ (c : Component). c.name) all)) (components : All IsComponent all) (few : length all ≤ MAX_COMPONENTS) where
+module _ (version : ℕ) (all : List Component) (names : AreNames (map (λ (c : Component). c.name) all)) (components : All IsComponent all) (few : length all ≤ MAX_COMPONENTS) where
   -- the model with some components and nothing else
   abbrev pub only_components : List Component → PlantModel
-  only_components cs = record { components = cs; variables = []; rules = []; commands = []; moves = []; failures = [] }
+  only_components cs = record { version = version; components = cs; variables = []; rules = []; commands = []; moves = []; failures = [] }
 
   abbrev name_of_part : Component → List ℕ
   name_of_part c = c.name
@@ -105,10 +105,10 @@ sensed_kinds : (sensed : Bool) → AreOfTheirKinds (sensed_spelled sensed)
 sensed_kinds true = refl
 sensed_kinds false = refl
 
-module _ (cs : List Component) (all : List Variable) (names : AreNames (map (λ (c : Component). c.name) cs ++ map (λ (v : Variable). v.name) all)) (variables : All (λ (v : Variable). AreChoices v.values) all) (few : length all ≤ MAX_VARIABLES) where
+module _ (version : ℕ) (cs : List Component) (all : List Variable) (names : AreNames (map (λ (c : Component). c.name) cs ++ map (λ (v : Variable). v.name) all)) (variables : All (λ (v : Variable). AreChoices v.values) all) (few : length all ≤ MAX_VARIABLES) where
   -- the model with these components, some variables and nothing else
   abbrev pub with_variables : List Variable → PlantModel
-  with_variables vs = record { components = cs; variables = vs; rules = []; commands = []; moves = []; failures = [] }
+  with_variables vs = record { version = version; components = cs; variables = vs; rules = []; commands = []; moves = []; failures = [] }
 
   abbrev name_of_quantity : Variable → List ℕ
   name_of_quantity v = v.name

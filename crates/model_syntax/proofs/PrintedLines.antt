@@ -1,5 +1,5 @@
 -- A printed line is read as its item, and leads to the model with it.
-use Rattle.std.proofs.Common.{◌≡◌, ◌≢◌, ℕ, zero, suc, ◌<◌, ◌^◌, Bool, true, false, not, ◌&&◌, ◌||◌, List, [], ◌∷◌, ◌++◌, length, map, Option, Some, None, Result, Ok, Err, IsTrue, All, slice_get, refl, sym, ap, subst, ◌∙◌, arith, append_assoc}
+use Rattle.std.proofs.Common.{◌≡◌, ◌≢◌, ℕ, zero, suc, ◌<◌, ◌^◌, Bool, true, false, not, ◌&&◌, ◌||◌, List, [], ◌∷◌, ◌++◌, length, map, Option, Some, None, Result, Ok, Err, IsTrue, All, slice_get, inl, inr, refl, sym, ap, subst, ◌∙◌, arith, append_assoc}
 use Rattle.std.specs.Prelude.{nat_le}
 use Rattle.std.specs.List.{list_all, list_any}
 use Rattle.std.specs.Option.{option_map_or}
@@ -15,7 +15,7 @@ use Rattle.cca_base.specs.declared.formula.Formula.{Formula}
 use Rattle.cca_base.specs.declared.limits.TheConstants.{MAX_NAME, MAX_DEPTH}
 use Rattle.cca_base.specs.PlantModel.{PlantModel}
 use Rattle.cca_base.specs.Names.{is_name, is_word, is_reserved, AreNames, AreDifferent}
-use Rattle.cca_base.specs.Model.{IsFormula}
+use Rattle.cca_base.specs.Model.{IsFormula, IsVersion, empty_model}
 use Rattle.cca_base.proofs.Pairwise.{AllPairs-tail, AllPairs-head}
 use Rattle.text_base.specs.Tokens.{Tok, tokens_of, is_digits}
 use Rattle.text_base.specs.Lexemes.{Lexeme}
@@ -27,8 +27,8 @@ use Rattle.text_base.specs.Lists.{AreNameWords}
 use Rattle.formula_syntax.specs.Lookups.{place_of}
 use Rattle.formula_syntax.specs.Meanings.{has_twice, verdict, reading_of, whole_depth, whole_formula, names_unknown, lists_twice, is_deep}
 use Rattle.model_syntax.specs.Codes.{is_long}
-use Rattle.model_syntax.specs.Lines.{Next, ModelSoFar, Reads, LineLeads, LeadsByForm, LeadsByTokens, IsNextOfItem, outcome}
-use Rattle.model_syntax.specs.Printing.{formula_said, joined, name_at}
+use Rattle.model_syntax.specs.Lines.{Next, ModelSoFar, Reads, LineLeads, LeadsByForm, LeadsByTokens, IsNextOfItem, outcome, opening}
+use Rattle.model_syntax.specs.Printing.{header_said, formula_said, joined, name_at}
 use Rattle.model_syntax.specs.RoundTrip.{AreOfTheirKinds, AreTokens, ReadsTo}
 use Rattle.formula_syntax.proofs.FormulaReadWhole.{one_way}
 use Rattle.model_syntax.proofs.ItemGrammar.{item_again}
@@ -38,7 +38,7 @@ use Rattle.model_syntax.proofs.PrintedFormulas.{printed_text}
 use Rattle.model_syntax.proofs.PrintedNames.{HasNames, atom_read, place_found, member_at}
 use Rattle.model_syntax.proofs.PrintedParts.{name_parts}
 
--- a reader behind `titan 1`
+-- a reader behind the line of the version
 abbrev pub begun : PlantModel → ModelSoFar
 begun m = record { model = m; begun = true }
 
@@ -54,13 +54,25 @@ tokens_lead n (Ok (t ∷ ts)) ls i next h e k =
 pub line_leads : (n : PlantModel) (ls : List Lexeme) (i : Item) (next : Next) → AreOfTheirKinds ls → ls ≡ line_spelled i → IsSpelled i → IsNextOfItem n i next → LineLeads (begun n) (joined ls) (outcome next)
 line_leads n ls i next kinds e spelled k = tokens_lead n (tokens_of (joined ls)) ls i next (joined_read ls kinds) (ap item_of e ∙ item_again i spelled) k
 
-header_tokens : (r : Result (List Tok) ℕ) (ls : List Lexeme) (m : PlantModel) → AreTokens ls r → item_of ls ≡ Some Header → LeadsByTokens (record { model = m; begun = false }) r (Reads (begun m))
-header_tokens (Err at) ls m h e = absurd h
-header_tokens (Ok []) ls m h e = let none : None ≡ Some Header = ap item_of h ∙ e in absurd cc
-header_tokens (Ok (t ∷ ts)) ls m h e = subst (λ form. LeadsByForm false m form (Reads (begun m))) (sym (ap item_of h ∙ e)) refl
+header_tokens : (r : Result (List Tok) ℕ) (ls : List Lexeme) (m n : PlantModel) (i : Item) → AreTokens ls r → item_of ls ≡ Some i → opening m (Some i) ≡ Reads (begun n)
+    → LeadsByTokens (record { model = m; begun = false }) r (Reads (begun n))
+header_tokens (Err at) ls m n i h e o = absurd h
+header_tokens (Ok []) ls m n i h e o = let none : None ≡ Some i = ap item_of h ∙ e in absurd cc
+header_tokens (Ok (t ∷ ts)) ls m n i h e o = subst (λ form. LeadsByForm false m form (Reads (begun n))) (sym (ap item_of h ∙ e)) (sym o)
 
-pub header_leads : (m : PlantModel) → LineLeads (record { model = m; begun = false }) (joined (line_spelled Header)) (Reads (begun m))
-header_leads m = header_tokens (tokens_of (joined (line_spelled Header))) (line_spelled Header) m (joined_read (line_spelled Header) refl) (item_again Header tt)
+-- the header's tokens are of their kinds
+pub header_kinds : (version : ℕ) → IsVersion version → AreOfTheirKinds (header_said version)
+header_kinds version (inl first) = subst (λ v. AreOfTheirKinds (header_said v)) (sym first) refl
+header_kinds version (inr second) = subst (λ v. AreOfTheirKinds (header_said v)) (sym second) refl
+
+-- the header leads from the first version's empty model to that of its version
+pub header_leads : (version : ℕ) → IsVersion version → LineLeads (record { model = empty_model 1; begun = false }) (joined (header_said version)) (Reads (begun (empty_model version)))
+header_leads version (inl first) =
+    subst (λ v. LineLeads (record { model = empty_model 1; begun = false }) (joined (header_said v)) (Reads (begun (empty_model v)))) (sym first)
+    (header_tokens (tokens_of (joined (header_said 1))) (line_spelled (Header false)) (empty_model 1) (empty_model 1) (Header false) (joined_read (line_spelled (Header false)) refl) (item_again (Header false) tt) refl)
+header_leads version (inr second) =
+    subst (λ v. LineLeads (record { model = empty_model 1; begun = false }) (joined (header_said v)) (Reads (begun (empty_model v)))) (sym second)
+    (header_tokens (tokens_of (joined (header_said 2))) (line_spelled (Header true)) (empty_model 1) (empty_model 2) (Header true) (joined_read (line_spelled (Header true)) refl) (item_again (Header true) tt) refl)
 
 -- lines, and then others
 pub reads_on : (s t u : ModelSoFar) (ls ms : List (List ℕ)) → ReadsTo s ls t → ReadsTo t ms u → ReadsTo s (ls ++ ms) u

@@ -14,7 +14,7 @@ use Rattle.model_syntax.specs.Printing.{joined, header_said, component_said, var
 use Rattle.model_syntax.specs.RoundTrip.{ReadsTo, AreOfTheirKinds}
 use Rattle.model_syntax.proofs.PrintedDeclarations.{only_components, component_leads, component_kinds, with_variables, variable_leads, variable_kinds}
 use Rattle.model_syntax.proofs.JoinedBytes.{joined_whole}
-use Rattle.model_syntax.proofs.PrintedLines.{begun, header_leads, reads_on, run_leads}
+use Rattle.model_syntax.proofs.PrintedLines.{begun, header_kinds, header_leads, reads_on, run_leads}
 use Rattle.model_syntax.proofs.PrintedMoves.{used, all_used, with_moves, move_leads, move_kinds}
 use Rattle.model_syntax.proofs.PrintedNames.{HasNames, pairs_left}
 use Rattle.model_syntax.proofs.PrintedRules.{with_rules, rule_leads, rule_kinds, with_failures, failure_leads, failure_kinds}
@@ -41,25 +41,25 @@ module _ (m : PlantModel) (w : WellFormed m) where
 
   -- the models in between
   abbrev with_all_components : PlantModel
-  with_all_components = record { components = m.components; variables = []; rules = []; commands = []; moves = []; failures = [] }
+  with_all_components = record { version = m.version; components = m.components; variables = []; rules = []; commands = []; moves = []; failures = [] }
 
   abbrev with_all_variables : PlantModel
-  with_all_variables = record { components = m.components; variables = m.variables; rules = []; commands = []; moves = []; failures = [] }
+  with_all_variables = record { version = m.version; components = m.components; variables = m.variables; rules = []; commands = []; moves = []; failures = [] }
 
   abbrev with_all_rules : PlantModel
-  with_all_rules = record { components = m.components; variables = m.variables; rules = m.rules; commands = []; moves = []; failures = [] }
+  with_all_rules = record { version = m.version; components = m.components; variables = m.variables; rules = m.rules; commands = []; moves = []; failures = [] }
 
   abbrev with_all_moves : PlantModel
-  with_all_moves = record { components = m.components; variables = m.variables; rules = m.rules; commands = m.commands; moves = m.moves; failures = [] }
+  with_all_moves = record { version = m.version; components = m.components; variables = m.variables; rules = m.rules; commands = m.commands; moves = m.moves; failures = [] }
 
-  components_read : ReadsTo (begun empty_model) (map joined (map component_said m.components)) (begun with_all_components)
+  components_read : ReadsTo (begun (empty_model m.version)) (map joined (map component_said m.components)) (begun with_all_components)
   components_read =
-      run_leads component_said (only_components m.components named w.components w.limits.components) m.components (component_leads m.components named w.components w.limits.components) [] m.components refl
+      run_leads component_said (only_components m.version m.components named w.components w.limits.components) m.components (component_leads m.version m.components named w.components w.limits.components) [] m.components refl
 
   variables_read : ReadsTo (begun with_all_components) (map joined (map variable_said m.variables)) (begun with_all_variables)
   variables_read =
-      run_leads variable_said (with_variables m.components m.variables w.names w.variables w.limits.variables) m.variables
-      (variable_leads m.components m.variables w.names w.variables w.limits.variables) [] m.variables refl
+      run_leads variable_said (with_variables m.version m.components m.variables w.names w.variables w.limits.variables) m.variables
+      (variable_leads m.version m.components m.variables w.names w.variables w.limits.variables) [] m.variables refl
 
   rules_read : ReadsTo (begun with_all_variables) (map joined (map (rule_said m) m.rules)) (begun with_all_rules)
   rules_read = run_leads (rule_said m) (with_rules m has_names w.rules w.limits.rules) m.rules (rule_leads m has_names w.rules w.limits.rules) [] m.rules refl
@@ -75,18 +75,18 @@ module _ (m : PlantModel) (w : WellFormed m) where
   failures_read : ReadsTo (begun with_all_moves) (map joined (map (failure_said m) m.failures)) (begun m)
   failures_read = run_leads (failure_said m) (with_failures m has_names w.failures w.limits.failures) m.failures (failure_leads m has_names w.failures w.limits.failures) [] m.failures refl
 
-  pub model_read : IsComplete m → ReadsTo (record { model = empty_model; begun = false }) (map joined (lines_said m)) (begun m)
+  pub model_read : IsComplete m → ReadsTo (record { model = empty_model 1; begun = false }) (map joined (lines_said m)) (begun m)
   model_read complete =
       let cs = map component_said m.components in
       let vs = map variable_said m.variables in
       let rs = map (rule_said m) m.rules in
       let xs = map (move_said m) m.moves in (
-        begun empty_model,
-        header_leads empty_model,
-        both (begun empty_model) (begun with_all_moves) (begun m) (cs ++ vs ++ rs ++ xs) (map (failure_said m) m.failures)
-            (both (begun empty_model) (begun with_all_rules) (begun with_all_moves) (cs ++ vs ++ rs) xs
-            (both (begun empty_model) (begun with_all_variables) (begun with_all_rules) (cs ++ vs) rs
-            (both (begun empty_model) (begun with_all_components) (begun with_all_variables) cs vs components_read variables_read) rules_read) (moves_read complete)) failures_read,
+        begun (empty_model m.version),
+        header_leads m.version w.version,
+        both (begun (empty_model m.version)) (begun with_all_moves) (begun m) (cs ++ vs ++ rs ++ xs) (map (failure_said m) m.failures)
+            (both (begun (empty_model m.version)) (begun with_all_rules) (begun with_all_moves) (cs ++ vs ++ rs) xs
+            (both (begun (empty_model m.version)) (begun with_all_variables) (begun with_all_rules) (cs ++ vs) rs
+            (both (begun (empty_model m.version)) (begun with_all_components) (begun with_all_variables) cs vs components_read variables_read) rules_read) (moves_read complete)) failures_read,
       )
 
   -- ---- the bytes of the lines
@@ -109,12 +109,12 @@ module _ (m : PlantModel) (w : WellFormed m) where
       let rs = map (rule_said m) m.rules in
       let xs = map (move_said m) m.moves in
       let fs = map (failure_said m) m.failures in
-      All-cons (λ line. All (λ b. b ≢ 10) line) (joined header_said) (map joined (cs ++ vs ++ rs ++ xs ++ fs)) (joined_whole header_said refl)
+      All-cons (λ line. All (λ b. b ≢ 10) line) (joined (header_said m.version)) (map joined (cs ++ vs ++ rs ++ xs ++ fs)) (joined_whole (header_said m.version) (header_kinds m.version w.version))
       (all_whole (cs ++ vs ++ rs ++ xs) fs
       (all_whole (cs ++ vs ++ rs) xs
       (all_whole (cs ++ vs) rs
-      (all_whole cs vs (each_line component_said m.components (component_kinds m.components named w.components w.limits.components) [] m.components refl)
-      (each_line variable_said m.variables (variable_kinds m.components m.variables w.names w.variables w.limits.variables) [] m.variables refl))
+      (all_whole cs vs (each_line component_said m.components (component_kinds m.version m.components named w.components w.limits.components) [] m.components refl)
+      (each_line variable_said m.variables (variable_kinds m.version m.components m.variables w.names w.variables w.limits.variables) [] m.variables refl))
       (each_line (rule_said m) m.rules (rule_kinds m has_names w.rules w.limits.rules) [] m.rules refl))
       (each_line (move_said m) m.moves (move_kinds m w) [] m.moves refl))
       (each_line (failure_said m) m.failures (failure_kinds m has_names w.failures w.limits.failures) [] m.failures refl))

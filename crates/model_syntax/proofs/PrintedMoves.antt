@@ -20,12 +20,13 @@ use Rattle.model_syntax.specs.Items.{Ends, move_word}
 use Rattle.model_syntax.specs.Items as items
 use Rattle.formula_syntax.specs.Lookups.{place_of}
 use Rattle.formula_syntax.specs.Meanings.{whole_formula, names_unknown, lists_twice, is_deep}
-use Rattle.model_syntax.specs.Codes.{least, is_long, ends_of, command_number, new_move, with_named, move_faults, move_code, move_code_from}
+use Rattle.model_syntax.specs.Codes.{least, is_long, ends_of, command_number, new_move, with_named, is_into_broken, is_unmarked_exit, mends_twice, is_repair_cycle, move_faults, move_code, move_code_from}
 use Rattle.model_syntax.specs.Lines.{Goes, Reads, LineLeads, unless, with_declared, move_next}
 use Rattle.model_syntax.specs.Printing.{joined, name_at, formula_said, ends_said, move_said}
 use Rattle.model_syntax.specs.RoundTrip.{AreOfTheirKinds}
 use Rattle.formula_syntax.proofs.UnknownNames.{position_none, different_text}
-use Rattle.model_syntax.proofs.PrintedFaults.{not_ambiguous, not_into_broken, not_unmarked_exit, not_mended_twice}
+use Rattle.model_syntax.proofs.PrintedFaults.{not_ambiguous}
+use Rattle.model_syntax.proofs.RepairCodes.{rules_give_no_code}
 use Rattle.model_syntax.proofs.PrintedLines.{begun, line_leads, IsAt, name_there, not_too_long, IsReadAs, formula_read}
 use Rattle.model_syntax.proofs.PrintedNames.{HasNames, pairs_across, place_found}
 use Rattle.model_syntax.proofs.PrintedParts.{name_parts, word_kind}
@@ -127,14 +128,14 @@ next_is_new commands k text h e =
     let split = subst AreDifferent (sym (take-append-drop k commands)) h in
     position_none (λ name. bytes_eq name text) (take k commands) (no_others text (take k commands) (pairs_across (λ a b. a ≢ b) (take k commands) (drop k commands) 0 text split (got_dropped commands k ∙ e)))
 
-none_of_seven : (a b c : Bool) (d e f g : Bool) (i j k p q r s : ℕ) → a ≡ false → b ≡ false → c ≡ false → d ≡ false → e ≡ false → f ≡ false → g ≡ false
-    → least ((i, a) ∷ (j, b) ∷ (k, c) ∷ (p, d) ∷ (q, e) ∷ (r, f) ∷ (s, g) ∷ []) ≡ None
-none_of_seven a b c d e f g i j k p q r s ha hb hc hd he hf hg = rw (ha, hb, hc, hd, he, hf, hg) refl
+none_of_eight : (a b c : Bool) (d e f g h : Bool) (i j k p q r s t : ℕ) → a ≡ false → b ≡ false → c ≡ false → d ≡ false → e ≡ false → f ≡ false → g ≡ false → h ≡ false
+    → least ((i, a) ∷ (j, b) ∷ (k, c) ∷ (p, d) ∷ (q, e) ∷ (r, f) ∷ (s, g) ∷ (t, h) ∷ []) ≡ None
+none_of_eight a b c d e f g h i j k p q r s t ha hb hc hd he hf hg hh = rw (ha, hb, hc, hd, he, hf, hg, hh) refl
 
 module _ (m : PlantModel) (w : WellFormed m) where
   -- the model with some of its moves and their commands, and without failures
   abbrev pub with_moves : List Move → PlantModel
-  with_moves xs = record { components = m.components; variables = m.variables; rules = m.rules; commands = take (used xs) m.commands; moves = xs; failures = [] }
+  with_moves xs = record { version = m.version; components = m.components; variables = m.variables; rules = m.rules; commands = take (used xs) m.commands; moves = xs; failures = [] }
 
   module _ (front : List Move) (x : Move) (rest : List Move) (e : front ++ x ∷ rest ≡ m.moves) where
     abbrev n : PlantModel
@@ -206,8 +207,11 @@ module _ (m : PlantModel) (w : WellFormed m) where
     guard : IsReadAs n (formula_said m x.guard) x.guard
     guard = formula_read n named x.guard (record { fits = sound.guard.fits; shallow = sound.guard.shallow })
 
-    repairs : RepairsFit (front ++ x ∷ rest)
-    repairs = subst RepairsFit (sym e) w.repairs
+    repairs : RepairsFit m.version (front ++ x ∷ rest)
+    repairs = subst (RepairsFit m.version) (sym e) w.repairs
+
+    no_faults : (is_into_broken n x ≡ false) × (is_unmarked_exit front x ≡ false) × (mends_twice front x ≡ false) × (is_repair_cycle n x ≡ false)
+    no_faults = rules_give_no_code n x rest repairs
 
     commands : CommandsFit (front ++ x ∷ rest)
     commands = subst CommandsFit (sym e) w.commands
@@ -221,8 +225,8 @@ module _ (m : PlantModel) (w : WellFormed m) where
         → move_code_from n x.repair (Some (x.component, x.source, x.target)) command t ≡ None
     no_code t a b d g =
         ap (λ y. least ((2, names_unknown n t) ∷ (3, lists_twice t) ∷ (4, is_deep t || (is_long command || nat_le MAX_MOVES (length front))) ∷ move_faults n y)) (new_is t g)
-        ∙ none_of_seven _ _ _ _ _ _ _ 2 3 4 5 6 7 8 a b (or_from _ _ d (or_from _ _ (not_too_long command called.name) room))
-        (not_ambiguous front x rest repairs commands) (not_into_broken front x rest repairs commands) (not_unmarked_exit front x rest repairs commands) (not_mended_twice front x rest repairs commands)
+        ∙ none_of_eight _ _ _ _ _ _ _ _ 2 3 4 5 6 7 8 21 a b (or_from _ _ d (or_from _ _ (not_too_long command called.name) room))
+        (not_ambiguous front x rest commands) no_faults.0 no_faults.1 no_faults.2 no_faults.3
 
     next_is : (t : Whole) → formula_said m x.guard ≡ spelling t → Goes (with_moves (front ++ x ∷ [])) ≡ move_next n x.repair words command t
     unfolding move_code

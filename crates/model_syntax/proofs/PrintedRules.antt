@@ -31,7 +31,7 @@ use Rattle.model_syntax.proofs.PrintedParts.{name_parts, word_kind}
 module _ (m : PlantModel) (h : HasNames m) (rules : All (IsFormula m) m.rules) (few : length m.rules ≤ MAX_RULES) where
   -- the model with some of its rules, and without moves and failures
   abbrev pub with_rules : List Formula → PlantModel
-  with_rules rs = record { components = m.components; variables = m.variables; rules = rs; commands = []; moves = []; failures = [] }
+  with_rules rs = record { version = m.version; components = m.components; variables = m.variables; rules = rs; commands = []; moves = []; failures = [] }
 
   module _ (front : List Formula) (f : Formula) (rest : List Formula) (e : front ++ f ∷ rest ≡ m.rules) where
     abbrev n : PlantModel
@@ -96,7 +96,7 @@ module _ (n : PlantModel) (h : HasNames n) (c a b : ℕ) (source : HasMode n c a
 module _ (m : PlantModel) (h : HasNames m) (failures : All (IsFailure m) m.failures) (few : length m.failures ≤ MAX_FAILURES) where
   -- the model with some of its failures
   abbrev pub with_failures : List Failure → PlantModel
-  with_failures fs = record { components = m.components; variables = m.variables; rules = m.rules; commands = m.commands; moves = m.moves; failures = fs }
+  with_failures fs = record { version = m.version; components = m.components; variables = m.variables; rules = m.rules; commands = m.commands; moves = m.moves; failures = fs }
 
   module _ (front : List Failure) (x : Failure) (rest : List Failure) (e : front ++ x ∷ rest ≡ m.failures) where
     abbrev k : PlantModel

@@ -39,12 +39,12 @@ made_behind : (s t u : Draft) (ls ms : List (List Lexeme)) → t ≡ with_lines 
 made_behind s t u ls ms e f = f ∙ ap (λ x. with_lines x ms) e ∙ sym (with_lines-append s ls ms)
 
 -- the lines of a model, made one kind after the other, are the printed model
-pub printed_model-made : (m : PlantModel) (a b c d e f : Draft) → a ≡ with_lines blank (header_said ∷ []) → b ≡ with_lines a (map component_said m.components)
+pub printed_model-made : (m : PlantModel) (a b c d e f : Draft) → a ≡ with_lines blank (header_said m.version ∷ []) → b ≡ with_lines a (map component_said m.components)
     → c ≡ with_lines b (map variable_said m.variables) → d ≡ with_lines c (map (rule_said m) m.rules) → e ≡ with_lines d (map (move_said m) m.moves) → f ≡ with_lines e (map (failure_said m) m.failures)
     → f.text ≡ printed_model m
 unfolding printed_model
 printed_model-made m a b c d e f ha hb hc hd he hf =
-    let start = header_said ∷ [] in
+    let start = header_said m.version ∷ [] in
     let cs = map component_said m.components in
     let vs = map variable_said m.variables in
     let rs = map (rule_said m) m.rules in

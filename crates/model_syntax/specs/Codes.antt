@@ -1,8 +1,8 @@
 -- What is wrong with a line that has a form, and which code it gets.
-use Rattle.std.specs.Prelude.{ℕ, Bool, ◌||◌, ◌&&◌, ◌==◌, not, if◌then◌else◌, nat_lt, nat_le, is_some, unwrap_or, List, [], ◌∷◌, ◌++◌, length, Option, Some, None}
-use Rattle.std.specs.List.{list_any}
+use Rattle.std.specs.Prelude.{ℕ, zero, suc, false, Bool, ◌||◌, ◌&&◌, ◌==◌, not, if◌then◌else◌, nat_lt, nat_le, is_some, unwrap_or, List, [], ◌∷◌, ◌++◌, length, Option, Some, None}
+use Rattle.std.specs.Option.{option_map_or}
+use Rattle.std.specs.List.{list_any, slice_index}
 use Rattle.cca_base.specs.declared.formula.Formula.{Formula}
-use Rattle.cca_base.specs.declared.formula.Subject.{Subject}
 use Rattle.cca_base.specs.declared.formula.Subject.TheVariants as subjects
 use Rattle.cca_base.specs.declared.model.Component.{Component}
 use Rattle.cca_base.specs.declared.model.Variable.{Variable}
@@ -10,8 +10,8 @@ use Rattle.cca_base.specs.declared.model.Move.{Move}
 use Rattle.cca_base.specs.declared.model.Failure.{Failure}
 use Rattle.cca_base.specs.declared.limits.TheConstants.{MAX_NAME, MAX_COMPONENTS, MAX_CHOICES, MAX_VARIABLES, MAX_RULES, MAX_MOVES, MAX_FAILURES, MAX_COST}
 use Rattle.cca_base.specs.PlantModel.{PlantModel}
-use Rattle.cca_base.specs.Model.{is_broken, with_command}
-use Rattle.cca_base.specs.declared.codes.TheConstants.{NAME_UNKNOWN, NAME_REPEATED, LIMIT, AMBIGUOUS, INTO_BROKEN, UNMARKED_EXIT, TWO_MENDS}
+use Rattle.cca_base.specs.Model.{is_broken, is_repair_of, mode_counts, with_command}
+use Rattle.cca_base.specs.declared.codes.TheConstants.{NAME_UNKNOWN, NAME_REPEATED, LIMIT, AMBIGUOUS, INTO_BROKEN, UNMARKED_EXIT, TWO_MENDS, REPAIR_CYCLE}
 use Rattle.text_base.specs.Chain.{◌>>=◌}
 use Rattle.formula_syntax.specs.Grammar.{Whole}
 use Rattle.model_syntax.specs.Items.{Ends}
@@ -83,13 +83,40 @@ new_move m repair ends command guard = record { component = ends.0; source = end
 abbrev pub is_ambiguous : List Move → Move → Bool
 is_ambiguous moves x = list_any (λ y. y.command == x.command && (not (y.component == x.component) || y.source == x.source)) moves
 
+-- where the first repair of a mode leads
+abbrev pub next_of : List Move → ℕ → ℕ → Option ℕ
+next_of [] c mode = None
+next_of (x ∷ xs) c mode = if is_repair_of c mode x then Some x.target else next_of xs c mode
+
+-- so many repairs at most lead from the one mode to the other
+abbrev pub leads_along : List Move → ℕ → ℕ → ℕ → ℕ → Bool
+leads_along moves c zero from to = from == to
+leads_along moves c (suc n) from to = from == to || option_map_or (λ next. leads_along moves c n next to) (next_of moves c from) false
+
+-- the other mode stands in the chain of the mode: no more repairs lead on than the component has modes
+abbrev pub stands_in_chain : PlantModel → ℕ → ℕ → ℕ → Bool
+stands_in_chain m c from to = leads_along m.moves c (slice_index (mode_counts m) c) from to
+
 -- the move leads to a mode of its component
 abbrev pub leads_to : ℕ → ℕ → Move → Bool
 leads_to c mode move = move.component == c && move.target == mode
 
--- the move leads to a broken mode, or is a repair of a mode to which an earlier move or itself leads
-abbrev pub is_into_broken : List Move → Move → Bool
-is_into_broken moves x = is_broken moves x.component x.target || (x.repair && list_any (leads_to x.component x.source) (moves ++ x ∷ []))
+-- an ordinary move leads to a mode of its component
+abbrev pub leads_unmarked : ℕ → ℕ → Move → Bool
+leads_unmarked c mode move = not move.repair && (move.component == c && move.target == mode)
+
+-- an ordinary move leads to a broken mode, or a repair makes a mode broken to which an earlier ordinary move leads
+abbrev pub is_move_into_broken : List Move → Move → Bool
+is_move_into_broken moves x =
+    (not x.repair && is_broken moves x.component x.target) || (x.repair && list_any (leads_unmarked x.component x.source) moves)
+
+-- a repair leads to a broken mode, or makes a mode broken to which an earlier move or repair leads, or itself
+abbrev pub is_repair_into_broken : List Move → Move → Bool
+is_repair_into_broken moves x = x.repair && (is_broken moves x.component x.target || list_any (leads_to x.component x.source) (moves ++ x ∷ []))
+
+-- the first is refused in both versions, the second in the first version alone
+abbrev pub is_into_broken : PlantModel → Move → Bool
+is_into_broken m x = is_move_into_broken m.moves x || (m.version == 1 && is_repair_into_broken m.moves x)
 
 -- the move is an ordinary one from this mode
 abbrev pub leaves_unmarked : ℕ → ℕ → Move → Bool
@@ -108,9 +135,13 @@ mends_elsewhere c mode mended move = move.repair && ((move.component == c && mov
 abbrev pub mends_twice : List Move → Move → Bool
 mends_twice moves x = x.repair && list_any (mends_elsewhere x.component x.source x.target) moves
 
+-- in the second version: the repair's source stands in the chain that the earlier repairs give to its target
+abbrev pub is_repair_cycle : PlantModel → Move → Bool
+is_repair_cycle m x = not (m.version == 1) && (x.repair && stands_in_chain m x.component x.target x.source)
+
 -- what may be wrong with a move between modes that are known
 abbrev pub move_faults : PlantModel → Move → List (ℕ × Bool)
-move_faults m x = (AMBIGUOUS, is_ambiguous m.moves x) ∷ (INTO_BROKEN, is_into_broken m.moves x) ∷ (UNMARKED_EXIT, is_unmarked_exit m.moves x) ∷ (TWO_MENDS, mends_twice m.moves x) ∷ []
+move_faults m x = (AMBIGUOUS, is_ambiguous m.moves x) ∷ (INTO_BROKEN, is_into_broken m x) ∷ (UNMARKED_EXIT, is_unmarked_exit m.moves x) ∷ (TWO_MENDS, mends_twice m.moves x) ∷ (REPAIR_CYCLE, is_repair_cycle m x) ∷ []
 
 -- the least code of a line with a move or a repair, whose ends may be unknown
 abbrev pub move_code_from : PlantModel → Bool → Option (ℕ × ℕ × ℕ) → List ℕ → Whole → Option ℕ

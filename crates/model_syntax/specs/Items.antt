@@ -7,6 +7,7 @@ use Rattle.model_syntax.specs.declared.item.Ends.{Ends as EndsOfCode}
 use Rattle.model_syntax.specs.declared.item.Item.{Item as ItemOfCode}
 use Rattle.model_syntax.specs.declared.item.Item.TheVariants as code
 use Rattle.text_base.specs.Chain.{◌>>=◌}
+use Rattle.formula_syntax.specs.Lookups.{or_else}
 
 -- a component and two of its modes, by their words
 pub record Ends : Type 0 where
@@ -16,7 +17,7 @@ pub record Ends : Type 0 where
 
 -- what a line says, by words in place of names
 pub data Item : Type 0 where
-  Header : Item
+  Header : (second : Bool) → Item
   Component : (name : List ℕ) → (modes : List (List ℕ)) → (start : List ℕ) → Item
   Variable : (name : List ℕ) → (values : List (List ℕ)) → (sensed : Bool) → Item
   Rule : (formula : List Lexeme) → Item
@@ -38,11 +39,15 @@ ends_at ls = do
   target ← name_word_at r
   Some (record { name = name.0; source = source.0; target = target.0 }, target.1)
 
--- behind the word titan: the number 1
+-- this number of a version, and nothing behind it
+abbrev pub header_of : Bool → List ℕ → List Lexeme → Option Item
+header_of second digits ls = do
+  r ← next_is (number digits) ls
+  ended (Header second) r
+
+-- behind the word titan: the number 1 or 2
 unfoldable pub header_at : List Lexeme → Option Item
-header_at ls = do
-  r ← next_is (number (codes "1")) ls
-  ended Header r
+header_at ls = or_else (header_of false (codes "1") ls) (header_of true (codes "2") ls)
 
 -- behind the word component: a name, its modes, the word start, and a mode
 unfoldable pub component_at : List Lexeme → Option Item
@@ -114,7 +119,8 @@ move_word false = codes "move"
 
 -- the grammar: how an item is spelled
 abbrev pub line_spelled : Item → List Lexeme
-line_spelled Header = word (codes "titan") ∷ number (codes "1") ∷ []
+line_spelled (Header false) = word (codes "titan") ∷ number (codes "1") ∷ []
+line_spelled (Header true) = word (codes "titan") ∷ number (codes "2") ∷ []
 line_spelled (Component name modes start) = word (codes "component") ∷ word name ∷ symbol (codes "=") ∷ name_list_spelled modes ++ word (codes "start") ∷ word start ∷ []
 line_spelled (Variable name values sensed) = word (codes "var") ∷ word name ∷ symbol (codes "=") ∷ name_list_spelled values ++ sensed_spelled sensed
 line_spelled (Rule formula) = word (codes "rule") ∷ formula
@@ -124,7 +130,7 @@ line_spelled Script = word (codes "script") ∷ []
 
 -- which items the grammar spells: no reserved word stands in place of a name, and no list is empty
 abbrev pub IsSpelled : Item → Type 0
-IsSpelled Header = Unit {0}
+IsSpelled (Header second) = Unit {0}
 IsSpelled (Component name modes start) = (0 < length modes) × AreNameWords (name ∷ start ∷ []) × AreNameWords modes
 IsSpelled (Variable name values sensed) = (0 < length values) × AreNameWords (name ∷ []) × AreNameWords values
 IsSpelled (Rule formula) = Unit {0}
@@ -138,7 +144,7 @@ shown_ends e = record { name = e.name.now; source = e.source.now; target = e.tar
 
 -- an item of the code, without where its words lie
 abbrev pub shown_item : ItemOfCode → Item
-shown_item code.Header = Header
+shown_item (code.Header second) = Header second
 shown_item (code.Component name modes start) = Component name.now (map (λ w. w.now) modes.items) start.now
 shown_item (code.Variable name values sensed) = Variable name.now (map (λ w. w.now) values.items) sensed
 shown_item (code.Rule formula) = Rule (map lexeme_of formula.now)

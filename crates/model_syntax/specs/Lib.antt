@@ -7,4 +7,5 @@ pub mod Reader
 pub mod Printing
 pub mod Shorter
 pub mod RoundTrip
+pub mod RepairLaws
 pub mod Drafts

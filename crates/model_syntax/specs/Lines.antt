@@ -9,7 +9,7 @@ use Rattle.cca_base.specs.declared.model.Move.{Move}
 use Rattle.cca_base.specs.declared.limits.TheConstants.{MAX_MOVES}
 use Rattle.cca_base.specs.PlantModel.{PlantModel}
 use Rattle.cca_base.specs.Names.{is_word, is_reserved}
-use Rattle.cca_base.specs.Model.{with_component, with_variable, with_rule, with_move, with_failure}
+use Rattle.cca_base.specs.Model.{in_second, with_component, with_variable, with_rule, with_move, with_failure}
 use Rattle.text_base.specs.Tokens.{Tok, tokens_of}
 use Rattle.text_base.specs.Lexemes.{Lexeme, lexeme}
 use Rattle.cca_base.specs.declared.codes.TheConstants.{MALFORMED, LIMIT}
@@ -82,7 +82,7 @@ IsNextOfNumber digits f next =
 
 -- what an item of the model leads to
 abbrev pub IsNextOfItem : PlantModel → Item → Next → Type 0
-IsNextOfItem m items.Header next = next ≡ Refused MALFORMED
+IsNextOfItem m (items.Header second) next = next ≡ Refused MALFORMED
 IsNextOfItem m (items.Component name modes start) next = next ≡ component_next m name modes start
 IsNextOfItem m (items.Variable name values sensed) next = next ≡ variable_next m name values sensed
 IsNextOfItem m (items.Rule formula) next = IsNextOfText formula (rule_next m) next
@@ -113,7 +113,7 @@ AnswersItem (Err e) old new Is = FailsModel e old new Is
 
 -- the words in place of names are words, and no list is empty
 abbrev pub HasBareNames : Item → Type 0
-HasBareNames items.Header = Unit {0}
+HasBareNames (items.Header second) = Unit {0}
 HasBareNames (items.Component name modes start) = list_all is_bare_name (name ∷ modes) ≡ true
 HasBareNames (items.Variable name values sensed) = (list_all is_bare_name (name ∷ values) ≡ true) × (0 < length values)
 HasBareNames (items.Rule formula) = Unit {0}
@@ -123,7 +123,7 @@ HasBareNames items.Script = Unit {0}
 
 -- ---- readers
 
--- the model of the lines so far, and whether `titan 1` was read
+-- the model of the lines so far, and whether the line of the version was read
 pub record ModelSoFar : Type 0 where
   pub model : PlantModel
   pub begun : Bool
@@ -134,7 +134,7 @@ pub data LineOutcome : Type 0 where
   Refuses : (code : ℕ) → LineOutcome
   Finishes : LineOutcome
 
--- the outcome of a line behind `titan 1`
+-- the outcome of a line behind the line of the version
 abbrev pub outcome : Next → LineOutcome
 outcome (Goes m) = Reads (record { model = m; begun = true })
 outcome (Refused code) = Refuses code
@@ -143,7 +143,8 @@ outcome Ended = Finishes
 -- the first line with tokens
 abbrev pub opening : PlantModel → Option Item → LineOutcome
 opening m None = Refuses MALFORMED
-opening m (Some items.Header) = Reads (record { model = m; begun = true })
+opening m (Some (items.Header false)) = Reads (record { model = m; begun = true })
+opening m (Some (items.Header true)) = Reads (record { model = in_second m; begun = true })
 opening m (Some (items.Component name modes start)) = Refuses MALFORMED
 opening m (Some (items.Variable name values sensed)) = Refuses MALFORMED
 opening m (Some (items.Rule formula)) = Refuses MALFORMED

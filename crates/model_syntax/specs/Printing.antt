@@ -1,5 +1,5 @@
 -- The printed text of a model.
-use Rattle.std.specs.Prelude.{ℕ, ◌+◌, Bool, not, ◌&&◌, if◌then◌else◌, nat_le, slice_get, List, [], ◌∷◌, ◌++◌, codes, map}
+use Rattle.std.specs.Prelude.{ℕ, ◌+◌, ◌==◌, Bool, not, ◌&&◌, if◌then◌else◌, nat_le, slice_get, List, [], ◌∷◌, ◌++◌, codes, map}
 use Rattle.std.specs.Option.{option_map_or}
 use Rattle.std.specs.Fmt.{decimal}
 use Rattle.cca_base.specs.declared.formula.Formula.{Formula}
@@ -92,8 +92,12 @@ name_at names k = option_map_or (λ name. name) (slice_get names k) []
 
 -- ---- lines
 
-abbrev pub header_said : List Lexeme
-header_said = word (codes "titan") ∷ number (codes "1") ∷ []
+-- the digit of a version
+abbrev pub version_digit : ℕ → List ℕ
+version_digit version = if version == 2 then codes "2" else codes "1"
+
+abbrev pub header_said : ℕ → List Lexeme
+header_said version = word (codes "titan") ∷ number (version_digit version) ∷ []
 
 abbrev pub component_said : Component → List Lexeme
 component_said c = word (codes "component") ∷ word c.name ∷ symbol (codes "=") ∷ name_list_spelled c.modes ++ word (codes "start") ∷ word (name_at c.modes c.start) ∷ []
@@ -119,7 +123,7 @@ failure_said m x = word (codes "fail") ∷ ends_said m x.component x.source x.ta
 -- the tokens of each line of the model, in order
 abbrev pub lines_said : PlantModel → List (List Lexeme)
 lines_said m =
-    header_said ∷ map component_said m.components ++ map variable_said m.variables
+    header_said m.version ∷ map component_said m.components ++ map variable_said m.variables
     ++ map (rule_said m) m.rules ++ map (move_said m) m.moves ++ map (failure_said m) m.failures
 
 -- each line's text with its end

@@ -29,7 +29,7 @@ ReadsTo s (line ∷ lines) t = (u : ModelSoFar) × LineLeads s line (Reads u) ×
 -- the printed lines of a model, read one after the other, give the model
 abbrev pub PrintedReadsBack : Type 0
 PrintedReadsBack = (m : PlantModel) → WellFormed m → IsComplete m
-    → ReadsTo (record { model = empty_model; begun = false }) (map joined (lines_said m)) (record { model = m; begun = true })
+    → ReadsTo (record { model = empty_model 1; begun = false }) (map joined (lines_said m)) (record { model = m; begun = true })
 
 -- no line of a printed model has a line's end in it
 abbrev pub PrintedLinesAreWhole : Type 0

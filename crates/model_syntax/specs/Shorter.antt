@@ -19,10 +19,10 @@ pub record AddsLine (old new : PlantModel) (text : List ℕ) : Type 0 where
 abbrev pub AddsNoLonger : PlantModel → PlantModel → List ℕ → Type 0
 AddsNoLonger old new text = (lines_said new ≡ lines_said old) ⊎ AddsLine old new text
 
--- a line that is read adds no line to the printed model, or one that is not longer than itself
+-- but for the line of the version, a line that is read adds no line to the printed model, or one that is not longer than itself
 abbrev pub LinesAreNoLonger : Type 0
-LinesAreNoLonger = (s t : ModelSoFar) (text : List ℕ) → WellFormed s.model → LineLeads s text (Reads t) → AddsNoLonger s.model t.model text
+LinesAreNoLonger = (s t : ModelSoFar) (text : List ℕ) → WellFormed s.model → s.begun ≡ t.begun → LineLeads s text (Reads t) → AddsNoLonger s.model t.model text
 
 -- the header's printed line is not longer than a line that begins a reading
 abbrev pub HeaderIsNoLonger : Type 0
-HeaderIsNoLonger = (s t : ModelSoFar) (text : List ℕ) → s.begun ≡ false → t.begun ≡ true → LineLeads s text (Reads t) → length (joined header_said) ≤ length text
+HeaderIsNoLonger = (s t : ModelSoFar) (text : List ℕ) → s.begun ≡ false → t.begun ≡ true → LineLeads s text (Reads t) → length (joined (header_said t.model.version)) ≤ length text

@@ -3,11 +3,11 @@
 ghost use Rattle.std.specs.Prelude.{◌≡◌, ◌∷◌, ◌++◌, [], ◌||◌, nat_le, length};
 ghost use Rattle.std.specs.List.{list_any};
 ghost use Rattle.cca_base.specs.Model.{WellFormed};
-ghost use Rattle.model_syntax.specs.Codes.{least, is_long, leads_to, leaves_unmarked, is_ambiguous, is_into_broken, is_unmarked_exit, mends_elsewhere, mends_twice, move_faults};
+ghost use Rattle.model_syntax.specs.Codes.{least, is_long, leads_to, leads_unmarked, leaves_unmarked, is_ambiguous, is_move_into_broken, is_repair_into_broken, is_into_broken, is_repair_cycle, is_unmarked_exit, mends_elsewhere, mends_twice, move_faults};
 ghost use Rattle.cca_base.specs.declared.codes.TheConstants.{LIMIT as limit_code};
 
 use crate::checks::is_long;
-use cca_base::codes::{AMBIGUOUS, INTO_BROKEN, LIMIT, TWO_MENDS, UNMARKED_EXIT};
+use cca_base::codes::{AMBIGUOUS, INTO_BROKEN, LIMIT, REPAIR_CYCLE, TWO_MENDS, UNMARKED_EXIT};
 use cca_base::{MAX_MOVES, Model, Move};
 
 /// Whether another move has the command, and is of another component or leaves the same mode.
@@ -34,14 +34,47 @@ fn leaves_unmarked(moves: &[Move], component: u16, mode: u8) -> bool
     moves.iter().any(|y| !y.repair && (y.component == component && y.source == mode))
 }
 
-/// Whether the move leads to a broken mode, or repairs a mode to which a move leads.
-#[tactic(auto, using(crate::proofs::GrowthByMove::leads_to_push))]
-fn is_into_broken(model: &Model, x: &Move) -> bool
-    ensures { result ≡ is_into_broken model.now.moves x.now }
+/// Whether an ordinary move leads to the mode.
+fn leads_unmarked(moves: &[Move], component: u16, mode: u8) -> bool
+    ensures { result ≡ list_any (leads_unmarked component mode) moves.now }
 {
-    model.broken(x.component, x.target)
-        || (x.repair
-            && (leads_to(model.moves().as_slice(), x.component, x.source) || x.target == x.source))
+    moves.iter().any(|y| !y.repair && (y.component == component && y.target == mode))
+}
+
+/// Whether an ordinary move leads to a broken mode, or a repair makes a mode broken to which one leads.
+fn is_move_into_broken(model: &Model, x: &Move) -> bool
+    ensures { result ≡ is_move_into_broken model.now.moves x.now }
+{
+    if x.repair {
+        leads_unmarked(model.moves().as_slice(), x.component, x.source)
+    } else {
+        model.broken(x.component, x.target)
+    }
+}
+
+/// Whether a repair leads to a broken mode, or makes a mode broken to which a move or repair leads, or itself.
+#[tactic(auto, using(crate::proofs::GrowthByMove::leads_to_push))]
+fn is_repair_into_broken(model: &Model, x: &Move) -> bool
+    ensures { result ≡ is_repair_into_broken model.now.moves x.now }
+{
+    x.repair
+        && (model.broken(x.component, x.target)
+            || (leads_to(model.moves().as_slice(), x.component, x.source) || x.target == x.source))
+}
+
+/// Whether the move leads into a broken mode by the rules of the model's version.
+fn is_into_broken(model: &Model, x: &Move) -> bool
+    ensures { result ≡ is_into_broken model.now x.now }
+{
+    is_move_into_broken(model, x) || (model.version() == 1 && is_repair_into_broken(model, x))
+}
+
+/// Whether the repair's source stands in the chain that the earlier repairs give to its target.
+#[tactic(auto, using(crate::proofs::ChainTests::chains_are_tested))]
+fn is_repair_cycle(model: &Model, x: &Move) -> bool
+    ensures { result ≡ is_repair_cycle model.now x.now }
+{
+    model.version() != 1 && (x.repair && model.is_in_chain(x.component, x.target, x.source))
 }
 
 /// Whether an ordinary move leaves a broken mode, or a repair leaves a mode that an ordinary move leaves.
@@ -86,6 +119,8 @@ pub fn move_code(model: &Model, x: &Move, command: &[u8]) -> Option<u8>
         Some(UNMARKED_EXIT)
     } else if mends_twice(moves, x) {
         Some(TWO_MENDS)
+    } else if is_repair_cycle(model, x) {
+        Some(REPAIR_CYCLE)
     } else {
         None
     }

@@ -3,7 +3,7 @@
 ghost use Rattle.std.specs.Prelude.{◌≡◌, List, Some, map, IfOk};
 ghost use Rattle.std.specs.Option.{option_map};
 ghost use Rattle.text_base.specs.Lexemes.{Lexeme, lexeme_of};
-ghost use Rattle.model_syntax.specs.Items.{Item as SpelledItem, IsSpelled, line_spelled, number_at, ends_at, header_at, component_at, sensed_at, variable_at, move_at, failure_at, item_of, shown_ends, shown_item};
+ghost use Rattle.model_syntax.specs.Items.{Item as SpelledItem, IsSpelled, line_spelled, number_at, ends_at, header_of, header_at, component_at, sensed_at, variable_at, move_at, failure_at, item_of, shown_ends, shown_item};
 ghost use Rattle.text_base.specs.Lists.{ended};
 
 use std::alloc::{AllocError, Global};
@@ -20,7 +20,8 @@ pub struct Ends<'a> {
 /// What a line says, by words in place of names.
 #[derive(Drop)]
 pub enum Item<'a, 'b> {
-    Header,
+    /// The line of the version, and whether it is the second.
+    Header(bool),
     Component {
         name: &'a [u8],
         modes: Vec<&'a [u8]>,
@@ -87,12 +88,22 @@ fn ends_at<'a, 'b>(tokens: &'b [Token<'a>]) -> Option<(Ends<'a>, &'b [Token<'a>]
     Some((ends, rest))
 }
 
+/// The line of a version, where the number of it stands alone.
+fn header_of<'a, 'b>(second: bool, digits: &[u8], tokens: &'b [Token<'a>]) -> Option<Item<'a, 'b>>
+    ensures { option_map shown_item result ≡ header_of second digits.now (map lexeme_of tokens.now) }
+{
+    let rest = next_is(Kind::Number, digits, tokens)?;
+    ended(Item::Header(second), rest)
+}
+
 #[tactic(auto, unfolding(crate::specs::Items::header_at))]
 fn header_at<'a, 'b>(tokens: &'b [Token<'a>]) -> Option<Item<'a, 'b>>
     ensures { option_map shown_item result ≡ header_at (map lexeme_of tokens.now) }
 {
-    let rest = next_is(Kind::Number, b"1", tokens)?;
-    ended(Item::Header, rest)
+    match header_of(false, b"1", tokens) {
+        Some(item) => Some(item),
+        None => header_of(true, b"2", tokens),
+    }
 }
 
 #[tactic(auto, unfolding(crate::specs::Items::component_at))]

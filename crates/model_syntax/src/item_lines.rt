@@ -36,7 +36,7 @@ pub fn item_line(
     ensures few { length model.new.commands ≤ length model.new.moves }
 {
     match item {
-        Item::Header => return Err(Stop::refused(MALFORMED)),
+        Item::Header(_) => return Err(Stop::refused(MALFORMED)),
         Item::Component { name, modes, start } => component_line(
             alloc,
             model,

@@ -45,11 +45,11 @@ impl std::marker::Model for ModelReader {
 impl ModelReader {
     /// The reader before the first line.
     pub fn open(alloc: Global) -> Result<ModelReader, AllocError>
-        ensures { IfOk result (λ r. r ≡ record { model = empty_model; begun = false }) }
+        ensures { IfOk result (λ r. r ≡ record { model = empty_model 1; begun = false }) }
     {
         Ok(ModelReader {
             alloc,
-            model: Model::empty(alloc),
+            model: Model::empty(alloc, 1),
             names: IndexMap::new(alloc),
             commands: IndexMap::new(alloc),
             begun: false,

@@ -1,9 +1,10 @@
 //! A model printed as text.
 
 ghost use Rattle.std.specs.Prelude.{◌≡◌, ◌∷◌, [], map, IfOk, OnOk};
+ghost use Rattle.text_base.specs.Lexemes.{number};
 ghost use Rattle.model_syntax.specs.Items.{sensed_spelled};
-ghost use Rattle.model_syntax.specs.Printing.{printed_model, header_said, component_said, variable_said, rule_said, move_said, failure_said, ends_said};
-ghost use Rattle.model_syntax.specs.Drafts.{with_tokens, with_lines};
+ghost use Rattle.model_syntax.specs.Printing.{printed_model, version_digit, header_said, component_said, variable_said, rule_said, move_said, failure_said, ends_said};
+ghost use Rattle.model_syntax.specs.Drafts.{with_token, with_tokens, with_lines};
 
 use crate::print_formula::formula;
 use crate::print_names::{choices_of, list, name_at, name_of};
@@ -11,11 +12,22 @@ use crate::printer::Printer;
 use cca_base::{Component, Failure, Formula, List, Model, Move, Subject, Variable};
 use std::alloc::{AllocError, Global};
 
-fn header(out: &mut Printer) -> Result<(), AllocError>
-    ensures { OnOk result (out.new ≡ with_lines out.old (header_said ∷ [])) }
+/// Puts the number of a version behind what is there.
+fn version(out: &mut Printer, version: u8) -> Result<(), AllocError>
+    ensures { OnOk result (out.new ≡ with_token out.old (number (version_digit version))) }
+{
+    if version == 2 {
+        out.number(b"2")
+    } else {
+        out.number(b"1")
+    }
+}
+
+fn header(out: &mut Printer, model: &Model) -> Result<(), AllocError>
+    ensures { OnOk result (out.new ≡ with_lines out.old (header_said model.now.version ∷ [])) }
 {
     out.word(b"titan")?;
-    out.number(b"1")?;
+    version(out, model.version())?;
     out.end_line()?;
     Ok(())
 }
@@ -153,14 +165,14 @@ fn failures(alloc: Global, out: &mut Printer, model: &Model) -> Result<(), Alloc
     Ok(())
 }
 
-/// The model's text, one line per item, each with its LF: `titan 1`, the components, the variables, the rules, the moves
-/// and repairs in their order, and the failures. A space stands between two tokens that are both words or numbers, and
+/// The model's text, one line per item, each with its LF. First comes `titan` and the version, then the components, the variables, the
+/// rules, the moves and repairs in their order, and the failures. A space stands between two tokens that are both words or numbers, and
 /// parentheses stand where a formula needs them. The error is want of memory.
 pub fn print_model(alloc: Global, model: &Model) -> Result<List<u8>, AllocError>
     ensures { IfOk result (λ text. text ≡ printed_model model.now) }
 {
     let mut out = Printer::new(alloc);
-    header(&mut out)?;
+    header(&mut out, model)?;
     components(&mut out, model)?;
     variables(&mut out, model)?;
     rules(alloc, &mut out, model)?;

@@ -1,9 +1,8 @@
 //! What a line's tokens make of the model.
 
-ghost use Rattle.std.specs.Prelude.{◌≡◌, ◌≤◌, ◌∷◌, Some, Ok, length, map};
+ghost use Rattle.std.specs.Prelude.{◌≡◌, ◌≤◌, ◌∷◌, ◌⊎◌, Some, Ok, length, map};
 ghost use Rattle.std.specs.List.{AllByRecursion};
-ghost use Rattle.cca_base.specs.PlantModel.{PlantModel};
-ghost use Rattle.cca_base.specs.Model.{IsComplete};
+ghost use Rattle.cca_base.specs.Model.{IsComplete, in_second};
 ghost use Rattle.text_base.specs.Tokens.{IsOfItsKind, token_view};
 ghost use Rattle.text_base.specs.Lexemes.{lexeme_of};
 ghost use Rattle.model_syntax.specs.Items.{item_of, shown_item};
@@ -18,14 +17,25 @@ use cca_base::codes::MALFORMED;
 use cca_base::{Model, Name, Stop, Subject};
 use indexmap::IndexMap;
 use std::alloc::Global;
+use std::mem;
 use text_base::Token;
 
 /// The first line with tokens, by its item.
-fn opening_line(begun: &mut bool, item: Item) -> Result<LineEnd, Stop>
-    ensures { (m : PlantModel) → AnswersLine result (record { model = m; begun = begun.old }) (record { model = m; begun = begun.new }) (λ o. o ≡ opening m (Some (shown_item item.entry))) }
+fn opening_line(
+    alloc: Global,
+    model: &mut Model,
+    begun: &mut bool,
+    item: Item,
+) -> Result<LineEnd, Stop>
+    ensures value { AnswersLine result (record { model = model.old; begun = begun.old }) (record { model = model.new; begun = begun.new }) (λ o. o ≡ opening model.old (Some (shown_item item.entry))) }
+    ensures kept { (model.new ≡ model.old) ⊎ (model.new ≡ in_second model.old) }
 {
     match item {
-        Item::Header => {
+        Item::Header(second) => {
+            if second {
+                let first = mem::replace(model, Model::empty(alloc, 1));
+                *model = first.to_second();
+            }
             *begun = true;
             Ok(LineEnd::Going)
         }
@@ -57,7 +67,7 @@ fn form_line(
     if *begun {
         item_line(alloc, model, names, numbers, item)
     } else {
-        opening_line(begun, item)
+        opening_line(alloc, model, begun, item)
     }
 }
 
