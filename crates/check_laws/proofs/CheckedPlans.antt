@@ -44,13 +44,13 @@ one_way_back m fit s t u (k ∷ ks) ls r q h =
     ]
 
 -- the end of an allowed plan has a way back to a mending of its start
-plan_back : (m : PlantModel) → RepairsFit m.moves → (s t ks : List ℕ) → AllowedPlan m s ks t → Returns m s t
+plan_back : (m : PlantModel) → RepairsFit m.version m.moves → (s t ks : List ℕ) → AllowedPlan m s ks t → Returns m s t
 plan_back m fit s t [] r = ([], t, refl, subst (Mending m s) (sym r) (mending_same m s))
 plan_back m fit s t (k ∷ ks) r =
     let mid : List ℕ = r.0 in
     let rest : Returns m mid t = plan_back m fit mid t ks r.2 in
     elim (r.1.back) [
-      | inl repair ↦ (rest.0, rest.1, rest.2, mending_join m s mid rest.1 (repair_leads m fit s mid k r.1.step repair) rest.3)
+      | inl repair ↦ (rest.0, rest.1, rest.2, mending_join m s mid rest.1 (repair_leads m s mid k r.1.step repair) rest.3)
       | inr back ↦
           let more : MadeAgain m rest.1 back.0 back.1 = run_again m fit mid rest.1 back.1 back.0 rest.3 back.2 in (
             rest.0 ++ more.left,

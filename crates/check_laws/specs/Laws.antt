@@ -29,19 +29,19 @@ pub record MadeAgain (m : PlantModel) (u ks v : List ℕ) : Type 0 where
 
 -- a run is made again from each mending of its start, without repairs that are already made
 abbrev pub RunsAreMadeAgain : Type 0
-RunsAreMadeAgain = (m : PlantModel) → RepairsFit m.moves → (s u v ks : List ℕ) → Mending m s u → Run m s ks v → MadeAgain m u ks v
+RunsAreMadeAgain = (m : PlantModel) → RepairsFit m.version m.moves → (s u v ks : List ℕ) → Mending m s u → Run m s ks v → MadeAgain m u ks v
 
 -- one way back serves each step: a run whose end leads back to a mending of its start is an allowed plan
 abbrev pub OneWayBack : Type 0
-OneWayBack = (m : PlantModel) → RepairsFit m.moves → (s t u ks ls : List ℕ) → Run m s ks t → Run m t ls u → Mending m s u → AllowedPlan m s ks t
+OneWayBack = (m : PlantModel) → RepairsFit m.version m.moves → (s t u ks ls : List ℕ) → Run m s ks t → Run m t ls u → Mending m s u → AllowedPlan m s ks t
 
 -- the same both ways: the allowed plans are exactly the runs from whose end some run leads back to a mending of the start
 abbrev pub PlansReturn : Type 0
-PlansReturn = (m : PlantModel) → RepairsFit m.moves → (s t ks : List ℕ) → AllowedPlan m s ks t ↔ (Run m s ks t × Returns m s t)
+PlansReturn = (m : PlantModel) → RepairsFit m.version m.moves → (s t ks : List ℕ) → AllowedPlan m s ks t ↔ (Run m s ks t × Returns m s t)
 
 -- what was checked of a plan that holds the goal shows that its first command begins an allowed plan to the goal, and that each pair of the goal is reached
 abbrev pub CheckedPlanBegins : Type 0
-CheckedPlanBegins = (m : PlantModel) → RepairsFit m.moves → (s t u rest ls : List ℕ) (k : ℕ) (goal : List Pair)
+CheckedPlanBegins = (m : PlantModel) → RepairsFit m.version m.moves → (s t u rest ls : List ℕ) (k : ℕ) (goal : List Pair)
     → Run m s (k ∷ rest) t → Extends t goal → Run m t ls u → Mending m s u
     → BeginsPlan m s goal k × All (λ p. Reach m s p.item p.value) goal
 
@@ -55,7 +55,7 @@ pub record PassesTests (m : PlantModel) (s : List ℕ) (goal : List Pair) (k : �
 
 -- a plan and a way back that pass the tests are to be had exactly where the command begins an allowed plan to the goal
 abbrev pub TestsAreExact : Type 0
-TestsAreExact = (m : PlantModel) → RepairsFit m.moves → (s : List ℕ) (goal : List Pair) (k : ℕ) → BeginsPlan m s goal k ↔ PassesTests m s goal k
+TestsAreExact = (m : PlantModel) → RepairsFit m.version m.moves → (s : List ℕ) (goal : List Pair) (k : ℕ) → BeginsPlan m s goal k ↔ PassesTests m s goal k
 
 -- a list of commands leads to one state at most
 abbrev pub OneEnd : Type 0

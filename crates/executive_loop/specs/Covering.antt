@@ -1,5 +1,5 @@
 -- Which states are covered by tables.
-use Rattle.std.specs.Prelude.{◌≡◌, ◌≢◌, ◌==◌, ◌||◌, ℕ, Bool, List, Option, Some, None, length, slice_index}
+use Rattle.std.specs.Prelude.{◌≡◌, ◌≢◌, ◌||◌, ℕ, Bool, List, Option, Some, None, length, slice_index}
 use Rattle.std.specs.List.{list_all}
 use Rattle.cca_base.specs.Accepted.{CompiledModel}
 use Rattle.cca_base.specs.Orders.{numbers_below}
@@ -15,11 +15,11 @@ use Rattle.policy_tables.specs.Tables.{TableParts}
 abbrev pub base_of : TableParts → List ℕ
 base_of t = t.classes.base
 
--- whether the mode is in the component's class, or is its base mode
+-- whether the mode is in the component's class, or a broken mode of its open chain
 abbrev pub stands_at : ClassParts → List ℕ → ℕ → Bool
-stands_at p s c = in_row p.rows c (slice_index s c) || (slice_index s c == slice_index p.base c)
+stands_at p s c = in_row p.rows c (slice_index s c) || in_row p.chains c (slice_index s c)
 
--- whether each component of the state stands in its class or in its base mode
+-- whether each component of the state stands in its class or in a broken mode of its open chain
 unfoldable pub covers : TableParts → List ℕ → Bool
 covers t s = list_all (stands_at t.classes s) (numbers_below (length t.classes.compiled.model.components))
 

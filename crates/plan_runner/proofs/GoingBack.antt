@@ -61,7 +61,7 @@ module _ (t : TableParts) (is : IsTables t) (s : List ℕ) (cov : CoversState t.
           absurd (both_ways (is_broken b.model.moves c mode) (subst (λ y. is_broken b.model.moves c y ≡ false) same held.1) mended.broken)
       | inr other ↦
           let same : other.0 ≡ mode = same_Some other.0 mode (sym other.1 ∙ at) in
-          one_mended b.model.moves is.classes.compiled.accepted.well_formed.repairs c mode x a (subst (λ y. IsMended b.model.moves c y x) same other.2) mended
+          one_mended b.model.version b.model.moves is.classes.compiled.accepted.well_formed.repairs c mode x a (subst (λ y. IsMended b.model.moves c y x) same other.2) mended
     ]),
     (λ e. inr (mode, at, subst (IsMended b.model.moves c mode) (sym e) mended, flag)),
   )
@@ -197,7 +197,7 @@ module _ (t : TableParts) (is : IsTables t) (s : List ℕ) (cov : CoversState t.
 
   pub back_is_goal : (ps : List Pair) → IsBackGoal b s ps → AreInside (member_of t) ps × IsGoal b ps
   back_is_goal ps back =
-      let inside : AreInside (member_of t) ps = (way_back b t.classes.base (member_of t) s s (setting t is s cov) cov.state cov.covers ps back).0 in
+      let inside : AreInside (member_of t) ps = (way_back b t.classes.base (member_of t) s s (setting t is s cov) cov.state cov.covers (λ _ _ _ _. (0, refl)) ps back).0 in
       let each : (p : Pair) → Contains ps p → member_of t p.item p.value ≡ true = λ p among. All-contains (λ q. member_of t q.item q.value ≡ true) ps p inside among in (
         inside,
         record {

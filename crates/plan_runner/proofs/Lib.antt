@@ -3,3 +3,4 @@ pub mod StepMoves
 pub mod GoingBack
 pub mod ThereAndBack
 pub mod OneRoute
+pub mod StillStuck

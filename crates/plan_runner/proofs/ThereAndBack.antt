@@ -1,5 +1,5 @@
 -- Ways back, and plans with their ways back.
-use Rattle.std.proofs.Common.{◌<◌, ◌≤◌, ℕ, List, length, refl}
+use Rattle.std.proofs.Common.{◌<◌, ◌≤◌, ℕ, List, length, refl, sym}
 use Rattle.cca_base.specs.declared.cube.Pair.{Pair}
 use Rattle.cca_base.specs.declared.events.PlanEnd.{PlanEnd}
 use Rattle.cca_base.specs.declared.events.PlanEnd.TheVariants.{Plan, Long}
@@ -12,9 +12,11 @@ use Rattle.reversibility.specs.ClassParts.{CoversState}
 use Rattle.policy_tables.specs.Tables.{TableParts, IsTables}
 use Rattle.planner_step.specs.Planning.{member_of, IsGoal, AreReached}
 use Rattle.planner_step.proofs.Covered.{setting}
+use Rattle.planner_step.proofs.Stuck.{stuck_empty}
+use Rattle.plan_runner.proofs.StillStuck.{stays_on_chain}
 use Rattle.planner_step.proofs.Replies.{inside_reached}
 use Rattle.plan_runner.specs.Plans.{IsWholePlan}
-use Rattle.plan_runner.specs.WaysBack.{AreBackPairs, IsWayBack, IsThereAndBack}
+use Rattle.plan_runner.specs.WaysBack.{StaysStuck, AreBackPairs, IsWayBack, IsThereAndBack}
 use Rattle.planner_step.proofs.Along.{plan_of, some_plan}
 use Rattle.plan_runner.proofs.GoingBack.{some_goal, names_all, back_goal_is, back_is_goal}
 
@@ -32,15 +34,15 @@ module _ (t : TableParts) (is : IsTables t) where
     pub reached_back : (from : List ℕ) → CoversState t.classes from → AreReached b.model from goal
     reached_back from cov_from = inside_reached t is from cov_from goal goal_back inside_back
 
-    pub way_of : (from : List ℕ) → CoversState t.classes from → (shown : PlanEnd) → IsWholePlan t from goal shown → IsWayBack t from to shown
-    way_of from cov_from shown plan =
+    pub way_of : (from : List ℕ) → CoversState t.classes from → StaysStuck t.classes from to → (shown : PlanEnd) → IsWholePlan t from goal shown → IsWayBack t from to shown
+    way_of from cov_from stays shown plan =
         let is_goal : IsBackGoal b to goal = back_goal_is t is to cov goal pairs in
         record {
           goal = goal;
           is_goal = is_goal;
           names = names_all t is to cov goal pairs;
           plan = plan;
-          mends = (reach.way_back b t.classes.base (member_of t) from to (setting t is to cov) cov_from.state cov_from.covers goal is_goal).1 plan.commands plan.last plan.plan.whole;
+          mends = (reach.way_back b t.classes.base (member_of t) from to (setting t is to cov) cov_from.state cov_from.covers (stays_on_chain t is to from stays) goal is_goal).1 plan.commands plan.last plan.plan.whole;
         }
 
     some_way : (from : List ℕ) → CoversState t.classes from → (ks last : List ℕ) × Whole b goal from ks last
@@ -51,6 +53,10 @@ module _ (t : TableParts) (is : IsTables t) where
     covers_end ks last whole =
         let end = reach.whole_is_allowed b t.classes.base (member_of t) s (setting t is s cov) goal ks last inside whole in
         record { state = end.2.state; covers = end.2.covers }
+
+    pub still_stuck : (ks last : List ℕ) → Whole b goal s ks last → StaysStuck t.classes last s
+    still_stuck ks last whole d stuck =
+        (0, sym (reach.empty_stays b t.classes.base (member_of t) s (setting t is s cov) goal ks last inside whole d (stuck_empty t is s cov d stuck)))
 
     pub ended : (ks last : List ℕ) (shown : PlanEnd) → Whole b goal s ks last → length ks ≤ MAX_PLAN → IsWayBack t last s shown
         → IsRoute b s goal (record { plan = Plan ks; back = shown })

@@ -1,15 +1,16 @@
 -- Ways back, and plans with their ways back.
-use Rattle.std.specs.Prelude.{◌≡◌, ◌⊎◌, ◌↔◌, ℕ, true, false, List, slice_get, Some, Contains}
+use Rattle.std.specs.Prelude.{◌≡◌, ◌⊎◌, ◌↔◌, ℕ, true, false, List, slice_get, slice_index, Some, Contains}
 use Rattle.cca_base.specs.declared.cube.Pair.{Pair}
 use Rattle.cca_base.specs.declared.events.PlanEnd.{PlanEnd}
 use Rattle.cca_base.specs.declared.events.PlanEnd.TheVariants.{Plan, Long}
 use Rattle.cca_base.specs.declared.events.Route.{Route}
 use Rattle.cca_base.specs.Flags.{is_set}
-use Rattle.cca_base.specs.Model.{IsMended, is_broken}
+use Rattle.cca_base.specs.Model.{IsMended, IsInChain, is_broken}
 use Rattle.cca_base.specs.Orders.{AreInOrder}
 use Rattle.cca_base.specs.Plans.{IsBackGoal}
 use Rattle.cca_base.specs.Repairs.{Mending}
 use Rattle.reversibility.specs.ClassParts.{ClassParts}
+use Rattle.planner_step.specs.Served.{IsStuck}
 use Rattle.policy_tables.specs.Tables.{TableParts}
 use Rattle.plan_runner.specs.Plans.{IsWholePlan}
 
@@ -18,6 +19,10 @@ abbrev pub GoesBackTo : ClassParts → List ℕ → Pair → Type 0
 GoesBackTo c s p =
     ((slice_get s p.item ≡ Some p.value) × (is_broken c.compiled.model.moves p.item p.value ≡ false))
     ⊎ ((mode : ℕ) × (slice_get s p.item ≡ Some mode) × IsMended c.compiled.model.moves p.item mode p.value × (is_set c.mendable p.item ≡ true))
+
+-- what is broken in the second state and can't be mended stands in the first in a mode of the chain of its mode there
+abbrev pub StaysStuck : ClassParts → List ℕ → List ℕ → Type 0
+StaysStuck c from to = (d : ℕ) → IsStuck c to d → IsInChain c.compiled.model.moves d (slice_index to d) (slice_index from d)
 
 -- the component goes back to this mode, and to no other
 abbrev pub GoesOnlyTo : ClassParts → List ℕ → ℕ → ℕ → Type 0

@@ -2,7 +2,7 @@
 
 ghost use Rattle.std.specs.Prelude.{IfOk};
 ghost use Rattle.reversibility.specs.ClassParts.{CoversState};
-ghost use Rattle.plan_runner.specs.WaysBack.{IsWayBack};
+ghost use Rattle.plan_runner.specs.WaysBack.{StaysStuck, IsWayBack};
 
 use crate::goal_back::back_goal;
 use crate::whole::whole_plan;
@@ -20,6 +20,7 @@ pub fn way_back(
 ) -> Result<PlanEnd, AllocError>
     requires from { CoversState tables.now.classes from.now.modes }
     requires to { CoversState tables.now.classes to.now.modes }
+    requires stuck { StaysStuck tables.now.classes from.now.modes to.now.modes }
     ensures { IfOk result (IsWayBack tables.now from.now.modes to.now.modes) }
 {
     let _classes = tables.classes();

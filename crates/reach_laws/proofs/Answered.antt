@@ -9,7 +9,7 @@ use Rattle.cca_base.specs.declared.events.Reply.TheVariants.{Idle, Send, Achieve
 use Rattle.cca_base.specs.PlantModel.{PlantModel}
 use Rattle.cca_base.specs.Accepted.{CompiledModel, IsCompiled}
 use Rattle.cca_base.specs.Goals.{BeginsPlan, IsFirstUnreached}
-use Rattle.cca_base.specs.Model.{WellFormed, IsMended, is_broken}
+use Rattle.cca_base.specs.Model.{WellFormed, MendsAtOnce, IsMended, IsInChain, is_broken}
 use Rattle.cca_base.specs.Orders.{AreInOrder, IsFirstMissing}
 use Rattle.cca_base.specs.Repairs.{Mending}
 use Rattle.cca_base.specs.State.{IsState, Extends}
@@ -21,16 +21,15 @@ use Rattle.reach_laws.specs.declared.cell.Cell.TheVariants as cell
 use Rattle.reach_laws.specs.Classes.{Test, AreInside, OpenRepairs, IsHome, IsOnWay, Covers}
 use Rattle.reach_laws.specs.Laws.{Setting}
 use Rattle.reach_laws.specs.Cells.{Cells, IsPolicy, Finds, FindsForGoal}
-use Rattle.reach_laws.specs.Plans.{IsAnswer, IsFirstOutside, IsSoundGoal, AnswersAreChosen, WholeIsAllowed, EmptyStays, WayBack}
+use Rattle.reach_laws.specs.Plans.{IsAnswer, IsFirstOutside, IsSoundGoal, AnswersAreChosen, WholeIsAllowed, EmptyStays, StaysOnChain, WayBack}
 use Rattle.reach_laws.proofs.Facts.{RepairRules, get_at, step_other, step_state}
 use Rattle.reach_laws.proofs.Order.{Among, repair_rules}
 use Rattle.reach_laws.proofs.Walk.{mended_by, repairs_from, way_on, member_sound, home_member}
-use Rattle.reach_laws.proofs.Sound.{Inner, HasNone, inner_covers, find_home, allowed_plan, class_is_reach, mending_one}
+use Rattle.reach_laws.proofs.Sound.{Inner, HasNone, inner_covers, find_home, allowed_plan, class_is_reach}
 use Rattle.reach_laws.proofs.Cells.{missing_among, found_picks}
 use Rattle.reach_laws.proofs.Serial.{Done, Led, led_inner, led_end, whole_led}
 use Rattle.cca_laws.proofs.GoalLaws.{one_first_missing, Held}
 use Rattle.reach_laws.proofs.Needed.{Landed, landed, landed_inner, picks_are_needed}
-use Rattle.cca_base.proofs.NextModes.{next_sound}
 
 -- ---- one command at most is found
 
@@ -188,11 +187,11 @@ empty_stays b base member s g goal ks last inside whole d none =
 -- ---- ways back
 
 -- where no repair leads to a broken mode, a broken mode on the way is the base mode
-pub on_way_base : (m : PlantModel) (base : List ℕ) (member : Test) → WellFormed m → (c a x n : ℕ) → is_broken m.moves c x ≡ true → OpenRepairs m member c a x n → x ≡ a
-on_way_base m base member w c a x zero broken e = sym e
-on_way_base m base member w c a x (suc n) broken p =
+pub on_way_base : (m : PlantModel) (base : List ℕ) (member : Test) → WellFormed m → MendsAtOnce m.moves → (c a x n : ℕ) → is_broken m.moves c x ≡ true → OpenRepairs m member c a x n → x ≡ a
+on_way_base m base member w at_once c a x zero broken e = sym e
+on_way_base m base member w at_once c a x (suc n) broken p =
     let rules = repair_rules m w in
-    let sound : is_broken m.moves c p.0 ≡ false = next_sound m.moves w.repairs c a p.0 (mended_by m member rules c a p.0 p.1 p.2) in
+    let sound : is_broken m.moves c p.0 ≡ false = at_once c a p.0 (mended_by m member rules c a p.0 p.1 p.2) in
     absurd (both_ways (is_broken m.moves c x) (later c p.0 x n sound p.3) broken)
   where
     later : (c a x n : ℕ) → is_broken m.moves c a ≡ false → OpenRepairs m member c a x n → is_broken m.moves c x ≡ false
@@ -200,7 +199,7 @@ on_way_base m base member w c a x (suc n) broken p =
     later c a x (suc n) sound p = absurd (both_ways (is_broken m.moves c a) sound p.1)
 
 module _ (b : CompiledModel) (base : List ℕ) (member : Test) (from s : List ℕ) (g : Setting b.model b.order base member s)
-    (state : IsState b.model from) (covers : Covers b.model base member from) (goal : List Pair) (back : IsBackGoal b s goal) where
+    (state : IsState b.model from) (covers : Covers b.model base member from) (stays : StaysOnChain b.model member from s) (goal : List Pair) (back : IsBackGoal b s goal) where
   abbrev rules : RepairRules b.model
   rules = repair_rules b.model g.well_formed
 
@@ -215,25 +214,17 @@ module _ (b : CompiledModel) (base : List ℕ) (member : Test) (from s : List �
 
   mends_broken : (ks last : List ℕ) → Extends last goal → WholeInner b base member from ks last → (c : ℕ) → c < length b.model.components → is_broken b.model.moves c (slice_index s c) ≡ true
       → (on : IsOnWay b.model base member c (slice_index s c)) → ((a : ℕ) × IsHome b.model base member c a) ⊎ HasNone member c
-      → (slice_index last c ≡ slice_index s c) ⊎ IsMended b.model.moves c (slice_index s c) (slice_index last c)
+      → IsInChain b.model.moves c (slice_index s c) (slice_index last c)
   mends_broken ks last stands made c within broken on (inl found) =
       let way = way_on b.model member rules c (slice_index base c) (slice_index s c) found.0 on.count found.1.count on.way found.1.way found.1.sound in
-      let mended : IsMended b.model.moves c (slice_index s c) found.0 =
-      elim (mending_one b.model g.well_formed c (slice_index s c) found.0 way.0 (repairs_from b.model member rules c (slice_index s c) found.0 way.0 way.1)) [
-        | inl same ↦ absurd (both_ways (is_broken b.model.moves c found.0) found.1.sound (subst (λ x. is_broken b.model.moves c x ≡ true) (sym same) broken))
-        | inr mended ↦ mended
-      ] in
+      let chain = repairs_from b.model member rules c (slice_index s c) found.0 way.0 way.1 in
+      let mended : IsMended b.model.moves c (slice_index s c) found.0 = record { broken = broken; sound = found.1.sound; count = way.0; chain = chain } in
       let reach = ((class_is_reach b.model b.order base member s g c found.0).0 (home_member b.model base member rules g.classes c found.0 found.1)).1 in
       let there : slice_index last c ≡ found.0 = wanted_stands last stands (record { item = c; value = found.0 })
       (inr (slice_index s c, get_at s c (subst (λ n. c < n) (sym g.state.full) within), mended, reach)) in
-      inr (subst (IsMended b.model.moves c (slice_index s c)) (sym there) mended)
+      subst (IsInChain b.model.moves c (slice_index s c)) (sym there) (way.0, chain)
   mends_broken ks last stands made c within broken on (inr none) =
-      let at_s : slice_index s c ≡ slice_index base c = on_way_base b.model base member g.well_formed c (slice_index base c) (slice_index s c) on.count on.broken on.way in
-      let at_from : slice_index from c ≡ slice_index base c = elim (covers c within) [
-        | inl inside ↦ absurd (none (slice_index from c) inside)
-        | inr way ↦ on_way_base b.model base member g.well_formed c (slice_index base c) (slice_index from c) way.count way.broken way.way
-      ] in
-      inl (made.empty c none ∙ at_from ∙ sym at_s)
+      subst (IsInChain b.model.moves c (slice_index s c)) (sym (made.empty c none)) (stays c within broken none)
 
   back_mends : (ks last : List ℕ) → Whole b goal from ks last → Mending b.model s last
   back_mends ks last whole =
@@ -245,7 +236,7 @@ module _ (b : CompiledModel) (base : List ℕ) (member : Test) (from s : List �
         each = λ c lt.
             let within : c < length b.model.components = subst (λ n. c < n) g.state.full lt in
             elim (cases_Bool (is_broken b.model.moves c (slice_index s c))) [
-              | inr sound ↦ inl (wanted_stands last stands (record { item = c; value = slice_index s c }) (inl (get_at s c lt, sound)))
+              | inr sound ↦ (0, sym (wanted_stands last stands (record { item = c; value = slice_index s c }) (inl (get_at s c lt, sound))))
               | inl broken ↦ elim (g.covers c within) [
                 | inl inside ↦ absurd (both_ways (is_broken b.model.moves c (slice_index s c)) (member_sound b.model base member rules g.classes c (slice_index s c) inside) broken)
                 | inr on ↦ mends_broken ks last stands made c within broken on (find_home b.model base member rules g.classes g.grounded c)
@@ -254,8 +245,8 @@ module _ (b : CompiledModel) (base : List ℕ) (member : Test) (from s : List �
       }
 
 pub way_back : WayBack
-way_back b base member from s g state covers goal back =
-    (back_inside b base member from s g state covers goal back, back_mends b base member from s g state covers goal back)
+way_back b base member from s g state covers stays goal back =
+    (back_inside b base member from s g state covers stays goal back, back_mends b base member from s g state covers stays goal back)
 
 -- after a picked command the same classes cover the state
 pub next_setting : (b : CompiledModel) (base : List ℕ) (member : Test) (goal : List Pair) → AreInside member goal → (s next : List ℕ) (k : ℕ) → Setting b.model b.order base member s

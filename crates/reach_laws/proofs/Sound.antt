@@ -5,10 +5,9 @@ use Rattle.std.proofs.lemmas.List.Elements.{All-contains}
 use Rattle.std.proofs.lemmas.Option.{slice_get_within, same_Some, none-some}
 use Rattle.list_laws.proofs.Places.{value_at, get_at}
 use Rattle.cca_base.specs.declared.cube.Pair.{Pair}
-use Rattle.cca_base.specs.declared.model.Move.{Move}
 use Rattle.cca_base.specs.PlantModel.{PlantModel}
 use Rattle.cca_base.specs.Cube.{IsRising}
-use Rattle.cca_base.specs.Model.{WellFormed, IsNext, IsMended, RepairChain, HasMode, is_broken, mode_counts}
+use Rattle.cca_base.specs.Model.{RepairChain, HasMode, is_broken, mode_counts}
 use Rattle.cca_base.specs.Implicants.{Needs}
 use Rattle.cca_base.specs.State.{IsState}
 use Rattle.cca_base.specs.Repairs.{Mending}
@@ -23,8 +22,7 @@ use Rattle.reach_laws.proofs.Support.{leans}
 use Rattle.reach_laws.proofs.Order.{repair_rules, Among, AreEffectsFirst, IsOrder, order_from}
 use Rattle.cca_laws.proofs.Minimal.{one_pair, search_list}
 use Rattle.reach_laws.proofs.Ready.{steps_are_ready}
-use Rattle.reach_laws.proofs.Walk.{Mends, mended_by, repairs_from, way_on, one_home, home_member, near_member, member_sound, member_within, stands_sound, home_from, closed, mends_from}
-use Rattle.cca_base.proofs.NextModes.{mended_of_next, next_broken, next_sound}
+use Rattle.reach_laws.proofs.Walk.{mended_by, repairs_from, way_on, one_home, home_member, near_member, member_sound, member_within, stands_sound, home_from, closed}
 
 -- ---- what a cube wants
 
@@ -333,7 +331,7 @@ module _ (m : PlantModel) (base : List ℕ) (member : Test) (rules : RepairRules
       ks : List ℕ
       end : List ℕ
       run : Run m t ks end
-      mends : Mends m s end
+      mends : Mending m s end
 
     comes_back : (s t : List ℕ) (k : ℕ) → InnerStep m base member s k t → WayBack s t
     comes_back s t k inner =
@@ -407,7 +405,7 @@ module _ (m : PlantModel) (base : List ℕ) (member : Test) (rules : RepairRules
         (λ broken. both_ways step.move.repair plain (rules.only_repairs_enter step.move step.of_model broken))
 
     pub back_into : (s t : List ℕ) (k : ℕ) → IsState m s → Covers m base member s → (step : Step m s k t) → step.move.repair ≡ false
-        → (ks end : List ℕ) → Run m t ks end → Mends m s end → member step.move.component step.move.target ≡ true
+        → (ks end : List ℕ) → Run m t ks end → Mending m s end → member step.move.component step.move.target ≡ true
     back_into s t k state covers step plain ks end run mends =
         let c = step.move.component in
         let within : c < length m.components = subst (λ n. c < n) state.full (step_within m s t k step) in
@@ -426,7 +424,7 @@ module _ (m : PlantModel) (base : List ℕ) (member : Test) (rules : RepairRules
       | inl repair ↦ repair_into s t k state covers a.step repair
       | inr plain ↦ inl (elim a.back [
         | inl repair ↦ absurd (both_ways a.step.move.repair plain repair)
-        | inr back ↦ back_into s t k state covers a.step plain back.0 back.1 back.2 (mends_from m s back.1 back.3)
+        | inr back ↦ back_into s t k state covers a.step plain back.0 back.1 back.2 back.3
       ])
     ])
 
@@ -444,27 +442,6 @@ module _ (m : PlantModel) (base : List ℕ) (member : Test) (rules : RepairRules
         subst (λ v. member c v ≡ true) at_x
         (stands_sound m base member rules classes c (slice_index reach.1 c) (end.1 c within) (subst (λ v. is_broken m.moves c v ≡ false) (sym at_x) sound))
 
--- ---- mendings, where no repair leads to a broken mode
-
-pub mending_one : (m : PlantModel) → WellFormed m → (c a b n : ℕ) → RepairChain m.moves c a b n → (b ≡ a) ⊎ IsMended m.moves c a b
-mending_one m w c a b zero e = inl (sym e)
-mending_one m w c a b (suc zero) p = inr (mended_of_next m.moves w.repairs c a b (subst (IsNext m.moves c a) p.2 p.1))
-mending_one m w c a b (suc (suc n)) p =
-    absurd (both_ways (is_broken m.moves c p.0) (next_sound m.moves w.repairs c a p.0 p.1) (next_broken m.moves c p.0 p.2.0 p.2.1))
-
-mending_from : (m : PlantModel) → WellFormed m → (s t : List ℕ) → Mends m s t → Mending m s t
-mending_from m w s t h = record {
-  full = h.full;
-  each = λ c lt. let way = h.each c lt in mending_one m w c (slice_index s c) (slice_index t c) way.0 way.1;
-}
-
--- in a well-formed model a repair leads into the class
-stands_mended : (m : PlantModel) (base : List ℕ) (member : Test) → WellFormed m → (move : Move) → Contains m.moves move
-    → Stands m base member move.component move.target → member move.component move.target ≡ true
-stands_mended m base member w move among (inl inside) = inside
-stands_mended m base member w move among (inr on) = absurd (both_ways (is_broken m.moves move.component move.target)
-    (All-contains (λ x. is_broken m.moves x.component x.target ≡ false) m.moves move w.repairs.none_into among) on.broken)
-
 -- ---- the laws
 
 module _ (m : PlantModel) (order base : List ℕ) (member : Test) (s : List ℕ) (g : Setting m order base member s) where
@@ -477,7 +454,7 @@ module _ (m : PlantModel) (order base : List ℕ) (member : Test) (s : List ℕ)
   returns : (x y : List ℕ) (k : ℕ) → InnerStep m base member x k y → Returns m x y
   returns x y k inner =
       let back = comes_back m base member rules g.classes g.grounded order ordered x y k inner in
-      (back.ks, back.end, back.run, mending_from m g.well_formed x back.end back.mends)
+      (back.ks, back.end, back.run, back.mends)
 
   pub allowed : (x y : List ℕ) (k : ℕ) → InnerStep m base member x k y → Allowed m x k y
   allowed x y k inner = record { step = inner.step; back = inr (returns x y k inner) }
@@ -518,14 +495,13 @@ one_classes m order base member other g k c x =
 pub returns_inside : ReturnsInside
 returns_inside m order base member s g t k step plain = (
   (λ back. back_into m base member (repair_rules m g.well_formed) g.classes g.grounded order (order_from m order g.ordered) s t k g.state g.covers step plain back.0 back.1 back.2
-      (mends_from m s back.1 back.3)),
+      back.3),
   (λ into. returns m order base member s g s t k
       (inner_from m base member (repair_rules m g.well_formed) g.classes g.grounded order (order_from m order g.ordered) s t k g.state g.covers step (inl into))),
 )
 
 pub repairs_lead_in : RepairsLeadIn
 repairs_lead_in m order base member s g t k step repair =
-    stands_mended m base member g.well_formed step.move step.of_model
     (repair_into m base member (repair_rules m g.well_formed) g.classes g.grounded order (order_from m order g.ordered) s t k g.state g.covers step repair)
 
 pub stays_covered_law : StaysCovered

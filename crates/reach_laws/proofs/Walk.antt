@@ -18,20 +18,6 @@ use Rattle.reach_laws.proofs.Ready.{steps_are_ready}
 use Rattle.cca_base.proofs.NextModes.{next_broken, repair_of}
 use Rattle.cca_laws.proofs.PlanLaws.{runs_join}
 
--- each component stands in a mode to which repairs lead from where it stood
-pub record Mends (m : PlantModel) (s t : List ℕ) : Type 0 where
-  pub full : length t ≡ length s
-  pub each : (c : ℕ) → c < length s → (n : ℕ) × RepairChain m.moves c (slice_index s c) (slice_index t c) n
-
-pub mends_from : (m : PlantModel) (s t : List ℕ) → Mending m s t → Mends m s t
-mends_from m s t h = record {
-  full = h.full;
-  each = λ c lt. elim (h.each c lt) [
-    | inl same ↦ (0, sym same)
-    | inr mended ↦ (mended.count, mended.chain)
-  ];
-}
-
 -- ---- repairs
 
 module _ (m : PlantModel) (member : Test) (rules : RepairRules m) where
@@ -154,7 +140,7 @@ module _ (m : PlantModel) (base : List ℕ) (member : Test) (rules : RepairRules
 
   -- ---- the closed walk
 
-  module _ (s t : List ℕ) (state : IsState m s) (covers : Covers m base member s) (mends : Mends m s t) where
+  module _ (s t : List ℕ) (state : IsState m s) (covers : Covers m base member s) (mends : Mending m s t) where
     -- a run from s to t passes this state
     abbrev OnRun : List ℕ → Type 0
     OnRun mid = (ks ls : List ℕ) × Run m s ks mid × Run m mid ls t
@@ -234,4 +220,4 @@ module _ (m : PlantModel) (base : List ℕ) (member : Test) (rules : RepairRules
 
 pub closed_walk : ClosedWalk
 closed_walk m order base member s g mid t ks ls run rest mending c within sound =
-    closed m base member (repair_rules m g.well_formed) g.classes s t g.state g.covers (mends_from m s t mending) order (order_from m order g.ordered) mid ks ls run rest c within sound
+    closed m base member (repair_rules m g.well_formed) g.classes s t g.state g.covers mending order (order_from m order g.ordered) mid ks ls run rest c within sound

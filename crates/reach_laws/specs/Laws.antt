@@ -1,16 +1,16 @@
 -- The laws of classes and reach.
-use Rattle.std.specs.Prelude.{◌≡◌, ◌⊎◌, ◌↔◌, ◌<◌, ℕ, true, false, List, length, slice_get, slice_index, Some, All, IsTrue}
+use Rattle.std.specs.Prelude.{◌≡◌, ◌↔◌, ◌<◌, ℕ, true, false, List, length, slice_get, slice_index, Some, All, IsTrue}
 use Rattle.cca_base.specs.declared.cube.Pair.{Pair}
 use Rattle.cca_base.specs.declared.model.Move.{Move}
 use Rattle.cca_base.specs.PlantModel.{PlantModel}
-use Rattle.cca_base.specs.Model.{WellFormed, is_broken}
+use Rattle.cca_base.specs.Model.{WellFormed, IsMended, is_broken}
 use Rattle.cca_base.specs.State.{IsState}
 use Rattle.cca_base.specs.Implicants.{PrimeImplicant}
 use Rattle.cca_base.specs.Orders.{IsEffectsFirst}
 use Rattle.cca_base.specs.Repairs.{Mending}
 use Rattle.cca_base.specs.Steps.{Step, Run, Allowed, AllowedPlan, Reach}
 use Rattle.cca_base.specs.Choice.{IsOpenAt, Walk}
-use Rattle.reach_laws.specs.Classes.{Test, IsOpen, OpenWalk, AreClasses, Stands, Covers}
+use Rattle.reach_laws.specs.Classes.{Test, IsOpen, OpenWalk, IsHome, AreClasses, Stands, Covers}
 
 -- classes of a model around a base, its order, and a state that they cover
 pub record Setting (m : PlantModel) (order base : List ℕ) (member : Test) (s : List ℕ) : Type 0 where
@@ -63,10 +63,10 @@ ReturnsInside = (m : PlantModel) (order base : List ℕ) (member : Test) (s : Li
     → (t : List ℕ) (k : ℕ) (step : Step m s k t) → step.move.repair ≡ false
     → Returns m s t ↔ (member step.move.component step.move.target ≡ true)
 
--- a repair that is a step leads into the class
+-- a repair that is a step leads into the class, or to a broken mode of the open chain
 abbrev pub RepairsLeadIn : Type 0
 RepairsLeadIn = (m : PlantModel) (order base : List ℕ) (member : Test) (s : List ℕ) → Setting m order base member s
-    → (t : List ℕ) (k : ℕ) (step : Step m s k t) → IsTrue step.move.repair → member step.move.component step.move.target ≡ true
+    → (t : List ℕ) (k : ℕ) (step : Step m s k t) → IsTrue step.move.repair → Stands m base member step.move.component step.move.target
 
 -- what an allowed plan ends in is covered by the same classes
 abbrev pub StaysCovered : Type 0
@@ -83,7 +83,7 @@ abbrev pub WalksAgree : Type 0
 WalksAgree = (m : PlantModel) (order base : List ℕ) (member : Test) (s : List ℕ) → Setting m order base member s
     → (c from to n : ℕ) → Walk m s c from to n ↔ OpenWalk m member c from to n
 
--- where no repair leads to a broken mode, a covered component stands in its class or in its base mode
-abbrev pub StandsByBase : Type 0
-StandsByBase = (m : PlantModel) (base : List ℕ) (member : Test) → WellFormed m → AreClasses m base member
-    → (c x : ℕ) → c < length m.components → Stands m base member c x ↔ ((member c x ≡ true) ⊎ (x ≡ slice_index base c))
+-- where the base mode is broken, the home is its mended mode
+abbrev pub HomeIsMended : Type 0
+HomeIsMended = (m : PlantModel) (base : List ℕ) (member : Test) → WellFormed m
+    → (c a : ℕ) → is_broken m.moves c (slice_index base c) ≡ true → IsHome m base member c a → IsMended m.moves c (slice_index base c) a

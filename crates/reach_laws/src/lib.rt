@@ -2,7 +2,8 @@
 #![tactic(auto)]
 
 ghost use Rattle.reach_laws.specs.Plans.{CellsAreChoices, FoundIsPicked, Serialisation, OnePick, OneWhole, PicksAreNeeded, StandingStays, OthersStay, AnswersAreChosen, WholeIsAllowed, EmptyStays, WayBack};
-ghost use Rattle.reach_laws.specs.Laws.{EachStepIsReady, ClosedWalk, ClassIsReach, OneClasses, ReturnsInside, RepairsLeadIn, StaysCovered, AllowedInside, OpenAgrees, WalksAgree, StandsByBase};
+ghost use Rattle.reach_laws.specs.Laws.{EachStepIsReady, ClosedWalk, ClassIsReach, OneClasses, ReturnsInside, RepairsLeadIn, StaysCovered, AllowedInside, OpenAgrees, WalksAgree, HomeIsMended};
+ghost use Rattle.reach_laws.specs.FirstVersion.{StandsByBase, RepairsMendAtOnce, StuckStays};
 
 mod cell;
 
@@ -33,7 +34,7 @@ pub fn returns_inside()
     ensures { ReturnsInside }
 {}
 
-/// A repair leads into its class.
+/// A repair leads into its class, or to a broken mode of the open chain.
 pub fn repairs_lead_in()
     ensures { RepairsLeadIn }
 {}
@@ -118,7 +119,15 @@ pub fn way_back()
     ensures { WayBack }
 {}
 
-/// A covered component stands in its class or in its base mode.
-pub fn stands_by_base()
-    ensures { StandsByBase }
+/// The home of a broken base mode is its mended mode.
+pub fn home_is_mended()
+    ensures { HomeIsMended }
+{}
+
+/// In the first version a covered component stands in its class or in its base mode, a repair leads into its class, and what can't be
+/// mended stands where it stood.
+pub fn first_version()
+    ensures stands { StandsByBase }
+    ensures mends { RepairsMendAtOnce }
+    ensures stuck { StuckStays }
 {}

@@ -6,3 +6,5 @@ pub mod Shortest
 pub mod Taken
 pub mod Standing
 pub mod Promised
+pub mod EdgeRepairs
+pub mod OpenChains

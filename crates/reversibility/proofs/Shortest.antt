@@ -1,10 +1,10 @@
 -- Levels of open moves, and homes by them.
-use Rattle.std.proofs.Common.{◌≡◌, ◌<◌, ◌≤◌, ◌-◌, ◌⊎◌, ℕ, true, false, zero, suc, List, length, slice_get, slice_index, Option, Some, None, refl, sym, ap, subst, ◌∙◌, inl, inr, arith}
-use Rattle.std.proofs.lemmas.Bool.{cases_lt, both_ways}
+use Rattle.std.proofs.Common.{◌≡◌, ◌<◌, ◌≤◌, ◌-◌, ◌⊎◌, ℕ, true, zero, suc, List, length, slice_get, slice_index, Option, Some, None, refl, sym, ap, subst, ◌∙◌, inl, inr, arith}
+use Rattle.std.proofs.lemmas.Bool.{cases_lt}
 use Rattle.std.proofs.lemmas.Option.{same_Some, none-some}
 use Rattle.cca_base.specs.declared.model.Move.{Move}
 use Rattle.cca_base.specs.PlantModel.{PlantModel}
-use Rattle.cca_base.specs.Model.{WellFormed, HasMode, IsNext, is_broken, mode_counts}
+use Rattle.cca_base.specs.Model.{WellFormed, HasMode, mode_counts}
 use Rattle.cca_base.specs.Relations.{numbers_below}
 use Rattle.cca_base.proofs.PathLaws.{below_contains, numbers_within}
 use Rattle.reach_laws.specs.Classes.{Test, OpenMove, OpenWalk, Joined, OpenRepairs}
@@ -17,10 +17,10 @@ use Rattle.reach_laws.proofs.Trails.{shortest_few}
 use Rattle.reach_laws.proofs.Walk.{mended_by}
 use Rattle.reversibility.specs.ClassParts.{in_row}
 use Rattle.reversibility.specs.Levels.{Edges, MoveLeads, AreOpenMoves, EdgeWalk, IsNear, IsLevel, AreLevels, AreEnough, AreLevelsOf}
-use Rattle.reversibility.specs.Homes.{IsAround, IsHomeBy, IsHomeFrom, IsClassFrom}
+use Rattle.reversibility.specs.Homes.{IsAround, EdgeRepairs, IsHomeBy, IsHomeFrom, IsClassFrom}
 use Rattle.reversibility.proofs.Near.{closed_walk}
 use Rattle.reversibility.proofs.OpenMoves.{leads_open, open_leads}
-use Rattle.cca_base.proofs.NextModes.{next_broken, next_sound}
+use Rattle.cca_base.proofs.NextModes.{next_broken}
 
 -- ---- the least number
 
@@ -192,24 +192,25 @@ module _ (m : PlantModel) (w : WellFormed m) (member : Test) (c : ℕ) where
   -- ---- homes
 
   module _ (numbers : List ℕ) (are : AreOpenMoves m member c numbers) where
+    open_repairs : (mode a n : ℕ) → EdgeRepairs m.moves (MoveLeads m numbers (length numbers)) c mode a n → OpenRepairs m member c mode a n
+    open_repairs mode a zero e = e
+    open_repairs mode a (suc n) p =
+        (p.0, next_broken m.moves c mode p.0 p.1, leads_open m w member c numbers are mode p.0 p.2, open_repairs p.0 a n p.3)
+
     pub home_from : (mode a : ℕ) → IsHomeBy m.moves (MoveLeads m numbers (length numbers)) c mode a → IsHomeFrom m member c mode a
-    home_from mode a (inl own) = record { sound = subst (λ x. is_broken m.moves c x ≡ false) (sym own.1) own.0; count = 0; way = sym own.1 }
-    home_from mode a (inr mended) = record {
-      sound = next_sound m.moves w.repairs c mode a mended.0;
-      count = 1;
-      way = (a, next_broken m.moves c mode a mended.0, leads_open m w member c numbers are mode a mended.1, refl);
-    }
+    home_from mode a h = record { sound = h.0; count = h.1.0; way = open_repairs mode a h.1.0 h.1.1 }
+
+    edge_repairs : (mode a n : ℕ) → OpenRepairs m member c mode a n → EdgeRepairs m.moves (MoveLeads m numbers (length numbers)) c mode a n
+    edge_repairs mode a zero e = e
+    edge_repairs mode a (suc n) p =
+        (p.0, mended_by m member rules c mode p.0 p.1 p.2, open_leads m w member c numbers are mode p.0 p.2, edge_repairs p.0 a n p.3)
 
     pub home_by : (mode a : ℕ) → IsHomeFrom m member c mode a → IsHomeBy m.moves (MoveLeads m numbers (length numbers)) c mode a
-    home_by mode a h = by_count mode a h.count h.sound h.way
-      where
-        by_count : (mode a n : ℕ) → is_broken m.moves c a ≡ false → OpenRepairs m member c mode a n → IsHomeBy m.moves (MoveLeads m numbers (length numbers)) c mode a
-        by_count mode a zero sound e = inl (subst (λ x. is_broken m.moves c x ≡ false) (sym e) sound, sym e)
-        by_count mode a (suc zero) sound p =
-            inr (subst (IsNext m.moves c mode) p.3 (mended_by m member rules c mode p.0 p.1 p.2), subst (MoveLeads m numbers (length numbers) mode) p.3 (open_leads m w member c numbers are mode p.0 p.2))
-        by_count mode a (suc (suc n)) sound p =
-            absurd (both_ways (is_broken m.moves c p.0) (next_sound m.moves w.repairs c mode p.0 (mended_by m member rules c mode p.0 p.1 p.2)) p.3.1)
+    home_by mode a h = (h.sound, (h.count, edge_repairs mode a h.count h.way))
+
+    repairs_mode : (mode a n : ℕ) → HasMode m c mode → EdgeRepairs m.moves (MoveLeads m numbers (length numbers)) c mode a n → HasMode m c a
+    repairs_mode mode a zero has_mode e = subst (HasMode m c) e has_mode
+    repairs_mode mode a (suc n) has_mode p = repairs_mode p.0 a n (target_mode mode p.0 (leads_open m w member c numbers are mode p.0 p.2)) p.3
 
     pub home_mode : (mode a : ℕ) → HasMode m c mode → IsHomeBy m.moves (MoveLeads m numbers (length numbers)) c mode a → HasMode m c a
-    home_mode mode a has_mode (inl own) = subst (HasMode m c) (sym own.1) has_mode
-    home_mode mode a has_mode (inr mended) = target_mode mode a (leads_open m w member c numbers are mode a mended.1)
+    home_mode mode a has_mode h = repairs_mode mode a h.1.0 has_mode h.1.1

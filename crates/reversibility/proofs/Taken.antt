@@ -21,6 +21,7 @@ use Rattle.reach_laws.proofs.Facts.{RepairRules}
 use Rattle.reach_laws.proofs.Walk.{one_end, repairs_from}
 use Rattle.reach_laws.proofs.Needed.{needed_among}
 use Rattle.reversibility.specs.ClassParts.{in_row, IsClasses}
+use Rattle.reversibility.specs.Chains.{AreOpenChains}
 use Rattle.reversibility.specs.Homes.{IsHomeFrom, IsClassFrom, AreDone}
 
 -- ---- what depends on the needed components alone
@@ -197,15 +198,21 @@ next_done order i c lt at =
     drop-cons order j 0 within ∙ (ap (λ x. x ∷ drop (suc j) order) item ∙ ap (λ k. c ∷ drop k order) next)
 
 -- all components are done
-pub all_done : (b : CompiledModel) (is : IsCompiled b) (base rows : List ℕ) (flags : List Bool) → IsState b.model base → AreDone b.model base rows flags b.order
-    → IsClasses (record { compiled = b; base = base; rows = rows; mendable = flags })
-all_done b is base rows flags state h =
+pub all_done : (b : CompiledModel) (is : IsCompiled b) (base rows chains : List ℕ) (flags : List Bool) → IsState b.model base → AreDone b.model base rows flags b.order
+    → length chains ≡ length rows → AreOpenChains b.model base (in_row rows) chains (length rows)
+    → IsClasses (record { compiled = b; base = base; rows = rows; chains = chains; mendable = flags })
+all_done b is base rows chains flags state h full open_ones =
     let ordered : IsOrder b.model b.order = order_from b.model b.order is.order in
     record {
       compiled = is;
       grounded = state;
       rows_full = h.rows_full;
       mendable_full = h.flags_full;
+      chains_full = full ∙ h.rows_full;
+      chains = λ u x lt. let on = open_ones u (omega (arith, lt, h.rows_full)) x in (
+        (λ e. let k = on.0 e in record { broken = k.0; count = k.1.0; way = k.1.1 }),
+        (λ k. on.1 (k.broken, (k.count, k.way))),
+      );
       classes = record {
         each = λ c x. elim (cases_lt c (length b.model.components)) [
           | inl lt ↦ h.each c x (ordered.all_there c lt)

@@ -1,5 +1,5 @@
 -- Homes and classes of single components, and of those that are done.
-use Rattle.std.specs.Prelude.{◌≡◌, ◌⊎◌, ◌↔◌, ◌<◌, ℕ, Bool, true, false, List, length, slice_index}
+use Rattle.std.specs.Prelude.{◌≡◌, ◌↔◌, ◌<◌, ℕ, zero, suc, Bool, true, false, List, length, slice_index}
 use Rattle.cca_base.specs.declared.model.Move.{Move}
 use Rattle.cca_base.specs.PlantModel.{PlantModel}
 use Rattle.cca_base.specs.Flags.{is_set}
@@ -14,9 +14,14 @@ use Rattle.reversibility.specs.ClassParts.{in_row}
 abbrev pub IsAround : List ℕ → ℕ → ℕ → ℕ → Type 0
 IsAround closed home n all = (x : ℕ) → (has all x ≡ true) ↔ ((x < n) × (in_row closed home x ≡ true) × (in_row closed x home ≡ true))
 
--- by edges: the mode itself where it is not broken, and else its mended mode, where an edge leads there
+-- n repairs lead from a mode to the next one, and so on, each along an edge
+abbrev pub EdgeRepairs : List Move → Edges → ℕ → ℕ → ℕ → ℕ → Type 0
+EdgeRepairs moves edge c from to zero = from ≡ to
+EdgeRepairs moves edge c from to (suc n) = (next : ℕ) × IsNext moves c from next × edge from next × EdgeRepairs moves edge c next to n
+
+-- by edges: the first mode that is not broken on the way from a mode along repairs
 abbrev pub IsHomeBy : List Move → Edges → ℕ → ℕ → ℕ → Type 0
-IsHomeBy moves edge c mode a = ((is_broken moves c mode ≡ false) × (a ≡ mode)) ⊎ (IsNext moves c mode a × edge mode a)
+IsHomeBy moves edge c mode a = (is_broken moves c a ≡ false) × ((n : ℕ) × EdgeRepairs moves edge c mode a n)
 
 -- the first mode that is not broken on the way from a mode along open repairs
 pub record IsHomeFrom (m : PlantModel) (member : Test) (c mode a : ℕ) : Type 0 where

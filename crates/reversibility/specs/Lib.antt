@@ -1,3 +1,4 @@
+pub mod Chains
 pub mod ClassParts
 pub mod Levels
 pub mod Homes

@@ -8,7 +8,7 @@ ghost use Rattle.reversibility.specs.Levels.{AreMovesWithin, MoveLeads};
 ghost use Rattle.reversibility.specs.ClassParts.{in_row};
 
 use crate::paths::paths_of;
-use cca_base::{Compiled, Model, ValueSet};
+use cca_base::{Compiled, MAX_CHOICES, Model, ValueSet};
 use std::alloc::{AllocError, Global};
 
 /// Whether one of the moves leads from the one mode to the other.
@@ -26,7 +26,7 @@ fn leads(model: &Model, numbers: &[u16], from: u8, to: u8) -> bool
     false
 }
 
-/// The home of a mode by the open moves: the mode itself, or where it is broken its mended mode.
+/// The home of a mode by the open moves: the first along its repairs that is not broken.
 fn home_of(model: &Model, numbers: &[u16], component: u16, mode: u8) -> Option<u8>
     requires { (n : ℕ) × AreMovesWithin model.now n numbers.now }
     ensures { MatchOption result
@@ -34,16 +34,19 @@ fn home_of(model: &Model, numbers: &[u16], component: u16, mode: u8) -> Option<u
         (IsHomeBy model.now.moves (MoveLeads model.now numbers.now (length numbers.now)) component mode) }
 {
     let _moves = model.moves();
-    match model.mended(component, mode) {
-        None => Some(mode),
-        Some(mended) => {
-            if leads(model, numbers, mode, mended) {
-                Some(mended)
-            } else {
-                None
+    let mut at = mode;
+    for taken in 0..MAX_CHOICES {
+        match model.next_mode(component, at) {
+            None => return Some(at),
+            Some(next) => {
+                if !leads(model, numbers, at, next) {
+                    return None;
+                }
+                at = next;
             }
         }
     }
+    unreachable!()
 }
 
 /// The modes that are joined both ways with the home.

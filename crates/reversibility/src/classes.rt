@@ -4,9 +4,11 @@ ghost use Rattle.std.specs.Prelude.{◌≡◌, ◌↔◌, ◌<◌, IsTrue, IfOk,
 ghost use Rattle.cca_base.specs.Flags.{is_set};
 ghost use Rattle.cca_base.specs.State.{IsState};
 ghost use Rattle.reach_laws.specs.Classes.{Covers, Stands};
+ghost use Rattle.reversibility.specs.Chains.{AreOpenChains};
 ghost use Rattle.reversibility.specs.ClassParts.{IsClasses, CoversState, in_row};
-ghost use Rattle.reversibility.specs.Promises.{IsMendable, IsLost, IsEmptySet, IsReachOf, AllowsInside, MendsInside, StaysInside, StandsAt, StandsByBase};
+ghost use Rattle.reversibility.specs.Promises.{IsMendable, IsLost, IsEmptySet, IsReachOf, AllowsInside, MendsInside, StaysInside, StandsAt, StandsByChain};
 
+use crate::open::open_chain;
 use crate::taking::{Taken, take};
 use cca_base::{Compiled, List, State, ValueSet};
 use std::alloc::{AllocError, Global};
@@ -18,6 +20,7 @@ pub struct Classes {
     compiled: Rc<Compiled>,
     base: State,
     rows: List<ValueSet>,
+    chains: List<ValueSet>,
     mendable: List<bool>,
 }
 
@@ -37,6 +40,7 @@ impl std::marker::Model for Classes {
       compiled = c.compiled.value;
       base = c.base.modes;
       rows = c.rows;
+      chains = c.chains;
       mendable = c.mendable;
     } };
 
@@ -44,8 +48,29 @@ impl std::marker::Model for Classes {
       compiled = c.compiled.value;
       base = c.base.modes;
       rows = c.rows;
+      chains = c.chains;
       mendable = c.mendable;
     }) };
+}
+
+/// The broken modes of each component's open chain.
+fn open_chains(
+    alloc: Global,
+    compiled: &Compiled,
+    rows: &[ValueSet],
+    base: &State,
+) -> Result<List<ValueSet>, AllocError>
+    requires rows { length rows.now ≡ length compiled.now.model.components }
+    requires base { IsState compiled.now.model base.now.modes }
+    ensures full { IfOk result (λ chains. length chains ≡ length rows.now) }
+    ensures each { IfOk result (λ chains. AreOpenChains compiled.now.model base.now.modes (in_row rows.now) chains (length rows.now)) }
+{
+    let _model = compiled.model();
+    let mut chains = List::new(alloc);
+    for c in 0..rows.len() {
+        chains.push(open_chain(compiled, rows, c as u16, *base.modes.get(c)))?;
+    }
+    Ok(chains)
 }
 
 impl Classes {
@@ -65,10 +90,12 @@ impl Classes {
             take(alloc, compiled, state, &mut taken, i)?;
         }
         let Taken { rows, mendable } = taken;
+        let chains = open_chains(alloc, compiled, rows.as_slice(), state)?;
         Ok(Classes {
             compiled: compiled.clone()?,
             base: state.copy(alloc)?,
             rows,
+            chains,
             mendable,
         })
     }
@@ -115,8 +142,7 @@ impl Classes {
         ensures mode { IsTrue result ↔ StandsAt self.now component mode }
         ensures classes { IsClasses self.now }
     {
-        self.rows.get(component as usize).has(mode)
-            || mode == *self.base.modes.get(component as usize)
+        self.rows.get(component as usize).has(mode) || self.chains.get(component as usize).has(mode)
     }
 
     /// Whether the component is broken in the base, and can be mended.
@@ -129,18 +155,17 @@ impl Classes {
         *self.mendable.get(c as usize)
     }
 
-    /// Whether each component of the state stands in its class or in its base mode.
+    /// Whether each component of the state stands in its class or in a broken mode of its open chain.
     pub fn covers(&self, state: &State) -> bool
         requires { IsState self.now.compiled.model state.now.modes }
         ensures value { IsTrue result ↔ Covers self.now.compiled.model self.now.base (in_row self.now.rows) state.now.modes }
-        ensures modes { IsTrue result ↔ StandsByBase self.now state.now.modes }
+        ensures modes { IsTrue result ↔ StandsByChain self.now state.now.modes }
         ensures allowed { IsTrue result → AllowsInside self.now state.now.modes }
         ensures mended { IsTrue result → MendsInside self.now state.now.modes }
         ensures later { IsTrue result → StaysInside self.now state.now.modes }
     {
         for c in 0..self.rows.len() {
-            let mode = *state.modes.get(c);
-            if !self.rows.get(c).has(mode) && mode != *self.base.modes.get(c) {
+            if !self.stands(c as u16, *state.modes.get(c)) {
                 return false;
             }
         }

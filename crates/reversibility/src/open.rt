@@ -4,8 +4,9 @@ ghost use Rattle.std.specs.Prelude.{◌≡◌, ◌↔◌, ◌<◌, IsTrue, IfOk,
 ghost use Rattle.reach_laws.specs.Classes.{AreInside};
 ghost use Rattle.reversibility.specs.Levels.{AreOpenMoves, SomeInside};
 ghost use Rattle.reversibility.specs.ClassParts.{in_row};
+ghost use Rattle.reversibility.specs.Chains.{LeavesMode, IsOpenChain};
 
-use cca_base::{Compiled, Cube, List, Pair, ValueSet};
+use cca_base::{Compiled, Cube, List, MAX_CHOICES, Pair, ValueSet};
 use std::alloc::{AllocError, Global};
 
 /// Whether each pair of the cube is in the sets.
@@ -32,6 +33,52 @@ fn is_open(cubes: &[Cube], rows: &[ValueSet]) -> bool
         }
     }
     false
+}
+
+/// Whether an open move of the component leaves the mode.
+fn leaves(compiled: &Compiled, rows: &[ValueSet], component: u16, mode: u8) -> bool
+    requires { length rows.now ≡ length compiled.now.model.components }
+    ensures { IsTrue result ↔ LeavesMode compiled.now.model (in_row rows.now) component mode }
+{
+    let moves = compiled.model().moves();
+    for i in 0..moves.len() {
+        let m = moves.get(i);
+        if (m.component == component && m.source == mode)
+            && is_open(compiled.ways().get(i).as_slice(), rows)
+        {
+            return true;
+        }
+    }
+    false
+}
+
+/// The broken modes on the way from a mode along open repairs.
+pub(crate) fn open_chain(
+    compiled: &Compiled,
+    rows: &[ValueSet],
+    component: u16,
+    mode: u8,
+) -> ValueSet
+    requires { length rows.now ≡ length compiled.now.model.components }
+    ensures { IsOpenChain compiled.now.model (in_row rows.now) component mode result }
+{
+    let model = compiled.model();
+    let _moves = model.moves();
+    let mut chain = ValueSet::empty();
+    let mut at = mode;
+    for taken in 0..MAX_CHOICES {
+        match model.next_mode(component, at) {
+            None => return chain,
+            Some(next) => {
+                chain = chain.with(at);
+                if !leaves(compiled, rows, component, at) {
+                    return chain;
+                }
+                at = next;
+            }
+        }
+    }
+    unreachable!()
 }
 
 /// The numbers of the component's open moves, rising.

@@ -82,7 +82,7 @@ ReadsModel s n (l ∷ ls) end = (o : LineOutcome) × LeadsAt s (n + 1) l o
 
 -- what is read of a model before its first line
 abbrev pub nothing_read : ModelSoFar
-nothing_read = record { model = empty_model; begun = false }
+nothing_read = record { model = empty_model 1; begun = false }
 
 -- the model of an input ends so
 abbrev pub EndsModel : List ℕ → ModelText → Type 0

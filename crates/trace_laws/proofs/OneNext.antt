@@ -1,5 +1,5 @@
 -- Where an event leads, and what is reported of it, is one.
-use Rattle.std.proofs.Common.{◌≡◌, ◌+◌, ℕ, Bool, false, List, [], length, Option, Some, None, Contains, IsTrue, refl, sym, ap, subst, ◌∙◌}
+use Rattle.std.proofs.Common.{◌≡◌, ◌+◌, ℕ, Bool, false, List, [], length, Option, Some, None, Contains, IsTrue, refl, sym, subst, ◌∙◌}
 use Rattle.std.proofs.lemmas.Bool.{false≢true}
 use Rattle.cca_base.specs.declared.cube.Pair.{Pair}
 use Rattle.cca_base.specs.declared.events.Event.{Event}
@@ -8,13 +8,11 @@ use Rattle.cca_base.specs.declared.events.Reply.{Reply}
 use Rattle.cca_base.specs.declared.events.Shown.{Shown}
 use Rattle.cca_base.specs.declared.events.Shown.TheVariants.{Estimated, Unexplained, Holding}
 use Rattle.cca_base.specs.declared.events.TickReport.{TickReport}
-use Rattle.cca_base.specs.PlantModel.{PlantModel}
 use Rattle.cca_base.specs.Accepted.{CompiledModel, IsCompiled}
 use Rattle.cca_base.specs.Orders.{numbers_below, IsSorted}
 use Rattle.cca_base.specs.Plans.{Promising}
 use Rattle.cca_base.specs.Successors.{Nominal}
 use Rattle.cca_base.specs.Estimates as estimates
-use Rattle.cca_base.specs.Choice.{IsChosenReply}
 use Rattle.cca_base.specs.Trace.{ExecutiveState, IsReply, Changes, command_of, TickShows}
 use Rattle.cca_base.proofs.NominalLaws.{one_nominal}
 use Rattle.cca_laws.proofs.OneOrder.{one_union, none_twice, one_sorted}

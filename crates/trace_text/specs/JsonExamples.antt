@@ -16,7 +16,7 @@ line text = text ++ 10 ∷ []
 
 -- a valve and its driver, of which a report tells the names
 abbrev pub valve_names : PlantModel
-valve_names = record empty_model {
+valve_names = record (empty_model 1) {
   components =
       record { name = codes "drv"; modes = codes "off" ∷ codes "on" ∷ []; start = 0 }
       ∷ record { name = codes "valve"; modes = codes "closed" ∷ codes "open" ∷ codes "stuck" ∷ []; start = 0 } ∷ [];
@@ -43,7 +43,7 @@ unit name = record { name = name; modes = codes "on" ∷ []; start = 0 }
 
 -- three components in the order in which they are declared
 abbrev pub three_units : PlantModel
-three_units = record empty_model { components = unit (codes "c2") ∷ unit (codes "c10") ∷ unit (codes "c1") ∷ [] }
+three_units = record (empty_model 1) { components = unit (codes "c2") ∷ unit (codes "c10") ∷ unit (codes "c1") ∷ [] }
 
 -- they are shown in byte order
 abbrev pub TenBeforeTwo : Type 0
@@ -52,7 +52,7 @@ TenBeforeTwo = report_json three_units (record { tick = 1; shown = Estimated 0 (
 
 -- an input that ends before its first line
 abbrev pub EndsAtOnce : Type 0
-EndsAtOnce = refusal_json empty_model 0 (record { code = ENDS_EARLY; detail = Nothing }) ≡ line (codes "{\"code\":17,\"detail\":\"\",\"line\":0,\"refused\":\"ends_early\"}")
+EndsAtOnce = refusal_json (empty_model 1) 0 (record { code = ENDS_EARLY; detail = Nothing }) ≡ line (codes "{\"code\":17,\"detail\":\"\",\"line\":0,\"refused\":\"ends_early\"}")
 
 -- the pairs of a clash
 abbrev pub clashing : List Pair

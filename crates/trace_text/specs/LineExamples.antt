@@ -33,7 +33,7 @@ RouteOfValve = route_text valve_variables (record { plan = plans.Plan (0 ∷ 2 �
 
 -- two commands, one of which is named `long`
 abbrev pub long_named : PlantModel
-long_named = record empty_model { commands = codes "long" ∷ codes "short" ∷ [] }
+long_named = record (empty_model 1) { commands = codes "long" ∷ codes "short" ∷ [] }
 
 -- the command alone has one more space than a plan that is too long to be printed
 abbrev pub LongStandsAlone : Type 0

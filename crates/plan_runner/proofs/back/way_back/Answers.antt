@@ -15,5 +15,5 @@ whole_plan-requires-clause-reached c =
 pub returns : goal.returns
 returns c =
     IfOk-weaker c.whole_plan.result (IsWholePlan c.args.tables.now c.args.from.now.modes c.in_ok-goal.goal.pairs) (IsWayBack c.args.tables.now c.args.from.now.modes c.args.to.now.modes)
-    (way_of c.args.tables.now c.classes-classes.ensures.tables c.args.to.now.modes c.requires.to c.in_ok-goal.goal.pairs c.in_ok-goal.ensures c.args.from.now.modes c.requires.from)
+    (way_of c.args.tables.now c.classes-classes.ensures.tables c.args.to.now.modes c.requires.to c.in_ok-goal.goal.pairs c.in_ok-goal.ensures c.args.from.now.modes c.requires.from c.requires.stuck)
     c.whole_plan.ensures

@@ -1,7 +1,7 @@
 use Rattle.std.proofs.Common.{subst}
 use Rattle.planner_step.proofs.Replies.{goal_inside}
 use Rattle.plan_runner.specs.Walked.{IsWalked}
-use Rattle.plan_runner.proofs.ThereAndBack.{covers_end, ended_back, endless, endless_back}
+use Rattle.plan_runner.proofs.ThereAndBack.{covers_end, still_stuck, ended_back, endless, endless_back}
 use Rattle.plan_runner.proofs.route.route_of.Goals as goal
 
 pub walk-requires-clause-inside : goal.walk-requires-clause-inside
@@ -33,3 +33,10 @@ returns-in_ok-back-in-Ended-clause-there_and_back c =
     let walked = subst (IsWalked c.args.tables.now.classes.compiled c.args.goal.now.pairs c.args.state.now.modes) c.in-Ended.is c.in_ok-plan.ensures in
     ended_back c.args.tables.now c.classes-classes.ensures.tables c.args.state.now.modes c.requires.covers c.args.goal.now.pairs c.requires.goal inside
     c.in-Ended.plan c.in-Ended.end.modes c.in_ok-back-in-Ended.back walked.0 walked.1 c.in_ok-back-in-Ended.ensures
+
+pub way_back-requires-clause-stuck : goal.way_back-requires-clause-stuck
+way_back-requires-clause-stuck c =
+    let inside = goal_inside c.args.tables.now c.classes-classes.ensures.tables c.args.state.now.modes c.requires.covers c.args.goal.now.pairs c.requires.goal c.requires.reached in
+    let walked = subst (IsWalked c.args.tables.now.classes.compiled c.args.goal.now.pairs c.args.state.now.modes) c.in-Ended.is c.in_ok-plan.ensures in
+    still_stuck c.args.tables.now c.classes-classes.ensures.tables c.args.state.now.modes c.requires.covers c.args.goal.now.pairs c.requires.goal inside
+    c.in-Ended.plan c.in-Ended.end.modes walked.0

@@ -1,4 +1,4 @@
-use Rattle.std.proofs.Common.{◌≡◌, ◌≤◌, ◌-◌, ◌∙◌, ℕ, List, length, slice_get, slice_index, Some, sym, ap, subst}
+use Rattle.std.proofs.Common.{◌≡◌, ◌<◌, ◌≤◌, ◌-◌, ◌∙◌, ℕ, List, length, slice_get, slice_index, Some, sym, ap, subst}
 use Rattle.cca_base.specs.declared.limits.TheConstants.{MAX_CHOICES}
 use Rattle.cca_base.specs.PlantModel.{PlantModel}
 use Rattle.cca_base.specs.Model.{WellFormed, mode_counts}
@@ -41,6 +41,20 @@ around-requires-clause-few c =
     let few = modes_few m c.model.ensures.compiled.accepted.well_formed c.args.component c.requires.within in
     let last = last_level m (in_row c.args.rows.now) c.args.component c.len.result c.in_ok-paths.paths.levels c.get-closed.result.now c.in_ok-paths.ensures.levels c.len.ensures c.get-closed.ensures.value in
     subst (λ n. n ≤ MAX_CHOICES) (sym (ap length c.as_slice-2.ensures ∙ last.1)) few
+
+pub around-requires-clause-within : goal.around-requires-clause-within
+around-requires-clause-within c =
+    let m : PlantModel = c.args.compiled.now.model in
+    let well : WellFormed m = c.model.ensures.compiled.accepted.well_formed in
+    let member : Test = in_row c.args.rows.now in
+    let numbers : List ℕ = c.in_ok-paths.paths.numbers in
+    let home : ℕ = c.in-Some.home in
+    let last = last_level m member c.args.component c.len.result c.in_ok-paths.paths.levels c.get-closed.result.now c.in_ok-paths.ensures.levels c.len.ensures c.get-closed.ensures.value in
+    let by : IsHomeBy m.moves (MoveLeads m numbers (length numbers)) c.args.component c.args.mode home =
+    subst (λ (x : PlantModel). IsHomeBy x.moves (MoveLeads x numbers (length numbers)) c.args.component c.args.mode home) c.model.ensures.value
+    (subst (λ l. IsHomeBy c.model.result.now.moves (MoveLeads c.model.result.now l (length l)) c.args.component c.args.mode home) c.as_slice.ensures c.in-Some.ensures) in
+    subst (λ n. home < n) (sym (ap length c.as_slice-2.ensures ∙ last.1))
+    (home_mode m well member c.args.component numbers c.in_ok-paths.ensures.open_moves c.args.mode home c.requires.mode by)
 
 pub returns : goal.returns
 returns c =

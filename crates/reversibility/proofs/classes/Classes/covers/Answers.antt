@@ -1,43 +1,46 @@
-use Rattle.std.proofs.Common.{◌≡◌, ◌<◌, ◌≤◌, ◌∙◌, refl, sym, ap, subst, ◌+◌, slice_index, length, arith, ℕ, List}
-use Rattle.std.proofs.lemmas.Bool.{false≢true}
+use Rattle.std.proofs.Common.{◌≡◌, ◌<◌, ◌≤◌, refl, sym, ap, subst, slice_index, length, arith, ℕ, List}
+use Rattle.std.proofs.lemmas.Bool.{false≢true, both_ways}
+use Rattle.std.proofs.lemmas.Option.{get_or_from_slice_get}
+use Rattle.reversibility.specs.Promises.{StandsAt}
 use Rattle.cca_base.specs.State.{IsState}
-use Rattle.reach_laws.specs.Classes.{Covers, Stands}
+use Rattle.reach_laws.specs.Classes.{Stands}
 use Rattle.reversibility.specs.ClassParts.{ClassParts, IsClasses, CoversState, in_row}
-use Rattle.reversibility.proofs.Standing.{below_next, inside_here, base_here, not_covered}
-use Rattle.reversibility.proofs.Promised.{allows_inside, mends_inside, stays_inside, by_base}
-use Rattle.reversibility.proofs.classes.Classes.covers.Goals.{else-not-has-via-then-not-has+else-mode-get, else-not-has-via-else-not-has}
+use Rattle.reversibility.proofs.Standing.{below_next}
+use Rattle.reversibility.proofs.Promised.{allows_inside, mends_inside, stays_inside, by_chain}
 use Rattle.reversibility.proofs.classes.Classes.covers.Goals as goal
 
-pub returns-then-mode-get-clause-value : goal.returns-then-mode-get-clause-value
-returns-then-mode-get-clause-value c =
-    let p : ClassParts = record { compiled = c.self.inside.compiled.value; base = c.self.inside.base.modes; rows = c.self.inside.rows; mendable = c.self.inside.mendable } in (
-      λ f. absurd (false≢true f),
-      λ covers. absurd (not_covered p c.self.invariant c.args.state.now.modes c.loop-c.c c.get.result.now c.get-mode.result.now c.get.ensures.value c.get-mode.ensures.value
-          c.get-then-not-has.result.now c.get-then-not-has.ensures.value (sym c.has.ensures ∙ c.if-not-has.true) c.if-mode-get.true
-          (subst (λ (z : ClassParts). Covers z.compiled.model z.base (in_row z.rows) c.args.state.now.modes) (sym c.self.view_is) covers)),
+-- the component of the turn is one of the model
+pub within : (p now : ClassParts) → p ≡ now → IsClasses now → (n i : ℕ) → i < n → n ≡ length p.rows → i < length now.compiled.model.components
+within p now same is n i less count = omega (arith, less, count, ap (λ (z : ClassParts). length z.rows) same, is.rows_full)
+
+pub returns-then-not-stands-clause-value : goal.returns-then-not-stands-clause-value
+returns-then-not-stands-clause-value c =
+    let p : ClassParts = record { compiled = c.self.inside.compiled.value; base = c.self.inside.base.modes; rows = c.self.inside.rows; chains = c.self.inside.chains; mendable = c.self.inside.mendable } in
+    let now : ClassParts = c.args.self.now in
+    let inside = within p now c.self.view_is c.stands.ensures.classes c.len-c-end.result c.loop-c.c c.loop-c-test.true c.len-c-end.ensures in (
+      (λ f. absurd (false≢true f)),
+      (λ covers. absurd (both_ways c.stands.result c.if-not-stands.true (c.stands.ensures.value.1
+          (subst (Stands now.compiled.model now.base (in_row now.rows) c.loop-c.c) (get_or_from_slice_get c.args.state.now.modes c.loop-c.c c.get.result.now 0 c.get.ensures.value)
+          (covers c.loop-c.c inside))))),
     )
 
-pub returns-then-mode-get-clause-modes : goal.returns-then-mode-get-clause-modes
-returns-then-mode-get-clause-modes c = (
-  λ f. absurd (false≢true f),
-  λ by. (returns-then-mode-get-clause-value c).1 ((by_base c.args.self.now (subst IsClasses c.self.view_is c.self.invariant) c.args.state.now.modes).1 by),
-)
+pub returns-then-not-stands-clause-modes : goal.returns-then-not-stands-clause-modes
+returns-then-not-stands-clause-modes c =
+    let p : ClassParts = record { compiled = c.self.inside.compiled.value; base = c.self.inside.base.modes; rows = c.self.inside.rows; chains = c.self.inside.chains; mendable = c.self.inside.mendable } in
+    let now : ClassParts = c.args.self.now in
+    let inside = within p now c.self.view_is c.stands.ensures.classes c.len-c-end.result c.loop-c.c c.loop-c-test.true c.len-c-end.ensures in (
+      (λ f. absurd (false≢true f)),
+      (λ by. absurd (both_ways c.stands.result c.if-not-stands.true (c.stands.ensures.mode.1
+          (subst (StandsAt now c.loop-c.c) (get_or_from_slice_get c.args.state.now.modes c.loop-c.c c.get.result.now 0 c.get.ensures.value) (by c.loop-c.c inside))))),
+    )
 
 pub loop-c-preserved : goal.loop-c-preserved
 loop-c-preserved c =
-    let p : ClassParts = record { compiled = c.self.inside.compiled.value; base = c.self.inside.base.modes; rows = c.self.inside.rows; mendable = c.self.inside.mendable } in
-    let s : List ℕ = c.args.state.now.modes in
     let now : ClassParts = c.args.self.now in
-    let turn : Stands p.compiled.model p.base (in_row p.rows) c.loop-c.c (slice_index s c.loop-c.c) → (k : ℕ) → k < c.loop-c.c + 1 → Stands now.compiled.model now.base (in_row now.rows) k (slice_index s k) =
-    λ here. below_next (λ k. Stands now.compiled.model now.base (in_row now.rows) k (slice_index s k)) c.loop-c.c c.loop-c.invariant
-    (subst (λ (z : ClassParts). Stands z.compiled.model z.base (in_row z.rows) c.loop-c.c (slice_index s c.loop-c.c)) c.self.view_is here) in
-    elim c.else-not-has.branch [
-      | else-not-has-via-then-not-has+else-mode-get w ↦
-          turn (base_here p c.self.invariant s c.loop-c.c c.get.result.now c.get-mode.result.now c.get.ensures.value c.get-mode.ensures.value
-          w.get-then-not-has.result.now w.get-then-not-has.ensures.value w.if-mode-get.false)
-      | else-not-has-via-else-not-has w ↦
-          turn (inside_here p c.self.invariant s c.loop-c.c c.get.result.now c.get-mode.result.now c.get.ensures.value c.get-mode.ensures.value (sym c.has.ensures ∙ w.if-not-has.false))
-    ]
+    let s : List ℕ = c.args.state.now.modes in
+    below_next (λ k. Stands now.compiled.model now.base (in_row now.rows) k (slice_index s k)) c.loop-c.c c.loop-c.invariant
+    (subst (Stands now.compiled.model now.base (in_row now.rows) c.loop-c.c) (sym (get_or_from_slice_get s c.loop-c.c c.get.result.now 0 c.get.ensures.value))
+    (c.stands.ensures.value.0 c.if-not-stands.false))
 
 -- after the loop the state is covered
 covered : (p now : ClassParts) → IsClasses p → p ≡ now → (s : List ℕ) → IsState now.compiled.model s → (i : ℕ) → length p.rows ≤ i
@@ -50,25 +53,25 @@ covered p now is same s state i past each = (
 pub returns-clause-allowed : goal.returns-clause-allowed
 returns-clause-allowed c _ =
     let past : length c.self.inside.rows ≤ c.loop-c.c = omega (arith, c.loop-c-test.false, c.len-c-end.ensures) in
-    let done = covered (record { compiled = c.self.inside.compiled.value; base = c.self.inside.base.modes; rows = c.self.inside.rows; mendable = c.self.inside.mendable }) c.args.self.now c.self.invariant c.self.view_is c.args.state.now.modes c.requires c.loop-c.c past c.loop-c.invariant in
+    let done = covered (record { compiled = c.self.inside.compiled.value; base = c.self.inside.base.modes; rows = c.self.inside.rows; chains = c.self.inside.chains; mendable = c.self.inside.mendable }) c.args.self.now c.self.invariant c.self.view_is c.args.state.now.modes c.requires c.loop-c.c past c.loop-c.invariant in
     allows_inside c.args.self.now done.0 c.args.state.now.modes done.1
 
 pub returns-clause-mended : goal.returns-clause-mended
 returns-clause-mended c _ =
     let past : length c.self.inside.rows ≤ c.loop-c.c = omega (arith, c.loop-c-test.false, c.len-c-end.ensures) in
-    let done = covered (record { compiled = c.self.inside.compiled.value; base = c.self.inside.base.modes; rows = c.self.inside.rows; mendable = c.self.inside.mendable }) c.args.self.now c.self.invariant c.self.view_is c.args.state.now.modes c.requires c.loop-c.c past c.loop-c.invariant in
+    let done = covered (record { compiled = c.self.inside.compiled.value; base = c.self.inside.base.modes; rows = c.self.inside.rows; chains = c.self.inside.chains; mendable = c.self.inside.mendable }) c.args.self.now c.self.invariant c.self.view_is c.args.state.now.modes c.requires c.loop-c.c past c.loop-c.invariant in
     mends_inside c.args.self.now done.0 c.args.state.now.modes done.1
 
 pub returns-clause-later : goal.returns-clause-later
 returns-clause-later c _ =
     let past : length c.self.inside.rows ≤ c.loop-c.c = omega (arith, c.loop-c-test.false, c.len-c-end.ensures) in
-    let done = covered (record { compiled = c.self.inside.compiled.value; base = c.self.inside.base.modes; rows = c.self.inside.rows; mendable = c.self.inside.mendable }) c.args.self.now c.self.invariant c.self.view_is c.args.state.now.modes c.requires c.loop-c.c past c.loop-c.invariant in
+    let done = covered (record { compiled = c.self.inside.compiled.value; base = c.self.inside.base.modes; rows = c.self.inside.rows; chains = c.self.inside.chains; mendable = c.self.inside.mendable }) c.args.self.now c.self.invariant c.self.view_is c.args.state.now.modes c.requires c.loop-c.c past c.loop-c.invariant in
     stays_inside c.args.self.now done.0 c.args.state.now.modes done.1
 
 pub returns-clause-modes : goal.returns-clause-modes
 returns-clause-modes c =
     let past : length c.self.inside.rows ≤ c.loop-c.c = omega (arith, c.loop-c-test.false, c.len-c-end.ensures) in
-    let done = covered (record { compiled = c.self.inside.compiled.value; base = c.self.inside.base.modes; rows = c.self.inside.rows; mendable = c.self.inside.mendable }) c.args.self.now c.self.invariant c.self.view_is c.args.state.now.modes c.requires c.loop-c.c past c.loop-c.invariant in (
-      λ _. (by_base c.args.self.now done.0 c.args.state.now.modes).0 done.1.covers,
+    let done = covered (record { compiled = c.self.inside.compiled.value; base = c.self.inside.base.modes; rows = c.self.inside.rows; chains = c.self.inside.chains; mendable = c.self.inside.mendable }) c.args.self.now c.self.invariant c.self.view_is c.args.state.now.modes c.requires c.loop-c.c past c.loop-c.invariant in (
+      λ _. (by_chain c.args.self.now done.0 c.args.state.now.modes).0 done.1.covers,
       λ _. refl,
     )
