@@ -2,7 +2,7 @@
 
 ghost use Rattle.std.specs.Prelude.{◌≡◌, ◌<◌};
 
-use crate::parts::{STICKING_VALVE, has_mode, pair};
+use crate::parts::{HUNG_UNIT, LATCHED_UNIT, STICKING_VALVE, has_mode, pair};
 use crate::tabled::{classes_of, state_of, tables_of};
 use cca_base::*;
 use policy_tables::{Cell, Tables};
@@ -161,6 +161,29 @@ fn without_an_open_repair_a_valve_stays_stuck(rt: HostRuntime) {
     assert!(rt; has_class(rt.alloc(), UNPOWERED, 1, &[], false));
     assert!(rt; covers(rt.alloc(), UNPOWERED, &[0, 1]) == Some(true));
     assert!(rt; covers(rt.alloc(), UNPOWERED, &[0, 0]) == Some(false));
+}
+
+/// The unit that can't be reset, where it is hung.
+const LATCHED: (&str, &[u8]) = (LATCHED_UNIT, &[2, 0]);
+
+#[test]
+fn an_open_chain_may_end_half_way(rt: HostRuntime) {
+    assert!(rt; has_class(rt.alloc(), LATCHED, 0, &[], false));
+    assert!(rt; covers(rt.alloc(), LATCHED, &[2, 0]) == Some(true));
+    assert!(rt; covers(rt.alloc(), LATCHED, &[1, 0]) == Some(true));
+    assert!(rt; covers(rt.alloc(), LATCHED, &[0, 0]) == Some(false));
+    assert!(rt; covers(rt.alloc(), (LATCHED_UNIT, &[1, 0]), &[2, 0]) == Some(false));
+}
+
+/// The unit that can be reset, where it is hung.
+const HUNG: (&str, &[u8]) = (HUNG_UNIT, &[2, 0]);
+
+#[test]
+fn an_open_chain_leads_to_its_class(rt: HostRuntime) {
+    assert!(rt; has_class(rt.alloc(), HUNG, 0, &[0], true));
+    assert!(rt; covers(rt.alloc(), HUNG, &[2, 1]) == Some(true));
+    assert!(rt; covers(rt.alloc(), HUNG, &[1, 0]) == Some(true));
+    assert!(rt; covers(rt.alloc(), HUNG, &[0, 0]) == Some(true));
 }
 
 /// A move without a way back.

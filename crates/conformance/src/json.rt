@@ -23,7 +23,7 @@ fn is_refused_so(alloc: Global, model: &Model, code: u8, wanted: &str) -> bool {
 
 /// How many codes, from 1 on, have the lines that these rows say.
 fn codes_written(alloc: Global, rows: &[&str]) -> u8 {
-    let model = Model::empty(alloc);
+    let model = Model::empty(alloc, 1);
     let mut code = 0u8;
     for row in rows {
         if code == 255 || !is_refused_so(alloc, &model, code + 1, row) {

@@ -7,6 +7,8 @@ mod backbones;
 #[cfg(test)]
 mod base;
 #[cfg(test)]
+mod chains;
+#[cfg(test)]
 mod checkers;
 #[cfg(test)]
 mod classes;

@@ -84,6 +84,23 @@ repair valve stuck -> closed by v_reset when drv = on
 fail valve closed -> stuck cost 4
 fail valve open -> stuck cost 6";
 
+/// A unit that is power-cycled, and reset while its driver is on.
+pub const HUNG_UNIT: &str = "titan 2
+component dev = ok, latched, hung start hung
+component drv = off, on start off
+move drv off -> on by drv_on when true
+move drv on -> off by drv_off when true
+repair dev hung -> latched by d_power when true
+repair dev latched -> ok by d_reset when drv = on";
+
+/// The same unit with a driver that can't be switched on: of its two repairs the second isn't open.
+pub const LATCHED_UNIT: &str = "titan 2
+component dev = ok, latched, hung start hung
+component drv = off, on start off
+move drv on -> off by drv_off when true
+repair dev hung -> latched by d_power when true
+repair dev latched -> ok by d_reset when drv = on";
+
 /// A driver, a valve, and a flow that is there where the valve is open.
 pub const VALVE: &str = "titan 1
 component drv = off, on start off

@@ -4,7 +4,7 @@ ghost use Rattle.std.specs.Prelude.{◌≡◌, ◌<◌};
 ghost use Rattle.planner_step.specs.Planning.{IsGoal};
 ghost use Rattle.reversibility.specs.ClassParts.{CoversState};
 
-use crate::parts::{Pairs, STICKING_VALVE};
+use crate::parts::{HUNG_UNIT, LATCHED_UNIT, Pairs, STICKING_VALVE};
 use crate::tabled::*;
 use cca_base::*;
 use plan_runner::{route_of, way_back, whole_plan};
@@ -40,6 +40,9 @@ fn returned(alloc: Global, tables: &Tables, from: &[u8], to: &[u8]) -> Option<Pl
     let Some(to) = covered(alloc, tables, to) else {
         return None;
     };
+    if !stays_stuck(tables, &from, &to) {
+        return None;
+    }
     match way_back(alloc, tables, &from, &to) {
         Ok(plan) => Some(plan),
         Err(_) => None,
@@ -148,6 +151,35 @@ fn mending_routes(alloc: Global, pairs: Pairs<'_>, plan: &[&str], back: &[&str])
 fn a_way_back_mends_what_it_needs(rt: HostRuntime) {
     let back = ["c_reset", "c_z", "b_back", "c_ok"];
     assert!(rt; mending_routes(rt.alloc(), &[(1, 1)], &["b_go"], &back));
+}
+
+/// Whether the plan from the hung unit to the goal, and the way back, have the commands of these names.
+fn unit_routes(alloc: Global, pairs: Pairs<'_>, plan: &[&str], back: &[&str]) -> bool {
+    match tables_of(alloc, HUNG_UNIT, &[2, 0]) {
+        Some(tables) => routes(alloc, &tables, (&[2, 0], pairs), plan, back),
+        None => false,
+    }
+}
+
+#[test]
+fn a_hung_unit_is_mended_by_two_commands(rt: HostRuntime) {
+    let plan = ["d_power", "drv_on", "d_reset"];
+    assert!(rt; unit_routes(rt.alloc(), &[(0, 0)], &plan, &["drv_off"]));
+}
+
+/// Whether the latched unit's way back from the state of the one modes to the other's may be asked for, and has no commands.
+fn stays(alloc: Global, from: &[u8], to: &[u8]) -> bool {
+    match tables_of(alloc, LATCHED_UNIT, &[2, 0]) {
+        Some(tables) => returns(alloc, &tables, from, to, &[]),
+        None => false,
+    }
+}
+
+#[test]
+fn a_latched_unit_stays_so_on_a_way_back(rt: HostRuntime) {
+    assert!(rt; stays(rt.alloc(), &[1, 0], &[2, 0]));
+    assert!(rt; stays(rt.alloc(), &[1, 0], &[1, 0]));
+    assert!(rt; !stays(rt.alloc(), &[2, 0], &[1, 0]));
 }
 
 /// The guard of a lamp's moves: the lamp before it is on, and all those before are off.

@@ -1,9 +1,11 @@
 //! Tables of models, with states that they cover and goals for them.
 
-ghost use Rattle.std.specs.Prelude.{◌≡◌, ◌<◌, ◌≤◌, ◌+◌, false, All, IfSome, IsTrue, length};
-ghost use Rattle.cca_base.specs.Model.{HasMode, is_broken};
+ghost use Rattle.std.specs.Prelude.{◌≡◌, ◌<◌, ◌≤◌, ◌+◌, false, All, IfSome, IsTrue, length, slice_index};
+ghost use Rattle.cca_base.specs.Model.{HasMode, IsInChain, is_broken};
 ghost use Rattle.cca_base.specs.State.{IsState};
+ghost use Rattle.plan_runner.specs.WaysBack.{StaysStuck};
 ghost use Rattle.planner_step.specs.Planning.{AreReached, IsGoal};
+ghost use Rattle.planner_step.specs.Served.{IsStuck};
 ghost use Rattle.reversibility.specs.ClassParts.{CoversState};
 
 use crate::compile::pairs_of;
@@ -102,6 +104,42 @@ pub fn covered(alloc: Global, tables: &Tables, modes: &[u8]) -> Option<State>
         return None;
     }
     Some(state)
+}
+
+/// Whether the component, if it is broken in the second state and can't be mended, stands in the first on the chain of its mode there.
+fn stays_on_chain(tables: &Tables, from: &State, to: &State, component: u16) -> bool
+    requires from { CoversState tables.now.classes from.now.modes }
+    requires to { CoversState tables.now.classes to.now.modes }
+    requires within { component < length tables.now.classes.compiled.model.components }
+    ensures { IsTrue result → IsStuck tables.now.classes to.now.modes component
+        → IsInChain tables.now.classes.compiled.model.moves component (slice_index to.now.modes component) (slice_index from.now.modes component) }
+{
+    let classes = tables.classes();
+    let model = classes.compiled().model();
+    let mode = *to.modes.get(component as usize);
+    if !model.broken(component, mode) {
+        return true;
+    }
+    if classes.mendable(component) {
+        return true;
+    }
+    model.is_in_chain(component, mode, *from.modes.get(component as usize))
+}
+
+/// Whether what is broken in the second state and can't be mended stands in the first on the chain of its mode there.
+pub fn stays_stuck(tables: &Tables, from: &State, to: &State) -> bool
+    requires from { CoversState tables.now.classes from.now.modes }
+    requires to { CoversState tables.now.classes to.now.modes }
+    ensures { IsTrue result → StaysStuck tables.now.classes from.now.modes to.now.modes }
+{
+    let classes = tables.classes();
+    let model = classes.compiled().model();
+    for c in 0..model.components().len() {
+        if !stays_on_chain(tables, from, to, c as u16) {
+            return false;
+        }
+    }
+    true
 }
 
 fn are_sound(model: &Model, pairs: &[Pair]) -> bool
