@@ -57,9 +57,6 @@ pub const LONG_LINE: u8 = 18;
 /// There are too many lines.
 pub const TOO_MANY_LINES: u8 = 19;
 
-/// The line is not taken yet.
-pub const UNSUPPORTED: u8 = 20;
-
 /// Repairs lead in a ring.
 pub const REPAIR_CYCLE: u8 = 21;
 

@@ -18,7 +18,7 @@ use Rattle.trace_laws.specs.Events.{Makes, mirrored_after}
 use Rattle.trace_laws.proofs.EventsJoin.{trace_is_made, event_first}
 use Rattle.trace_laws.proofs.PendingKnown.{one_pending, known_after}
 use Rattle.trace_laws.proofs.PromisesKept.{promising_traces_keep}
-use Rattle.trace_laws.proofs.WeakerReplies.{chosen_is_good}
+use Rattle.trace_laws.proofs.WeakerReplies.{chosen_ticks_are_good}
 use Rattle.titan_top.specs.declared.words.Form.{Form}
 use Rattle.titan_top.specs.declared.words.Form.TheVariants.{Run, Trial}
 use Rattle.titan_top.specs.declared.notation.Notation.TheVariants.{Summary}
@@ -69,12 +69,15 @@ script_traced notation b n ls r reports text o compiled says trace told e =
     let promises = promising_traces_keep b r.events reports compiled trace in
     record {
       compiled = b;
+      is = compiled;
       of_model = sym (script_model ls b.model [] 0 n r says);
       come = script_comes b ls (start b.model 0) n r made.0 reports says made.1;
       reports = reports;
-      good = chosen_is_good b r.events reports promises.trace;
-      promises = promises;
       trace = trace;
+      good = chosen_ticks_are_good b (start b.model 0) [] r.events trace.ticks promises.0;
+      chosen = promises.0;
+      within = promises.1;
+      stays_right = promises.2;
       text = text;
       of_ticks = told;
       lines = e;

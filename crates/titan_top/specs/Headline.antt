@@ -2,27 +2,30 @@
 use Rattle.std.specs.Prelude.{◌≡◌, ◌⊎◌, ℕ, List, []}
 use Rattle.cca_base.specs.declared.events.Refusal.{Refusal}
 use Rattle.cca_base.specs.declared.events.TickReport.{TickReport}
-use Rattle.cca_base.specs.Accepted.{CompiledModel}
+use Rattle.cca_base.specs.Accepted.{CompiledModel, IsCompiled}
 use Rattle.cca_base.specs.Choice.{IsChosenReply}
 use Rattle.cca_base.specs.Goals.{IsGoodReply}
 use Rattle.cca_base.specs.Orders.{IsSorted}
 use Rattle.cca_base.specs.Plans.{Promising}
-use Rattle.cca_base.specs.Runs.{Trace, KeepsPromises}
+use Rattle.cca_base.specs.Runs.{Ticks, Trace, Within, StaysRight}
 use Rattle.cca_base.specs.Trace.{AllMayCome, start}
 use Rattle.titan_top.specs.Document.{Document, ModelText, EndsModel, IsDocument, refused_at}
 use Rattle.titan_top.specs.Output.{Outcome, IsRefusedEnd, printed}
 use Rattle.titan_top.specs.TickTexts.{TicksText}
 use Rattle.titan_top.specs.declared.notation.Notation.{Notation}
 
--- the input's model is compiled and its events may come one after the other; the printed reports are the trace of these events, in which each estimate is a least-cost consistent successor and each reply is good; it is the fixed one; where estimates are right they stay right, and goals are served within their stated numbers
+-- the input's model is compiled and its events may come one after the other; the printed reports are the trace of these events; of its ticks each estimate is a least-cost consistent successor, each reply is good and is the picked one, right estimates stay right, and goals are served within their stated numbers; the text is that of these ticks
 pub record IsFixedTrace (notation : Notation) (r : Document) (o : Outcome) : Type 0 where
   pub compiled : CompiledModel
+  pub is : IsCompiled compiled
   pub of_model : compiled.model ≡ r.model
   pub come : AllMayCome compiled.model (IsSorted compiled.order) (start compiled.model 0) r.events
   pub reports : List TickReport
-  pub good : Trace compiled (IsGoodReply compiled.model) r.events reports
-  pub promises : KeepsPromises compiled (IsChosenReply compiled) r.events reports
   pub trace : Trace compiled (Promising compiled) r.events reports
+  pub good : Ticks compiled (IsGoodReply compiled.model) (start compiled.model 0) [] r.events trace.ticks
+  pub chosen : Ticks compiled (IsChosenReply compiled) (start compiled.model 0) [] r.events trace.ticks
+  pub within : Within compiled trace.ticks
+  pub stays_right : StaysRight compiled trace.ticks
   pub text : List ℕ
   pub of_ticks : TicksText notation compiled trace.ticks text
   pub lines : o ≡ printed notation r reports text

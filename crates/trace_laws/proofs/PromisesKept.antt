@@ -45,9 +45,8 @@ module _ (b : CompiledModel) where
         (promised goal u.before u.report.shown c.leads (goal_at t.ticks goal i j u h at) (right_at t.ticks goal i j u h at) (h.reachable u at) c.shows))
 
 pub promising_traces_keep : PromisingTracesKeep
-promising_traces_keep b events reports compiled t = record {
-  compiled = compiled;
-  trace = record { ticks = t.ticks; made = chosen_made b compiled events reports t; reported = t.reported };
-  within = keeps_within b compiled events reports t;
-  stays_right = stays_right b compiled.accepted.well_formed (IsChosenReply b) 0 t.ticks (chosen_links b compiled events reports t);
-}
+promising_traces_keep b events reports compiled t = (
+  chosen_made b compiled events reports t,
+  keeps_within b compiled events reports t,
+  stays_right b compiled.accepted.well_formed (IsChosenReply b) 0 t.ticks (chosen_links b compiled events reports t),
+)

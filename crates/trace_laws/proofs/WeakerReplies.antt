@@ -59,5 +59,9 @@ module _ (answers others : ReplyRule) (weaker : IsWeaker answers others) where
 weaker_trace : (b : CompiledModel) (answers others : ReplyRule) (events : List Event) (reports : List TickReport) → IsWeaker answers others → Trace b answers events reports → Trace b others events reports
 weaker_trace b answers others events reports weaker t = record { ticks = t.ticks; made = ticks_too answers others weaker b (start b.model 0) [] events t.ticks t.made; reported = t.reported }
 
+-- the same of ticks
+pub chosen_ticks_are_good : (b : CompiledModel) (x : ExecutiveState) (since events : List Event) (ts : List TickRecord) → Ticks b (IsChosenReply b) x since events ts → Ticks b (IsGoodReply b.model) x since events ts
+chosen_ticks_are_good b = ticks_too (IsChosenReply b) (IsGoodReply b.model) (λ s goal reply h. h.good) b
+
 pub chosen_is_good : (b : CompiledModel) (events : List Event) (reports : List TickReport) → Trace b (IsChosenReply b) events reports → Trace b (IsGoodReply b.model) events reports
 chosen_is_good b events reports t = weaker_trace b (IsChosenReply b) (IsGoodReply b.model) events reports (λ s goal reply h. h.good) t

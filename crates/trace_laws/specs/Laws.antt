@@ -8,7 +8,7 @@ use Rattle.cca_base.specs.Orders.{IsSorted}
 use Rattle.cca_base.specs.Goals.{IsGoodReply}
 use Rattle.cca_base.specs.Choice.{IsChosenReply}
 use Rattle.cca_base.specs.Trace.{ExecutiveState, start, MayCome, AllMayCome}
-use Rattle.cca_base.specs.Runs.{Trace, Within, StaysRight, KeepsPromises}
+use Rattle.cca_base.specs.Runs.{Ticks, Trace, Within, StaysRight, KeepsPromises}
 use Rattle.trace_laws.specs.Events.{Acts, Makes, PendingAfter, mirrored_after}
 use Rattle.trace_laws.specs.Fits.{Fits}
 use Rattle.cca_base.specs.Plans.{Promising}
@@ -34,10 +34,10 @@ abbrev pub MeasuredGoalsAreServed : Type 0
 MeasuredGoalsAreServed = (b : CompiledModel) (events : List Event) (reports : List TickReport) → IsCompiled b → MeasuresGoals b → EventsMayCome b events
     → (t : Trace b (IsChosenReply b) events reports) → Within b t.ticks
 
--- a trace of promising replies is the fixed trace, and keeps the promises
+-- the ticks of a trace of promising replies are those of the fixed trace, and they keep the promises
 abbrev pub PromisingTracesKeep : Type 0
-PromisingTracesKeep = (b : CompiledModel) (events : List Event) (reports : List TickReport) → IsCompiled b → Trace b (Promising b) events reports
-    → KeepsPromises b (IsChosenReply b) events reports
+PromisingTracesKeep = (b : CompiledModel) (events : List Event) (reports : List TickReport) → IsCompiled b → (t : Trace b (Promising b) events reports)
+    → Ticks b (IsChosenReply b) (start b.model 0) [] events t.ticks × Within b t.ticks × StaysRight b t.ticks
 
 -- the fixed trace keeps the promises
 abbrev pub PromisesAreKept : Type 0

@@ -1,7 +1,7 @@
 -- The line of a refusal.
 use Rattle.std.specs.Prelude.{ℕ, List, [], ◌∷◌, ◌++◌, codes, if◌then◌else◌, ◌==◌}
 use Rattle.std.specs.Fmt.{decimal}
-use Rattle.cca_base.specs.declared.codes.TheConstants.{MALFORMED, NAME_UNKNOWN, NAME_REPEATED, LIMIT, AMBIGUOUS, INTO_BROKEN, UNMARKED_EXIT, TWO_MENDS, CLASH, WAYS, CYCLE, DEEP, NOT_SENSED, BROKEN_GOAL, REPEATED_PAIR, MIRRORED, ENDS_EARLY, LONG_LINE, TOO_MANY_LINES, UNSUPPORTED, REPAIR_CYCLE, MANY, UNMATCHED}
+use Rattle.cca_base.specs.declared.codes.TheConstants.{MALFORMED, NAME_UNKNOWN, NAME_REPEATED, LIMIT, AMBIGUOUS, INTO_BROKEN, UNMARKED_EXIT, TWO_MENDS, CLASH, WAYS, CYCLE, DEEP, NOT_SENSED, BROKEN_GOAL, REPEATED_PAIR, MIRRORED, ENDS_EARLY, LONG_LINE, TOO_MANY_LINES, REPAIR_CYCLE, MANY, UNMATCHED}
 use Rattle.cca_base.specs.declared.events.Detail.{Detail}
 use Rattle.cca_base.specs.declared.events.Detail.TheVariants.{Nothing, Pairs, OfMove, Components}
 use Rattle.cca_base.specs.declared.events.Refusal.{Refusal}
@@ -30,11 +30,10 @@ code_name code =
     else (if code == ENDS_EARLY then codes "ends_early"
     else (if code == LONG_LINE then codes "long_line"
     else (if code == TOO_MANY_LINES then codes "too_many_lines"
-    else (if code == UNSUPPORTED then codes "unsupported"
     else (if code == REPAIR_CYCLE then codes "repair_cycle"
     else (if code == MANY then codes "many"
     else (if code == UNMATCHED then codes "unmatched"
-    else []))))))))))))))))))))))
+    else [])))))))))))))))))))))
 
 -- what a refusal names besides its code, behind the code's name
 abbrev pub detail_text : PlantModel → Detail → List ℕ

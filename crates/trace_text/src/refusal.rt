@@ -34,7 +34,6 @@ pub fn code_name(code: u8) -> &'static str
         codes::ENDS_EARLY => "ends_early",
         codes::LONG_LINE => "long_line",
         codes::TOO_MANY_LINES => "too_many_lines",
-        codes::UNSUPPORTED => "unsupported",
         codes::REPAIR_CYCLE => "repair_cycle",
         codes::MANY => "many",
         codes::UNMATCHED => "unmatched",
