@@ -40,9 +40,3 @@ fn an_open_valve_forces_the_flow(rt: HostRuntime) {
     assert!(rt; are_forced(rt.alloc(), VALVE, &modes, flow, &[pair(0, 1)]));
     assert!(rt; are_forced(rt.alloc(), VALVE, &modes, VarSet::empty(), &[]));
 }
-
-#[test]
-fn tied_variables_have_several_values(rt: HostRuntime) {
-    let both = VarSet::empty().with(0).with(1);
-    assert!(rt; are_forced(rt.alloc(), TIED, &[], both, &[]));
-}

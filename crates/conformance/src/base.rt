@@ -1,4 +1,4 @@
-//! Copies of what the layers share, and the truth of a formula.
+//! Copies of what the layers share.
 
 use crate::parts::{list_of, pair};
 use cca_base::*;
@@ -49,30 +49,4 @@ fn cube_is_copied(alloc: Global, pair: Pair) -> bool {
 fn lists_and_cubes_are_copied(rt: HostRuntime) {
     assert!(rt; state_is_copied(rt.alloc(), &[1]));
     assert!(rt; cube_is_copied(rt.alloc(), pair(3, 1)));
-}
-
-/// Whether a component is in the mode that it is in, and whether the denial of that is true.
-fn truths(alloc: Global) -> Option<(bool, bool)> {
-    let mut modes = List::new(alloc);
-    let Ok(()) = modes.push(1) else {
-        return None;
-    };
-    let state = State { modes };
-    let world = World {
-        values: List::new(alloc),
-    };
-    let on = Formula::Among {
-        subject: Subject::Component(0),
-        values: ValueSet::empty().with(1),
-    };
-    let first = holds_at(&on, &state, &world);
-    match Boxed::new(alloc, on) {
-        Ok(on) => Some((first, holds_at(&Formula::Not(on), &state, &world))),
-        Err(_) => None,
-    }
-}
-
-#[test]
-fn a_formula_is_true_by_cases(rt: HostRuntime) {
-    assert!(rt; truths(rt.alloc()) == Some((true, false)));
 }

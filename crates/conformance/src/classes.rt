@@ -2,12 +2,12 @@
 
 ghost use Rattle.std.specs.Prelude.{◌≡◌, ◌<◌};
 
-use crate::parts::{HUNG_UNIT, LATCHED_UNIT, STICKING_VALVE, has_mode, pair};
+use crate::parts::{LATCHED_UNIT, STICKING_VALVE, has_mode, pair};
 use crate::tabled::{classes_of, state_of, tables_of};
 use cca_base::*;
 use policy_tables::{Cell, Tables};
 use reversibility::Classes;
-use std::alloc::{AllocError, Global};
+use std::alloc::Global;
 use std::marker::Brand;
 use std::sync::ledger::{Blank, Ledger};
 use std::test::*;
@@ -145,24 +145,6 @@ fn a_stuck_valve_is_mended_first(rt: HostRuntime) {
     assert!(rt; steps(rt.alloc(), STUCK, (1, 2, 1), ((4, 4, 2), &[pair(0, 1)])));
 }
 
-/// A stuck valve without a way on for the driver that its repair needs.
-const UNPOWERED: (&str, &[u8]) = (
-    "titan 1
-component drv = off, on start off
-component valve = closed, stuck start closed
-move drv on -> off by drv_off when true
-repair valve stuck -> closed by v_reset when drv = on",
-    &[0, 1],
-);
-
-#[test]
-fn without_an_open_repair_a_valve_stays_stuck(rt: HostRuntime) {
-    assert!(rt; has_class(rt.alloc(), UNPOWERED, 0, &[0], false));
-    assert!(rt; has_class(rt.alloc(), UNPOWERED, 1, &[], false));
-    assert!(rt; covers(rt.alloc(), UNPOWERED, &[0, 1]) == Some(true));
-    assert!(rt; covers(rt.alloc(), UNPOWERED, &[0, 0]) == Some(false));
-}
-
 /// The unit that can't be reset, where it is hung.
 const LATCHED: (&str, &[u8]) = (LATCHED_UNIT, &[2, 0]);
 
@@ -173,86 +155,4 @@ fn an_open_chain_may_end_half_way(rt: HostRuntime) {
     assert!(rt; covers(rt.alloc(), LATCHED, &[1, 0]) == Some(true));
     assert!(rt; covers(rt.alloc(), LATCHED, &[0, 0]) == Some(false));
     assert!(rt; covers(rt.alloc(), (LATCHED_UNIT, &[1, 0]), &[2, 0]) == Some(false));
-}
-
-/// The unit that can be reset, where it is hung.
-const HUNG: (&str, &[u8]) = (HUNG_UNIT, &[2, 0]);
-
-#[test]
-fn an_open_chain_leads_to_its_class(rt: HostRuntime) {
-    assert!(rt; has_class(rt.alloc(), HUNG, 0, &[0], true));
-    assert!(rt; covers(rt.alloc(), HUNG, &[2, 1]) == Some(true));
-    assert!(rt; covers(rt.alloc(), HUNG, &[1, 0]) == Some(true));
-    assert!(rt; covers(rt.alloc(), HUNG, &[0, 0]) == Some(true));
-}
-
-/// A move without a way back.
-const ONE_WAY: &str = "titan 1
-component lamp = off, on start off
-move lamp off -> on by lamp_on when true";
-
-#[test]
-fn a_one_way_move_parts_classes(rt: HostRuntime) {
-    assert!(rt; has_class(rt.alloc(), (ONE_WAY, &[0]), 0, &[0], false));
-    assert!(rt; covers(rt.alloc(), (ONE_WAY, &[0]), &[1]) == Some(false));
-    assert!(rt; has_class(rt.alloc(), (ONE_WAY, &[1]), 0, &[1], false));
-}
-
-/// From `a` to `d` by `b`, and as far by `c`, which comes first.
-const TWO_WAYS: (&str, &[u8]) = (
-    "titan 1
-component x = a, b, c, d start a
-move x d -> a by k0 when true
-move x a -> c by k1 when true
-move x a -> b by k2 when true
-move x b -> d by k3 when true
-move x c -> d by k4 when true",
-    &[0],
-);
-
-#[test]
-fn of_two_ways_of_one_length_the_first_is_taken(rt: HostRuntime) {
-    assert!(rt; steps(rt.alloc(), TWO_WAYS, (0, 0, 3), ((1, 1, 2), &[])));
-    assert!(rt; steps(rt.alloc(), TWO_WAYS, (0, 1, 2), ((3, 3, 3), &[])));
-}
-
-/// Adds the names of the modes behind the first.
-fn push_modes(alloc: Global, text: &mut String) -> Result<(), AllocError> {
-    for m in 1..MAX_CHOICES {
-        text.push_str(&format!(in alloc; ", m{m}")?)?;
-    }
-    Ok(())
-}
-
-/// Adds the moves, each from a mode to the next.
-fn push_ring(alloc: Global, text: &mut String) -> Result<(), AllocError> {
-    for m in 0..MAX_CHOICES {
-        let next = (m + 1) % MAX_CHOICES;
-        text.push_str(&format!(in alloc; "\nmove x m{m} -> m{next} by k{m} when true")?)?;
-    }
-    Ok(())
-}
-
-/// A component of as many modes as there may be, each of which leads to the next.
-fn ring(alloc: Global) -> Result<String, AllocError> {
-    let mut text = String::from_str(alloc, "titan 1\ncomponent x = m0")?;
-    push_modes(alloc, &mut text)?;
-    text.push_str(" start m0")?;
-    push_ring(alloc, &mut text)?;
-    Ok(text)
-}
-
-/// Whether the cell of the ring's tables is this step, for which nothing has to stand first.
-fn ring_steps(alloc: Global, place: (u16, u8, u8), numbers: (u16, u16, u8)) -> bool {
-    match ring(alloc) {
-        Ok(text) => steps(alloc, (&text, &[0]), place, (numbers, &[])),
-        Err(_) => false,
-    }
-}
-
-#[test]
-fn a_ring_is_one_class(rt: HostRuntime) {
-    let far = MAX_CHOICES as u8 - 1;
-    assert!(rt; ring_steps(rt.alloc(), (0, 1, 0), (1, 1, far)));
-    assert!(rt; ring_steps(rt.alloc(), (0, far, 0), (far as u16, far as u16, 1)));
 }

@@ -1,53 +1,21 @@
-//! From rules and guards to ways, order and bounds: projection, prime implicants, ancestors, and goals in effects-first order.
+//! From rules to order and bounds: projection, prime implicants, ancestors, and goals in effects-first order.
 
-ghost use Rattle.std.specs.Prelude.{◌≡◌, ◌<◌, ◌≤◌, All, IfSome, IsTrue, length};
+ghost use Rattle.std.specs.Prelude.{◌≡◌, ◌<◌, ◌≤◌, All, IfSome, length};
 ghost use Rattle.cca_base.specs.declared.limits.TheConstants.{MAX_COMPONENTS};
 ghost use Rattle.cca_base.specs.Cube.{IsCube};
-ghost use Rattle.cca_base.specs.State.{HasWorlds};
 ghost use Rattle.causal_graph.specs.Needs.{AreRows};
 
 use crate::parts::*;
-use acceptance::first_worldless;
-use causal_graph::{Order, ancestors, order, sort_goal};
+use causal_graph::{ancestors, sort_goal};
 use cca_base::*;
 use clause_form::{Clauses, clauses_of};
 use elimination::project;
-use guard_compiler::{rules_of, ways};
 use prime_implicants::{Primes, primes};
 use std::alloc::Global;
 use std::test::*;
 
 /// Rows of literals: each a subject's number with a set of values.
 type Literals<'a> = &'a [&'a [(u16, ValueSet)]];
-
-/// What is kept of clauses over two subjects of two values where the second is eliminated.
-fn projected(alloc: Global, rows: Literals<'_>) -> Option<Clauses> {
-    let Some(given) = clauses(alloc, &[2, 2], rows) else {
-        return None;
-    };
-    if given.sizes.len() == 0 {
-        return None;
-    }
-    match project(alloc, &given, 1) {
-        Ok(kept) => Some(kept),
-        Err(_) => None,
-    }
-}
-
-/// Whether the value meets what is kept.
-fn meets_kept(alloc: Global, rows: Literals<'_>, value: u8) -> Option<bool> {
-    match projected(alloc, rows) {
-        Some(kept) => Some(all_true(&kept, &[value])),
-        None => None,
-    }
-}
-
-#[test]
-fn a_projection_keeps_what_some_value_meets(rt: HostRuntime) {
-    let rows: [&[(u16, ValueSet)]; 2] = [&[(0, one(0)), (1, one(0))], &[(0, one(0)), (1, one(1))]];
-    assert!(rt; meets_kept(rt.alloc(), &rows, 0) == Some(true));
-    assert!(rt; meets_kept(rt.alloc(), &rows, 1) == Some(false));
-}
 
 /// Clauses over the model's components, met by the states that have a world.
 fn states_of(alloc: Global, model: &Model) -> Option<Clauses> {
@@ -142,54 +110,6 @@ fn the_one_cube_or_more_than_none(rt: HostRuntime) {
     assert!(rt; every_prime_is(rt.alloc(), &[], &[]));
 }
 
-/// Whether each state of the model has a world.
-fn has_worlds(alloc: Global, model: &Model) -> bool
-    ensures { IsTrue result → HasWorlds model.now }
-{
-    match rules_of(alloc, model) {
-        Ok(rules) => matches!(first_worldless(alloc, model, &rules), Ok(None)),
-        Err(_) => false,
-    }
-}
-
-/// The ways of the model's first move.
-fn first_ways(alloc: Global, model: &Model) -> Option<List<Cube>> {
-    if model.moves().len() == 0 || !has_worlds(alloc, model) {
-        return None;
-    }
-    match ways(alloc, model, 0) {
-        Ok(cubes) => Some(cubes),
-        Err(_) => None,
-    }
-}
-
-fn are_ways(alloc: Global, model: &Model, wanted: &[&[Pair]]) -> bool {
-    match first_ways(alloc, model) {
-        Some(cubes) => are_cubes(cubes.as_slice(), wanted),
-        None => false,
-    }
-}
-
-/// Whether these are the ways of the first move of the model of this text.
-fn has_ways(alloc: Global, text: &str, wanted: &[&[Pair]]) -> bool {
-    match model_of(alloc, text) {
-        Some(model) => are_ways(alloc, &model, wanted),
-        None => false,
-    }
-}
-
-/// A move that one mode of `b` allows, whatever mode `a` is in.
-const CASES: &str = "titan 1
-component a = p, r start p
-component b = n, q start n
-component c = off, on start off
-move c off -> on by c_on when (a = p and b = q) or (a = r and b = q)";
-
-#[test]
-fn cases_over_all_modes_need_none_of_them(rt: HostRuntime) {
-    assert!(rt; has_ways(rt.alloc(), CASES, &[&[pair(1, 1)]]));
-}
-
 /// The row, whose numbers are all less than `n`.
 fn row_of(alloc: Global, numbers: &[u16], n: usize) -> Option<List<u16>>
     ensures { IfSome result (All (λ u. u < n)) }
@@ -224,30 +144,6 @@ fn rows_of(alloc: Global, lists: &[&[u16]]) -> Option<List<List<u16>>>
         };
     }
     Some(rows)
-}
-
-/// The order of these rows' components, or a cycle.
-fn order_of(alloc: Global, lists: &[&[u16]]) -> Option<Order> {
-    let Some(rows) = rows_of(alloc, lists) else {
-        return None;
-    };
-    match order(alloc, &rows) {
-        Ok(answer) => Some(answer),
-        Err(_) => None,
-    }
-}
-
-/// Whether these rows have this cycle.
-fn has_cycle(alloc: Global, lists: &[&[u16]], cycle: &[u16]) -> bool {
-    match order_of(alloc, lists) {
-        Some(Order::Cycle(list)) => list.as_slice() == cycle,
-        _ => false,
-    }
-}
-
-#[test]
-fn what_needs_itself_is_a_cycle(rt: HostRuntime) {
-    assert!(rt; has_cycle(rt.alloc(), &[&[0]], &[0, 0]));
 }
 
 /// The ancestors of the component in these rows.

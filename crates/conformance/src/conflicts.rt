@@ -61,22 +61,3 @@ fn the_open_valve_is_to_blame(rt: HostRuntime) {
     assert!(rt; are_to_blame(rt.alloc(), VALVE, &modes, &[(0, 0)], &[pair(1, 1)]));
     assert!(rt; is_shown(rt.alloc(), VALVE, &modes, &[(0, 1)]));
 }
-
-/// Two components, each of which makes the variable `yes` where it is on: pairs are tried in component order.
-const TWO_CAUSES: &str = "titan 1
-component a = off, on start off
-component b = off, on start off
-var v = no, yes
-rule a = on implies v = yes
-rule b = on implies v = yes";
-
-#[test]
-fn the_later_of_two_causes_is_to_blame(rt: HostRuntime) {
-    let modes = [(0, 1), (1, 1)];
-    assert!(rt; are_to_blame(rt.alloc(), TWO_CAUSES, &modes, &[(0, 0)], &[pair(1, 1)]));
-}
-
-#[test]
-fn no_pair_is_to_blame_for_what_no_state_shows(rt: HostRuntime) {
-    assert!(rt; are_to_blame(rt.alloc(), TIED, &[(0, 0), (1, 1)], &[(0, 0), (1, 0)], &[]));
-}

@@ -7,7 +7,7 @@ use crate::parts::{Pairs, STICKING_VALVE, compiled_of, pair, seen};
 use cca_base::*;
 use cost_search::Search;
 use mode_estimator::{Estimate, estimate};
-use std::alloc::{AllocError, Global};
+use std::alloc::Global;
 use std::test::*;
 use successors::{Plant, choices};
 
@@ -178,13 +178,6 @@ fn explains(alloc: Global, text: &str, observed: Pairs<'_>, modes: &[u8], cost: 
     }
 }
 
-fn is_unexplained(alloc: Global, text: &str, observed: Pairs<'_>) -> bool {
-    match estimate_of(alloc, text, observed) {
-        Some(Estimate::Unexplained) => true,
-        _ => false,
-    }
-}
-
 /// A pump and a pipe, either of which stops the flow by a failure of one cost.
 const PIPE: &str = "titan 1
 component pump = on, dead start on
@@ -197,66 +190,4 @@ fail pipe fine -> burst cost 5";
 #[test]
 fn the_first_in_mode_order_breaks_a_tie(rt: HostRuntime) {
     assert!(rt; explains(rt.alloc(), PIPE, &[(0, 0)], &[0, 1], 5));
-}
-
-/// Two failures that cost less together than the third.
-const THREE_FAILURES: &str = "titan 1
-component p = ok, bad start ok
-component q = ok, bad start ok
-component r = ok, bad start ok
-var out = good, poor sensed
-rule out = poor iff p = bad and q = bad or r = bad
-fail p ok -> bad cost 4
-fail q ok -> bad cost 6
-fail r ok -> bad cost 11";
-
-#[test]
-fn two_cheap_failures_cost_less_than_a_dear_one(rt: HostRuntime) {
-    assert!(rt; explains(rt.alloc(), THREE_FAILURES, &[(0, 1)], &[1, 1, 0], 10));
-}
-
-#[test]
-fn no_failure_opens_the_valve(rt: HostRuntime) {
-    assert!(rt; is_unexplained(rt.alloc(), STICKING_VALVE, &[(0, 1)]));
-}
-
-/// Adds a component with a variable that says whether it failed.
-fn push_component(alloc: Global, text: &mut String, i: u16) -> Result<(), AllocError> {
-    let own = format!(in alloc;
-        "\ncomponent q{i} = ok, bad start ok\nvar v{i} = good, poor sensed"
-    )?;
-    text.push_str(&own)?;
-    let fails = format!(in alloc; "\nrule v{i} = poor iff q{i} = bad\nfail q{i} ok -> bad cost 1")?;
-    text.push_str(&fails)
-}
-
-/// The text of so many components, each with a variable that says whether it failed.
-fn text_of_many(alloc: Global, count: u16) -> Result<String, AllocError> {
-    let mut text = String::from_str(alloc, "titan 1")?;
-    for i in 0..count {
-        push_component(alloc, &mut text, i)?;
-    }
-    Ok(text)
-}
-
-/// That each of thirty variables says that its component failed.
-fn thirty_poor() -> [(u16, u8); 30] {
-    let mut observed = [(0, 1); 30];
-    for v in 0..30 {
-        observed[v] = (v as u16, 1);
-    }
-    observed
-}
-
-/// Whether thirty failures observed at once are explained by these modes with this cost.
-fn thirty_explain(alloc: Global, modes: &[u8], cost: u64) -> bool {
-    match text_of_many(alloc, 30) {
-        Ok(text) => explains(alloc, &text, &thirty_poor(), modes, cost),
-        Err(_) => false,
-    }
-}
-
-#[test]
-fn thirty_failures_come_at_once(rt: HostRuntime) {
-    assert!(rt; thirty_explain(rt.alloc(), &[1; 30], 30));
 }

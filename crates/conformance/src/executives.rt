@@ -116,37 +116,6 @@ fn plays(alloc: Global, text: &str, rows: &[(&str, Comes<'_>, &[u8])], seen: usi
 }
 
 #[test]
-fn one_base_serves_a_whole_plan(rt: HostRuntime) {
-    let none: &[u8] = &[];
-    let start: &[u8] = &[0, 0];
-    let rows = [
-        ("goal valve = open, drv = off", Comes::Nothing, none),
-        ("tick", Comes::Shows(&[0, 0], 0, Reply::Send(0)), start),
-        ("tick", Comes::Shows(&[1, 0], 0, Reply::Send(2)), start),
-        ("tick", Comes::Shows(&[1, 1], 0, Reply::Send(1)), start),
-        ("tick", Comes::Shows(&[0, 1], 0, Reply::Achieved), start),
-    ];
-    assert!(rt; plays(rt.alloc(), STICKING_VALVE, &rows, 0));
-}
-
-#[test]
-fn a_failure_takes_another_base(rt: HostRuntime) {
-    let none: &[u8] = &[];
-    let start: &[u8] = &[0, 0];
-    let stuck: &[u8] = &[1, 2];
-    let rows = [
-        ("goal valve = open", Comes::Nothing, none),
-        ("tick", Comes::Shows(&[0, 0], 0, Reply::Send(0)), start),
-        ("tick", Comes::Shows(&[1, 0], 0, Reply::Send(2)), start),
-        ("observe flow = none", Comes::Nothing, start),
-        ("tick", Comes::Shows(&[1, 2], 4, Reply::Send(4)), stuck),
-        ("tick", Comes::Shows(&[1, 0], 0, Reply::Send(2)), stuck),
-        ("tick", Comes::Shows(&[1, 1], 0, Reply::Achieved), stuck),
-    ];
-    assert!(rt; plays(rt.alloc(), STICKING_VALVE, &rows, 0));
-}
-
-#[test]
 fn a_valve_is_opened_and_mended(rt: HostRuntime) {
     let none: &[u8] = &[];
     let start: &[u8] = &[0, 0];
@@ -166,18 +135,4 @@ fn a_valve_is_opened_and_mended(rt: HostRuntime) {
         ("tick", Comes::Shows(&[1, 1], 0, Reply::Idle), stuck),
     ];
     assert!(rt; plays(rt.alloc(), STICKING_VALVE, &rows, 1));
-}
-
-#[test]
-fn what_nothing_explains_is_held_until_a_reset(rt: HostRuntime) {
-    let none: &[u8] = &[];
-    let rows = [
-        ("observe flow = some", Comes::Nothing, none),
-        ("tick", Comes::Unexplained, none),
-        ("observe flow = none", Comes::Nothing, none),
-        ("tick", Comes::Holding, none),
-        ("reset", Comes::Nothing, none),
-        ("tick", Comes::Shows(&[0, 0], 0, Reply::Idle), none),
-    ];
-    assert!(rt; plays(rt.alloc(), STICKING_VALVE, &rows, 0));
 }

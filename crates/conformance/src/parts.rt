@@ -108,15 +108,6 @@ component valve = closed, open, stuck start closed
 var flow = none, some sensed
 rule flow = some iff valve = open";
 
-/// Two components and two variables; `a=x b=x` has no world, and no world has neither `v=y` nor `w=z`.
-pub const TIED: &str = "titan 1
-component a = x, y start x
-component b = x, y start x
-var v = x, y, z
-var w = x, y, z
-rule a = y or b = y
-rule v = y or w = z";
-
 /// Whether the component has the mode.
 pub fn has_mode(model: &Model, component: u16, mode: u8) -> bool
     ensures { IsTrue result → HasMode model.now component mode }

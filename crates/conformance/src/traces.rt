@@ -105,31 +105,6 @@ fn proof_lines_are_read_back(rt: HostRuntime) {
     assert!(rt; lines_read(rt.alloc(), STICKING_VALVE, &rows) == 12);
 }
 
-/// A model with a command named `long`.
-const LONG: &str = "titan 1
-component long = cold, idle start cold
-move long cold -> idle by long when true
-move long idle -> cold by back when true";
-
-#[test]
-fn a_command_named_long_is_told_from_a_long_plan(rt: HostRuntime) {
-    let rows = [
-        ("plan  long", "plan  long\nback\n"),
-        ("plan long", "plan long\nback\n"),
-        ("plan long back", "plan long back\nback\n"),
-        ("plan back", "plan back\nback\n"),
-        ("back  long", "plan\nback  long\n"),
-        (
-            "tick 1 cost 0 modes long=idle send long",
-            "tick 1 cost 0 modes long=idle send long\n",
-        ),
-        ("world", "world\n"),
-    ];
-    assert!(rt; lines_read(rt.alloc(), LONG, &rows) == 7);
-    let lines = ["plan  back", "plan  long back", "plan   long", "plan long "];
-    assert!(rt; lines_refused(rt.alloc(), LONG, &lines) == 4);
-}
-
 #[test]
 fn other_lines_are_no_text(rt: HostRuntime) {
     let lines = [

@@ -34,36 +34,6 @@ fn measured(alloc: Global, seed: u64) -> Option<(usize, u64)> {
     }
 }
 
-/// Whether a text has this line at a number, counted from 1.
-fn has_line(text: &str, number: u64, wanted: &str) -> bool {
-    let mut at = 0u64;
-    for line in text.lines() {
-        at = at.wrapping_add(1);
-        if at == number {
-            return line == wanted;
-        }
-    }
-    false
-}
-
-/// How many of these lines, from the first on, the document of a seed has at their numbers.
-fn lines_found(alloc: Global, seed: u64, rows: &[(u64, &str)]) -> u64 {
-    let Some(text) = document(alloc, seed) else {
-        return 0;
-    };
-    let Ok(text) = std::str::from_utf8(text.as_slice()) else {
-        return 0;
-    };
-    let mut found = 0u64;
-    for row in rows {
-        if !has_line(text, row.0, row.1) {
-            return found;
-        }
-        found = found.wrapping_add(1);
-    }
-    found
-}
-
 /// Makes the event of a line; the estimate of a tick has to be where the plant stood.
 fn estimate_is_plant(alloc: Global, executive: &mut Executive, line: &str) -> bool
     requires { executive.old.state.ticks < 10000 }
@@ -114,30 +84,4 @@ fn each_estimate_of_a_trial_is_the_plant(rt: HostRuntime) {
 fn two_documents_have_their_bytes(rt: HostRuntime) {
     assert!(rt; measured(rt.alloc(), 0) == Some((17124, 7060342069679021904)));
     assert!(rt; measured(rt.alloc(), 7) == Some((17072, 4207979679328940639)));
-}
-
-#[test]
-fn two_documents_have_these_lines(rt: HostRuntime) {
-    let zero = [
-        (1, "titan 1"),
-        (2, "component c0_0=a,b,c,x start a"),
-        (50, "var s0_0=ok,off sensed"),
-        (98, "rule s0_0=off iff c0_0=x"),
-        (146, "move c0_0 a->b by k0_0_0 when true"),
-        (150, "move c0_1 a->b by k0_1_0 when c0_0=c"),
-        (530, "script"),
-        (531, "mirror s0_0"),
-        (579, "goal c4_5=b,c5_3=a"),
-        (580, "tick"),
-        (591, "fault c4_2=x"),
-        (805, "tick"),
-    ];
-    assert!(rt; lines_found(rt.alloc(), 0, &zero) == 12);
-    let seven = [
-        (150, "move c0_1 a->b by k0_1_0 when c0_0=c"),
-        (152, "move c0_1 c->a by k0_1_2 when c0_0=a"),
-        (579, "goal c3_1=a,c4_3=b"),
-        (591, "fault c2_4=x"),
-    ];
-    assert!(rt; lines_found(rt.alloc(), 7, &seven) == 4);
 }
