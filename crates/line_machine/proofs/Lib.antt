@@ -10,3 +10,6 @@ pub mod SentPieces
 pub mod SureTextBegins
 pub mod LineOutput
 pub mod KnownInputs
+pub mod EndsSo
+pub mod NotOpened
+pub mod RunLines

@@ -1,7 +1,9 @@
 pub mod Call
 pub mod Calls
+pub mod Completes
 pub mod Driven
 pub mod Found
+pub mod IsDriven
 pub mod KnownInput
 pub mod Lines
 pub mod Next
