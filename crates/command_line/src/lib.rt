@@ -2,13 +2,13 @@
 //! top call. A caller gets the exit status that the top call's answer has.
 #![tactic(auto)]
 
-ghost use Rattle.std.specs.Prelude.{◌≡◌, ◌≤◌, IfSome};
+ghost use Rattle.std.specs.Prelude.{◌≡◌, ◌≤◌};
 ghost use Rattle.std.specs.Process.{exit_status};
 ghost use Rattle.titan_top.specs.Output.{IsOutcome};
 ghost use Rattle.titan_top.specs.Statuses.{status_number};
-ghost use Rattle.titan_top.specs.Streams.{HasRoomForWords, input_for};
+ghost use Rattle.titan_top.specs.Streams.{HasRoomForWords, OfInput};
 ghost use Rattle.titan_top.specs.Wire.{WritesAs};
-ghost use Rattle.titan_top.specs.Words.{form_of, texts};
+ghost use Rattle.titan_top.specs.Words.{asked};
 
 use std::alloc::Global;
 use std::process::ExitCode;
@@ -50,9 +50,9 @@ fn run_over<S: Source, K: Sink>(
     source: &mut S,
     sink: &mut K,
 ) -> ExitCode
-    requires { HasRoomForWords (form_of (texts words.now.items)) (S.left source.old) (K.space sink.old) }
+    requires { HasRoomForWords (asked words.now.items) (S.left source.old) (K.space sink.old) }
     ensures status { (s : Status) × (exit_status result ≡ status_number s)
-        × IfSome (input_for (form_of (texts words.now.items)) (S.left source.old)) (λ input. WritesAs s (K.written sink.old) (K.written sink.new) (IsOutcome words.now.items input)) }
+        × OfInput (asked words.now.items) (S.left source.old) (λ input. WritesAs s (K.written sink.old) (K.written sink.new) (IsOutcome words.now.items input)) }
     ensures few { exit_status result ≤ 6 }
 {
     exit_code(titan(alloc, words, source, sink))

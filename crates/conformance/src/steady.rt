@@ -1,10 +1,10 @@
 //! The top call over a source and a sink that never fail: it comes to its end, or memory runs out. That such a caller is proved from
 //! the call's contract alone shows that no body may always answer a fault.
-ghost use Rattle.std.specs.Prelude.{◌≡◌, ◌≢◌, ◌⊎◌, IfSome};
+ghost use Rattle.std.specs.Prelude.{◌≡◌, ◌≢◌, ◌⊎◌};
 ghost use Rattle.titan_wire.specs.Steady.{steady_left, steady_space};
 ghost use Rattle.titan_top.specs.Output.{NothingRefused, SomeRefused};
-ghost use Rattle.titan_top.specs.Streams.{HasRoomForWords, input_for};
-ghost use Rattle.titan_top.specs.Words.{form_of, texts};
+ghost use Rattle.titan_top.specs.Streams.{HasRoomForWords, OfInput};
+ghost use Rattle.titan_top.specs.Words.{asked};
 
 use std::alloc::Global;
 use titan_top::{Status, titan};
@@ -17,12 +17,12 @@ pub fn run_steady(
     source: &mut SteadySource,
     sink: &mut SteadySink,
 ) -> Status
-    requires { HasRoomForWords (form_of (texts words.now.items)) (steady_left source.old) (steady_space sink.old) }
+    requires { HasRoomForWords (asked words.now.items) (steady_left source.old) (steady_space sink.old) }
     ensures read { result ≢ Status.ReadFault }
     ensures write { result ≢ Status.WriteFault }
-    ensures ended { IfSome (input_for (form_of (texts words.now.items)) (steady_left source.old)) (λ input. NothingRefused (form_of (texts words.now.items)) input →
+    ensures ended { OfInput (asked words.now.items) (steady_left source.old) (λ input. NothingRefused (asked words.now.items) input →
         (result ≡ Status.Ended) ⊎ (result ≡ Status.Memory)) }
-    ensures refused { IfSome (input_for (form_of (texts words.now.items)) (steady_left source.old)) (λ input. SomeRefused (form_of (texts words.now.items)) input →
+    ensures refused { OfInput (asked words.now.items) (steady_left source.old) (λ input. SomeRefused (asked words.now.items) input →
         (result ≡ Status.Refused) ⊎ (result ≡ Status.Memory)) }
 {
     titan(alloc, words, source, sink)

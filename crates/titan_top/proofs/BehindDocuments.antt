@@ -13,9 +13,10 @@ use Rattle.script_reader.specs.Items.{Item, item_of}
 use Rattle.text_base.specs.Lexemes.{Lexeme, lexeme, word}
 use Rattle.text_base.specs.Tokens.{Tok, tokens_of}
 use Rattle.text_base.proofs.LexemeLaws.{lexeme_is}
-use Rattle.titan_top.specs.CheckScript.{ScriptSoFar, ScriptOutcome, Reads, Ends, Traced, ReadsScript, LeadsByCode, LeadsUnless, ScriptLeads, EventLeads, is_word_alone, is_trace_line, with_event}
-use Rattle.titan_top.specs.Document.{Document, Complete, RefusedAt, ModelText, Scripted, Stopped, ReadsModel, After, SaysBy, SaysScript, refused_at}
-use Rattle.titan_top.specs.Limits.{line_code, unless_long}
+use Rattle.check_form.specs.CheckScript.{ScriptSoFar, ScriptOutcome, Reads, Ends, Traced, ReadsScript, LeadsByCode, LeadsUnless, ScriptLeads, EventLeads, is_word_alone, is_trace_line, with_event}
+use Rattle.model_form.specs.ModelTexts.{ModelText, Scripted, Stopped, ReadsModel, After}
+use Rattle.run_form.specs.Document.{Document, Complete, RefusedAt, SaysBy, SaysScript, refused_at}
+use Rattle.model_form.specs.Limits.{line_code, unless_long}
 
 -- ---- the model
 

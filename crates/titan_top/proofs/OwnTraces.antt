@@ -18,6 +18,7 @@ use Rattle.cca_base.specs.Runs.{TickRecord, Ticks, Trace}
 use Rattle.cca_base.specs.Trace.{ExecutiveState, Changes, AllMayCome, TickShows, start}
 use Rattle.line_machine.specs.Lines.{Lines, lines_behind, lines_in, all_lines, last_line}
 use Rattle.line_machine.specs.declared.machine.End.{End}
+use Rattle.line_machine.specs.declared.machine.End.TheVariants as how
 use Rattle.line_machine.specs.declared.machine.TheConstants.{MAX_LINES}
 use Rattle.line_machine.specs.declared.send.Cut.{Cut}
 use Rattle.line_machine.specs.declared.send.Cut.TheVariants as cuts
@@ -30,30 +31,35 @@ use Rattle.trace_laws.specs.Events.{Acts}
 use Rattle.trace_laws.specs.Fits.{Fits}
 use Rattle.trace_laws.proofs.EventsJoin.{next_may_come, trace_is_made}
 use Rattle.trace_laws.proofs.FitsStay.{start_fits, stays_fitting}
-use Rattle.titan_top.specs.Acceptance.{Acceptance, AcceptedAs, RefusedFor, IsAcceptanceOf}
-use Rattle.titan_top.specs.CheckEnds.{IsAllYes}
-use Rattle.titan_top.specs.CheckScript.{Traced, ReadsScript, no_events}
-use Rattle.titan_top.specs.CheckTrace.{TraceSoFar, ComesTo, before_tick, AllYes, JudgesLines, JudgesTrace}
-use Rattle.titan_top.specs.Document.{Document, DocumentEnd, Complete, RefusedAt, ModelText, Scripted, Stopped, ReadsModel, After, EndsModel, SaysScript, nothing_read}
-use Rattle.titan_top.specs.Limits.{line_code}
-use Rattle.titan_top.specs.Output.{Outcome, ending, printed, PrintsBy, IsRun, IsOutcomeFor}
+use Rattle.model_form.specs.Acceptance.{Acceptance, AcceptedAs, RefusedFor, IsAcceptanceOf}
+use Rattle.check_form.specs.CheckEnds.{IsAllYes}
+use Rattle.check_form.specs.CheckScript.{Traced, ReadsScript, no_events}
+use Rattle.check_form.specs.CheckTrace.{TraceSoFar, ComesTo, before_tick, AllYes, JudgesLines, JudgesTrace}
+use Rattle.model_form.specs.FormStates.{nothing_read}
+use Rattle.model_form.specs.ModelTexts.{ModelText, Scripted, Stopped, ReadsModel, After, EndsModel}
+use Rattle.run_form.specs.Document.{Document, DocumentEnd, Complete, RefusedAt, SaysScript}
+use Rattle.model_form.specs.Limits.{line_code}
+use Rattle.model_form.specs.Answers.{Answer, answer, AnswersByAcceptance, AnswersByEnd}
+use Rattle.run_form.specs.Notations.{is_json}
+use Rattle.run_form.specs.Printed.{ending, printed, SaysRun}
+use Rattle.titan_top.specs.Output.{Outcome, outcome_of, IsOutcomeFor}
 use Rattle.titan_top.specs.Statuses.{status_of}
 use Rattle.titan_top.specs.Streams.{input_for}
-use Rattle.titan_top.specs.Summaries.{counts_of}
-use Rattle.titan_top.specs.TickProofs.{IsProven, tick_text}
-use Rattle.titan_top.specs.TickTexts.{TicksText}
+use Rattle.run_form.specs.Summaries.{counts_of}
+use Rattle.run_form.specs.TickProofs.{IsProven, tick_text}
+use Rattle.run_form.specs.TickTexts.{TicksText}
 use Rattle.titan_top.specs.Wire.{WritesAs}
-use Rattle.titan_top.specs.declared.counts.Counts.{Counts}
-use Rattle.titan_top.specs.declared.notation.Notation.TheVariants.{Proof}
-use Rattle.titan_top.specs.declared.status.Status.TheVariants.{Ended, Refused, Memory}
+use Rattle.run_form.specs.declared.counts.Counts.{Counts}
+use Rattle.run_form.specs.declared.notation.Notation.TheVariants.{Proof}
+use Rattle.titan_top.specs.declared.status.Status.TheVariants.{Ended, Memory}
 use Rattle.titan_top.specs.declared.words.Form.{Form}
 use Rattle.titan_top.specs.declared.words.Form.TheVariants.{Check}
 use Rattle.titan_top.proofs.TraceIsChecked.{counted}
-use Rattle.titan_top.proofs.TraceOfRun.{script_comes}
+use Rattle.run_form.proofs.TraceOfRun.{script_comes}
 use Rattle.titan_top.specs.OwnTraces.{ShowsLong, HasOwnTrace}
 use Rattle.titan_top.specs.Laws.{OwnTracesAreChecked}
 use Rattle.titan_top.proofs.BehindDocuments.{model_goes_on, script_goes_on}
-use Rattle.titan_top.proofs.FormStatuses.{ended_where}
+use Rattle.titan_top.proofs.FormStatuses.{ended_where, end_ended}
 use Rattle.titan_top.proofs.ProvenLines.{first_line, KeepsLimits, tick_judged}
 use Rattle.titan_top.proofs.ProvenTicks.{with_goal, IsGoalOf}
 
@@ -194,19 +200,19 @@ script_place (l ∷ ls) s n m k rest (o, leads, after) =
 -- ---- the whole input
 
 -- what is printed at the end of a document of which nothing is refused is nothing
-ended_complete : (m : PlantModel) (c : Counts) (e : DocumentEnd) → (ending Proof m c e).status ≡ Ended → e ≡ Complete
+ended_complete : (m : PlantModel) (c : Counts) (e : DocumentEnd) → (ending Proof m c e).end ≡ how.Ended → e ≡ Complete
 ended_complete m c Complete h = refl
-ended_complete m c (RefusedAt line r) h = let never : Refused ≡ Ended = h in absurd cc
+ended_complete m c (RefusedAt line r) h = let never : how.Refused ≡ how.Ended = h in absurd cc
 
 record IsWhole (r : Document) (text all : List ℕ) : Type 0 where
   complete : r.ending ≡ Complete
   same : text ≡ all
 
-printed_whole : (r : Document) (reports : List TickReport) (text all : List ℕ) → record { text = all; status = Ended } ≡ printed Proof r reports text → IsWhole r text all
+printed_whole : (r : Document) (reports : List TickReport) (text all : List ℕ) → answer how.Ended all ≡ printed Proof r reports text → IsWhole r text all
 unfolding printed
 printed_whole r reports text all e =
-    let complete : r.ending ≡ Complete = ended_complete r.model (counts_of reports) r.ending (sym (ap (λ (o : Outcome). o.status) e)) in
-    let words : all ≡ text ++ [] = ap (λ (o : Outcome). o.text) e ∙ ap (λ (d : DocumentEnd). text ++ (ending Proof r.model (counts_of reports) d).text) complete in
+    let complete : r.ending ≡ Complete = ended_complete r.model (counts_of reports) r.ending (sym (ap (λ (a : Answer). a.end) e)) in
+    let words : all ≡ text ++ [] = ap (λ (a : Answer). a.text) e ∙ ap (λ (d : DocumentEnd). text ++ (ending Proof r.model (counts_of reports) d).text) complete in
     record { complete = complete; same = sym (append-nil text) ∙ sym words }
 
 module _ (input : List ℕ) (own : HasOwnTrace input) where
@@ -243,16 +249,16 @@ module _ (input : List ℕ) (own : HasOwnTrace input) where
         subst (λ (l : List (List ℕ)). ReadsModel nothing_read 0 l (Scripted m n (ls ++ own.trace ∷ trace_lines))) (sym input_lines)
         (model_goes_on (own.trace ∷ trace_lines) document_lines nothing_read 0 (Scripted m n ls) tt ends)
 
-    script_judged : (b : CompiledModel) → IsCompiled b → b.model ≡ m → (r : Document) (reports : List TickReport) (text : List ℕ) → SaysScript m [] 0 n ls r → (trace : Trace b (Promising b) r.events reports) → TicksText Proof b trace.ticks text
-        → record { text = own.text; status = Ended } ≡ printed Proof r reports text → IsAllYes input
+    script_judged : (b : CompiledModel) → IsCompiled b → b.model ≡ m → (r : Document) (reports : List TickReport) (text : List ℕ) → SaysScript b.model [] 0 n ls r → (trace : Trace b (Promising b) r.events reports) → TicksText Proof b trace.ticks text
+        → answer how.Ended own.text ≡ printed Proof r reports text → IsAllYes input
     script_judged b compiled is r reports text says trace told e =
         let whole = printed_whole r reports text own.text e in
-        let own_says : SaysScript b.model [] 0 n ls r = subst (λ (z : PlantModel). SaysScript z [] 0 n ls r) (sym is) says in
+        let read_says : SaysScript m [] 0 n ls r = subst (λ (z : PlantModel). SaysScript z [] 0 n ls r) is says in
         let made = trace_is_made b (Promising b) r.events reports trace in
-        let come = script_comes b ls (start b.model 0) n r made.0 reports own_says made.1 in
+        let come = script_comes b ls (start b.model 0) n r made.0 reports says made.1 in
         let j = trace_judged b compiled r.events (start b.model 0) None [] trace.ticks own.text (start_fits b 0 compiled) tt come trace.made (subst (TicksText Proof b trace.ticks) whole.same told) in
         let short : line_code k own.trace ≡ None = short_code 4096 (n + length ls) (length own.trace) (let most = few in omega (arith, most)) own.between.short in
-        let reads : ReadsScript m no_events n (ls ++ own.trace ∷ trace_lines) (Traced r.events k trace_lines) = script_goes_on m own.trace own.between.is trace_lines ls no_events n k r says whole.complete refl short in
+        let reads : ReadsScript m no_events n (ls ++ own.trace ∷ trace_lines) (Traced r.events k trace_lines) = script_goes_on m own.trace own.between.is trace_lines ls no_events n k r read_says whole.complete refl short in
         let judges : JudgesTrace b.model r.events k trace_lines (AllYes (0 + length trace.ticks)) = (j.next, j.comes, j.judges k (omega arith) limits) in (
           0 + length trace.ticks,
           (
@@ -262,16 +268,23 @@ module _ (input : List ℕ) (own : HasOwnTrace input) where
           ),
         )
 
-    acceptance_judged : (v : Acceptance) → IsAcceptanceOf m v → PrintsBy Proof v m n ls (record { text = own.text; status = Ended }) → IsAllYes input
+    acceptance_judged : (v : Acceptance) → IsAcceptanceOf m v → AnswersByAcceptance (is_json Proof) (SaysRun Proof) v m n ls how.Ended own.text → IsAllYes input
     acceptance_judged (AcceptedAs b) is (r, reports, text, says, trace, told, e) = script_judged b is.0 is.1 r reports text says trace told e
-    acceptance_judged (RefusedFor rf) is e = let never : Ended ≡ Refused = ap (λ (o : Outcome). o.status) e in absurd cc
+    acceptance_judged (RefusedFor rf) is h = let never : how.Ended ≡ how.Refused = h.0 in absurd cc
 
-  by_end : (end : ModelText) → EndsModel (own.front ++ 10 ∷ []) end → IsRun Proof end (record { text = own.text; status = Ended }) → IsAllYes input
-  by_end (Scripted m n ls) ends (v, is, h) = acceptance_judged m n ls ends v is h
-  by_end (Stopped m line r) ends e = let never : Ended ≡ Refused = ap (λ (o : Outcome). o.status) e in absurd cc
+  by_end : (end : ModelText) → EndsModel (own.front ++ 10 ∷ []) end → AnswersByEnd (is_json Proof) (SaysRun Proof) end how.Ended own.text → IsAllYes input
+  by_end (Scripted m n ls) ends_so (v, is, h) = acceptance_judged m n ls ends_so v is h
+  by_end (Stopped m line r) ends_so h = let never : how.Ended ≡ how.Refused = h.0 in absurd cc
+
+  -- the text is that of a run which ended
+  by_answer : (a : Answer) → record { text = own.text; status = Ended } ≡ outcome_of a → (end : ModelText) → EndsModel (own.front ++ 10 ∷ []) end → AnswersByEnd (is_json Proof) (SaysRun Proof) end a.end a.text → IsAllYes input
+  by_answer a is end reads says =
+      let ended = end_ended a.end (sym (ap (λ (o : Outcome). o.status) is)) in
+      let text : a.text ≡ own.text = sym (ap (λ (o : Outcome). o.text) is) in
+      by_end end reads (subst (λ (e : End). AnswersByEnd (is_json Proof) (SaysRun Proof) end e own.text) ended (subst (λ (t : List ℕ). AnswersByEnd (is_json Proof) (SaysRun Proof) end a.end t) text says))
 
 pub own_traces_are_checked : OwnTracesAreChecked
-own_traces_are_checked input own = let (end, ends, is) = own.runs in by_end input own end ends is
+own_traces_are_checked input own = let (a, is, (end, reads, says)) = own.runs in by_answer input own a is end reads says
 
 -- ---- what the driver's answer says
 

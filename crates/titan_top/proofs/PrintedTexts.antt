@@ -11,7 +11,7 @@ use Rattle.model_syntax.proofs.PrintedModel.{model_read, lines_whole}
 use Rattle.titan_top.specs.Laws.{PrintedTextsReadBack}
 use Rattle.line_machine.specs.Lines.{lines_in, all_lines, HasNoLf}
 use Rattle.line_machine.proofs.JoinedLines.{lines-append, one_line}
-use Rattle.titan_top.specs.Document.{nothing_read}
+use Rattle.model_form.specs.FormStates.{nothing_read}
 
 -- no line's end is in the line
 abbrev IsWhole : List ℕ → Type 0

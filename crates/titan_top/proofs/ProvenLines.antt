@@ -36,15 +36,15 @@ use Rattle.trace_text.specs.TraceLines.{trace_line, FitsLine, FitsShown, FitsRep
 use Rattle.trace_text.specs.declared.trace_line.TraceLine.{TraceLine}
 use Rattle.trace_text.specs.declared.trace_line.TraceLine.TheVariants.{Tick, World, Plan, Back}
 use Rattle.trace_text.proofs.ShortLines.{IsShowablePlan, IsShowable, IsShortLine, short_line}
-use Rattle.titan_top.specs.CheckTrace.{TraceSoFar, Follows, ByLines, CheckEnd, JudgesByCode, JudgesLines, ComesTo, before_tick, trace_line_code}
-use Rattle.titan_top.specs.TickLines.{TickLines, More, Whole as WholeTick, next_lines, has_world, has_route}
-use Rattle.titan_top.specs.TickProofs.{ProvesEstimate, ProvesReply, ProvesCommand, IsProven, tick_text}
-use Rattle.titan_top.specs.declared.tick_lines.TickSoFar.{TickSoFar}
-use Rattle.titan_top.specs.declared.tick_lines.TickSoFar.TheVariants.{Nothing, Reported, Explained, Planned}
+use Rattle.check_form.specs.CheckTrace.{TraceSoFar, Follows, ByLines, CheckEnd, JudgesByCode, JudgesLines, ComesTo, before_tick, trace_line_code}
+use Rattle.check_form.specs.TickLines.{TickLines, More, Whole as WholeTick, next_lines, has_world, has_route}
+use Rattle.run_form.specs.TickProofs.{ProvesEstimate, ProvesReply, ProvesCommand, IsProven, tick_text}
+use Rattle.check_form.specs.declared.tick_lines.TickSoFar.{TickSoFar}
+use Rattle.check_form.specs.declared.tick_lines.TickSoFar.TheVariants.{Nothing, Reported, Explained, Planned}
 use Rattle.titan_top.specs.OwnTraces.{ShowsLong}
 use Rattle.titan_top.proofs.FittingLines.{cost_fits, command_fits, run_fits, world_fits}
 use Rattle.titan_top.proofs.ProvenTicks.{with_goal, IsGoalOf, proven_passes, proven_takes, proven_sees}
-use Rattle.titan_top.proofs.ShownPlans.{whole_runs}
+use Rattle.run_form.proofs.ShownPlans.{whole_runs}
 
 -- ---- the lines of a text
 

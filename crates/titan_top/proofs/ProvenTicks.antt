@@ -29,9 +29,9 @@ use Rattle.check_laws.proofs.CheckedPlans.{one_end}
 use Rattle.plan_checker.specs.Checked.{Takes}
 use Rattle.plan_checker.specs.Reasons.{Printed, OnEstimate, OnCommand, OnCommands, HasItsLines, HasItsCost, HasItsWorld, ExplainsTick, SendsStep, PrintsPlan, ReachesGoal, LeadsBack, AnswersGoal, FitsGoal, IsPlanFrom, IsWayBack, WritesRoute, IsVerdict}
 use Rattle.plan_checker.specs.declared.verdict.Verdict.TheVariants.{Yes}
-use Rattle.titan_top.specs.CheckTrace.{SeesPairs}
-use Rattle.titan_top.specs.TickProofs.{IsSeenWorld, ProvesEstimate, ProvesReply, ProvesCommand, IsProven}
-use Rattle.titan_top.proofs.ShownPlans.{whole_runs, whole_stands}
+use Rattle.check_form.specs.CheckTrace.{SeesPairs}
+use Rattle.run_form.specs.TickProofs.{IsSeenWorld, ProvesEstimate, ProvesReply, ProvesCommand, IsProven}
+use Rattle.run_form.proofs.ShownPlans.{whole_runs, whole_stands}
 
 -- where a checker stands: as the executive, with the goal as it was given
 abbrev pub with_goal : ExecutiveState → Option (List Pair) → ExecutiveState

@@ -25,23 +25,26 @@ use Rattle.trace_text.specs.Reports.{report_line}
 use Rattle.trace_text.specs.TraceLines.{trace_line}
 use Rattle.trace_text.specs.declared.trace_line.TraceLine.{TraceLine}
 use Rattle.trace_text.specs.declared.trace_line.TraceLine.TheVariants.{Tick, World, Plan, Back}
-use Rattle.titan_top.specs.Acceptance.{Acceptance, AcceptedAs, RefusedFor, IsAcceptanceOf}
-use Rattle.titan_top.specs.CheckEnds.{EndsByScript, EndsByAcceptance, EndsByModel}
-use Rattle.titan_top.specs.CheckScript.{ScriptText, Traced, Stopped, ReadsScript, no_events}
-use Rattle.titan_top.specs.CheckTrace.{TraceSoFar, Follows, Fails, ComesTo, SeesPairs, ByVerdict, ByLines, LeadsBehind, AllYes, FirstNo, FirstRefusal, JudgesByCode, JudgesLines, end_behind, trace_line_code, with_said}
+use Rattle.model_form.specs.Acceptance.{Acceptance, AcceptedAs, RefusedFor, IsAcceptanceOf}
+use Rattle.check_form.specs.CheckEnds.{EndsByScript, EndsByAcceptance, EndsByModel}
+use Rattle.check_form.specs.CheckScript.{ScriptText, Traced, Stopped, ReadsScript, no_events}
+use Rattle.check_form.specs.CheckTrace.{TraceSoFar, Follows, Fails, ComesTo, SeesPairs, ByVerdict, ByLines, LeadsBehind, AllYes, FirstNo, FirstRefusal, JudgesByCode, JudgesLines, end_behind, trace_line_code, with_said}
 use Rattle.titan_top.specs.CheckedTrace.{IsCheckedTick, AreChecked, IsCheckedTrace, joined}
-use Rattle.titan_top.specs.TickProofs.{tick_text}
-use Rattle.titan_top.specs.Document.{ModelText, EndsModel, Scripted}
-use Rattle.titan_top.specs.Document as documents
-use Rattle.titan_top.specs.Output.{Outcome, judged, IsOutcomeFor, IsOutcomeOf, IsOutcome}
-use Rattle.titan_top.specs.TickLines.{TickLines, NotNext, More, Whole, has_world, has_route, next_lines}
-use Rattle.titan_top.specs.Words.{form_of, texts}
+use Rattle.run_form.specs.TickProofs.{tick_text}
+use Rattle.model_form.specs.Answers.{Answer}
+use Rattle.model_form.specs.ModelTexts.{ModelText, EndsModel, Scripted}
+use Rattle.model_form.specs.ModelTexts as models
+use Rattle.check_form.specs.CheckForm.{judged}
+use Rattle.titan_top.specs.Output.{Outcome, outcome_of, IsOutcomeFor, IsOutcomeOf, IsOutcome}
+use Rattle.check_form.specs.TickLines.{TickLines, NotNext, More, Whole, has_world, has_route, next_lines}
+use Rattle.titan_top.specs.Words.{IsForm}
 use Rattle.titan_top.specs.declared.status.Status.TheVariants.{Ended}
-use Rattle.titan_top.specs.declared.tick_lines.TickSoFar.{TickSoFar}
-use Rattle.titan_top.specs.declared.tick_lines.TickSoFar.TheVariants.{Nothing, Reported, Explained, Planned}
+use Rattle.check_form.specs.declared.tick_lines.TickSoFar.{TickSoFar}
+use Rattle.check_form.specs.declared.tick_lines.TickSoFar.TheVariants.{Nothing, Reported, Explained, Planned}
 use Rattle.titan_top.specs.declared.words.Form.{Form}
 use Rattle.titan_top.specs.declared.words.Form.TheVariants.{Check}
-use Rattle.titan_top.proofs.CheckStatuses.{all_yes}
+use Rattle.check_form.proofs.CheckStatuses.{all_yes}
+use Rattle.titan_top.proofs.FormStatuses.{end_ended}
 
 -- ---- the text of a tick's lines
 
@@ -251,7 +254,7 @@ module _ (m : PlantModel) (good : WellFormed m) where
 -- ---- the whole input
 
 script_checked : (input : List ℕ) (b : CompiledModel) (k : PlantModel) (n : ℕ) (ls : List (List ℕ)) (count : ℕ) (t : ScriptText) → IsCompiled b → b.model ≡ k → EndsModel input (Scripted k n ls) → ReadsScript k no_events n ls t → EndsByScript k t (AllYes count)
-    → IsCheckedTrace input (judged (AllYes count))
+    → IsCheckedTrace input (outcome_of (judged (AllYes count)))
 script_checked input b k n ls count (Stopped line r) compiled is ends reads so = absurd (not_all_refused b.model compiled.accepted.well_formed count k line r so)
 script_checked input b k n ls count (Traced events line rest) compiled is ends reads so =
     let (x, comes, judges) = subst (λ (m : PlantModel). EndsByScript m (Traced events line rest) (AllYes count)) (sym is) so in
@@ -272,24 +275,25 @@ script_checked input b k n ls count (Traced events line rest) compiled is ends r
       ticks = r.ticks;
       text = ap (λ (z : TickSoFar). text_so_far b.model z ++ joined rest) (sym unread) ∙ r.text;
       checked = comes_checked b.model compiled.accepted.well_formed events (start b.model 0) x r.ticks comes r.checked;
-      outcome = ap (λ (z : ℕ). judged (AllYes z)) number;
+      outcome = ap (λ (z : ℕ). outcome_of (judged (AllYes z))) number;
     }
 
-acceptance_checked : (input : List ℕ) (v : Acceptance) (k : PlantModel) (n : ℕ) (ls : List (List ℕ)) (count : ℕ) → IsAcceptanceOf k v → EndsModel input (Scripted k n ls) → EndsByAcceptance v k n ls (AllYes count) → IsCheckedTrace input (judged (AllYes count))
+acceptance_checked : (input : List ℕ) (v : Acceptance) (k : PlantModel) (n : ℕ) (ls : List (List ℕ)) (count : ℕ) → IsAcceptanceOf k v → EndsModel input (Scripted k n ls) → EndsByAcceptance v k n ls (AllYes count) → IsCheckedTrace input (outcome_of (judged (AllYes count)))
 acceptance_checked input (AcceptedAs b) k n ls count is ends (t, reads, so) = script_checked input b k n ls count t is.0 is.1 ends reads so
 acceptance_checked input (RefusedFor r) k n ls count is ends h = let never : AllYes count ≡ FirstRefusal k n r = h in absurd cc
 
-model_checked : (input : List ℕ) (text : ModelText) (count : ℕ) → EndsModel input text → EndsByModel text (AllYes count) → IsCheckedTrace input (judged (AllYes count))
+model_checked : (input : List ℕ) (text : ModelText) (count : ℕ) → EndsModel input text → EndsByModel text (AllYes count) → IsCheckedTrace input (outcome_of (judged (AllYes count)))
 model_checked input (Scripted k n ls) count ends (v, is, h) = acceptance_checked input v k n ls count is ends h
-model_checked input (documents.Stopped k line r) count ends h = let never : AllYes count ≡ FirstRefusal k line r = h in absurd cc
+model_checked input (models.Stopped k line r) count ends h = let never : AllYes count ≡ FirstRefusal k line r = h in absurd cc
 
 -- a check that ends with a Yes is of a checked trace
 pub ended_is_checked : (input : List ℕ) (o : Outcome) → IsOutcomeFor Check input o → o.status ≡ Ended → IsCheckedTrace input o
-ended_is_checked input o (text, ends, (end, so, is)) h =
-    let (ticks, e) = all_yes end (sym (ap (λ (x : Outcome). x.status) is) ∙ h) in
-    subst (IsCheckedTrace input) (sym (is ∙ ap judged e)) (model_checked input text ticks ends (subst (EndsByModel text) e so))
+ended_is_checked input o (a, is, (text, ends, (end, so, same))) h =
+    let ended = end_ended a.end (sym (ap (λ (x : Outcome). x.status) is) ∙ h) in
+    let (ticks, e) = all_yes end (sym (ap (λ (x : Answer). x.end) same) ∙ ended) in
+    subst (IsCheckedTrace input) (sym (is ∙ ap outcome_of (same ∙ ap judged e))) (model_checked input text ticks ends (subst (EndsByModel text) e so))
 
-pub check_is_checked : (words : List (String Global)) (left : Option (List ℕ)) → form_of (texts words) ≡ Some Check → IfSome left (λ input. (o : Outcome) → IsOutcome words input o → o.status ≡ Ended → IsCheckedTrace input o)
+pub check_is_checked : (words : List (String Global)) (left : Option (List ℕ)) → IsForm words Check → IfSome left (λ input. (o : Outcome) → IsOutcome words input o → o.status ≡ Ended → IsCheckedTrace input o)
 unfolding IsOutcome
 check_is_checked words None e = tt
 check_is_checked words (Some input) e = λ o is. ended_is_checked input o (subst (λ (f : Option Form). IsOutcomeOf f input o) e is)

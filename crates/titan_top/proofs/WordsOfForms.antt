@@ -5,13 +5,14 @@ use Rattle.std.specs.Prelude.{IfSome, String}
 use Rattle.titan_top.specs.declared.status.Status.{Status}
 use Rattle.titan_top.specs.declared.status.Status.TheVariants.{Usage, WriteFault, Memory}
 use Rattle.titan_top.specs.declared.words.Form.{Form}
-use Rattle.titan_top.specs.Output.{Outcome, usage, IsOutcomeFor, IsOutcomeOf, IsOutcome, NothingRefused, SomeRefused, SomeRejected}
+use Rattle.titan_top.specs.Output.{Outcome, usage, IsOutcomeFor, IsOutcomeOf, IsOutcome}
+use Rattle.titan_top.specs.Streams.{OfInput, input_for}
 use Rattle.titan_top.specs.Wire.{Writes, WritesAs}
-use Rattle.titan_top.specs.Words.{form_of, texts}
+use Rattle.titan_top.specs.Words.{asked}
 
 -- ---- words of no form
 
-module _ (words : List (String Global)) (none : form_of (texts words) ≡ None) where
+module _ (words : List (String Global)) (none : asked words ≡ None) where
   usage_is : (input : List ℕ) → IsOutcome words input usage
   unfolding IsOutcome
   usage_is input = subst (λ (f : Option Form). IsOutcomeOf f input usage) (sym none) refl
@@ -37,7 +38,7 @@ module _ (words : List (String Global)) (none : form_of (texts words) ≡ None) 
 
 -- ---- words of a form
 
-module _ (words : List (String Global)) (form : Form) (is : Some form ≡ form_of (texts words)) where
+module _ (words : List (String Global)) (form : Form) (is : Some form ≡ asked words) where
   form_is : (input : List ℕ) (o : Outcome) → IsOutcomeFor form input o → IsOutcome words input o
   unfolding IsOutcome
   form_is input o h = subst (λ (f : Option Form). IsOutcomeOf f input o) is h
@@ -52,21 +53,19 @@ module _ (words : List (String Global)) (form : Form) (is : Some form ≡ form_o
     some = elim a.some [ inl cut ↦ inl cut | inr (o, k) ↦ inr (o, form_is b o k) ];
   }
 
-  pub form_text : (t : Status) (left old now : Option (List ℕ)) → IfSome left (λ b. WritesAs t old now (IsOutcomeFor form b)) → IfSome left (λ b. WritesAs t old now (IsOutcome words b))
+  form_text : (t : Status) (left old now : Option (List ℕ)) → IfSome left (λ b. WritesAs t old now (IsOutcomeFor form b)) → IfSome left (λ b. WritesAs t old now (IsOutcome words b))
   form_text t None old now h = tt
   form_text t (Some b) old now h = to_words t old now b h
 
-  pub form_nothing : (left : Option (List ℕ)) → IfSome left (NothingRefused (Some form)) → IfSome left (NothingRefused (form_of (texts words)))
-  form_nothing left h = subst (λ (f : Option Form). IfSome left (NothingRefused f)) is h
+  -- what is said of the form and of the input that it reads is said of the words
+  pub all_words : (P : Option Form → List ℕ → Type 0) (left : Option (List ℕ)) → OfInput (Some form) left (P (Some form)) → OfInput (asked words) left (P (asked words))
+  all_words P left h = subst (λ (f : Option Form). OfInput f left (P f)) is h
 
-  pub form_something : (left : Option (List ℕ)) → IfSome left (SomeRefused (Some form)) → IfSome left (SomeRefused (form_of (texts words)))
-  form_something left h = subst (λ (f : Option Form). IfSome left (SomeRefused f)) is h
-
-  pub form_no : (left : Option (List ℕ)) → IfSome left (SomeRejected (Some form)) → IfSome left (SomeRejected (form_of (texts words)))
-  form_no left h = subst (λ (f : Option Form). IfSome left (SomeRejected f)) is h
+  pub form_writes : (t : Status) (left old now : Option (List ℕ)) → OfInput (Some form) left (λ b. WritesAs t old now (IsOutcomeFor form b)) → OfInput (asked words) left (λ b. WritesAs t old now (IsOutcome words b))
+  form_writes t left old now h = all_words (λ f b. WritesAs t old now (IsOutcome words b)) left (form_text t (input_for (Some form) left) old now h)
 
   -- the words' form is this one
-  pub the_form : (other : Form) → form_of (texts words) ≡ Some other → form ≡ other
+  pub the_form : (other : Form) → asked words ≡ Some other → form ≡ other
   the_form other h = same_form form other (is ∙ h)
     where
       same_form : (a b : Form) → Some a ≡ Some b → a ≡ b

@@ -7,11 +7,11 @@ use Rattle.cca_base.specs.Trace.{ExecutiveState, Changes, start}
 use Rattle.plan_checker.specs.Checked.{AsGiven, Takes, ShowsSuccessor, ShowsReply, ShowsSafety}
 use Rattle.plan_checker.specs.Reasons.{Printed, HasItsLines, HasItsWorld, LeadsBack, AnswersGoal, WritesRoute}
 use Rattle.trace_laws.specs.Events.{IsTick}
-use Rattle.titan_top.specs.CheckScript.{Traced, ReadsScript, no_events}
-use Rattle.titan_top.specs.Document.{EndsModel, Scripted}
+use Rattle.check_form.specs.CheckScript.{Traced, ReadsScript, no_events}
+use Rattle.model_form.specs.ModelTexts.{EndsModel, Scripted}
 use Rattle.titan_top.specs.Output.{Outcome}
-use Rattle.titan_top.specs.TickProofs.{tick_text}
-use Rattle.titan_top.specs.Verdicts.{checked_line}
+use Rattle.run_form.specs.TickProofs.{tick_text}
+use Rattle.check_form.specs.Verdicts.{checked_line}
 use Rattle.titan_top.specs.declared.status.Status.TheVariants.{Ended}
 
 -- the printed tick is next and has the lines that belong to it, and it shows a consistent estimate of its cost with a world of it, a reply that fits the goal and what came before, and a command that is safe, whose way back is written out and leads to a mending of the estimate

@@ -2,10 +2,10 @@
 use Rattle.std.specs.Prelude.{◌≡◌, ◌≤◌, ◌⊎◌, ℕ, IsTrue, List, [], ◌∷◌, ◌++◌, length, All, codes}
 use Rattle.line_machine.specs.Lines.{lines_in, all_lines, HasNoLf}
 use Rattle.line_machine.specs.declared.machine.TheConstants.{MAX_LINES}
-use Rattle.titan_top.specs.CheckScript.{is_trace_line}
+use Rattle.check_form.specs.CheckScript.{is_trace_line}
 use Rattle.titan_top.specs.Output.{IsOutcomeFor}
-use Rattle.titan_top.specs.declared.limits.TheConstants.{MAX_LINE}
-use Rattle.titan_top.specs.declared.notation.Notation.TheVariants.{Proof}
+use Rattle.model_form.specs.declared.limits.TheConstants.{MAX_LINE}
+use Rattle.run_form.specs.declared.notation.Notation.TheVariants.{Proof}
 use Rattle.titan_top.specs.declared.status.Status.TheVariants.{Ended}
 use Rattle.titan_top.specs.declared.words.Form.TheVariants.{Run}
 

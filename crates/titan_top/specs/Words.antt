@@ -1,5 +1,5 @@
 -- The forms of words.
-use Rattle.std.specs.Prelude.{ℕ, ◌^◌, ◌&&◌, nat_lt, List, [], ◌∷◌, Option, Some, None, codes, map, if◌then◌else◌, string_bytes, String}
+use Rattle.std.specs.Prelude.{◌≡◌, ℕ, ◌^◌, ◌&&◌, nat_lt, List, [], ◌∷◌, Option, Some, None, codes, map, if◌then◌else◌, string_bytes, String}
 use Rattle.std.specs.Global.{Global}
 use Rattle.std.specs.Fmt.{decimal}
 use Rattle.std.specs.Option.{option_map}
@@ -7,7 +7,7 @@ use Rattle.std.specs.Str.{bytes_eq}
 use Rattle.std.specs.Str.Parse.{digits_value}
 use Rattle.titan_top.specs.declared.words.Form.{Form}
 use Rattle.titan_top.specs.declared.words.Form.TheVariants.{Run, Show, Trial, Check}
-use Rattle.titan_top.specs.declared.notation.Notation.TheVariants.{Words, Json, Proof}
+use Rattle.run_form.specs.declared.notation.Notation.TheVariants.{Words, Json, Proof}
 
 -- the number of 64 bits that the word says, if it says one
 abbrev pub seed_of : List ℕ → Option ℕ
@@ -26,3 +26,11 @@ form_of (a ∷ b ∷ c ∷ cs) = None
 -- the bytes of the words
 abbrev pub texts : List (String Global) → List (List ℕ)
 texts words = map string_bytes words
+
+-- what the words ask for, if they have a form
+abbrev pub asked : List (String Global) → Option Form
+asked words = form_of (texts words)
+
+-- the words have this form
+abbrev pub IsForm : List (String Global) → Form → Type 0
+IsForm words form = asked words ≡ Some form

@@ -1,23 +1,12 @@
-//! An input has one outcome, which its machine prints and which its first bytes begin; and what is shown is read as that model.
+//! An input has one outcome, which its machine prints and which its first bytes begin; what is shown is read as that model, and what a
+//! run with proofs prints is checked.
 
-ghost use Rattle.titan_top.specs.Laws.{DocumentsAreOne, OutcomesAreOne, RunsAreTraced, TextsAreOutcomes, SureTextBegins, OutcomesFit, OwnTracesAreChecked, PrintedTextsReadBack};
+ghost use Rattle.titan_top.specs.Laws.{OutcomesAreOne, TextsAreOutcomes, SureTextBegins, OutcomesFit, OwnTracesAreChecked, PrintedTextsReadBack};
 
 /// For words and an input there is one outcome at most: one text, and one status without faults.
 #[tactic(auto, using(crate::proofs::OutcomesAreOne::outcomes_are_one))]
 pub fn outcomes_are_one()
     ensures { OutcomesAreOne }
-{}
-
-/// An input says one thing: one model, one list of events, and one end.
-#[tactic(auto, using(crate::proofs::DocumentsAreOne::documents_are_one))]
-pub fn documents_are_one()
-    ensures { DocumentsAreOne }
-{}
-
-/// What a run prints is the fixed trace of its input, and so is what it has printed so far, of the lines that came.
-#[tactic(auto, using(crate::proofs::SureRuns::runs_are_traced))]
-pub fn runs_are_traced()
-    ensures { RunsAreTraced }
 {}
 
 /// What a form's machine prints for an input is what the input's document says, and the other way round.

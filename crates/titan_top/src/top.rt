@@ -1,49 +1,28 @@
 //! The one call that the program makes.
 
-ghost use Rattle.std.specs.Prelude.{◌≡◌, ◌⊎◌, ◌≤◌, ℕ, List, IfSome, IfOk, IfErr, IsErrOf, Some, length};
+ghost use Rattle.std.specs.Prelude.{◌≡◌, ◌⊎◌, ℕ, List, IfSome, IfErr, IsErrOf, Some, length};
 ghost use Rattle.std.specs.Io.KnownBytes.{prepend_known, IsAtEnd};
 ghost use Rattle.titan_wire.specs.Wire.{Rose, HasRoom};
-ghost use Rattle.titan_top.specs.CheckedTrace.{IsCheckedTrace};
-ghost use Rattle.titan_top.specs.Headline.{IsTraceOf};
-ghost use Rattle.titan_top.specs.Output.{Outcome, IsOutcomeFor, IsOutcome, NothingRefused, SomeRefused, SomeRejected, usage, usage_text, AreNoForm};
-ghost use Rattle.titan_top.specs.OwnTraces.{HasOwnTrace};
-ghost use Rattle.titan_top.specs.Statuses.{status_of, end_status};
-ghost use Rattle.titan_top.specs.Streams.{HasRoomForWords, StreamedFor, InTurnFor, StreamsAs, input_for};
-ghost use Rattle.titan_top.specs.Wire.{Writes, WritesAs};
-ghost use Rattle.titan_top.specs.declared.notation.Notation.{Notation};
-ghost use Rattle.titan_top.specs.Words.{form_of, texts};
 ghost use Rattle.trial_maker.specs.Documents.{document};
+ghost use Rattle.run_form.specs.Headline.{IsTraceOf};
+ghost use Rattle.run_form.specs.declared.notation.Notation.{Notation};
+ghost use Rattle.titan_top.specs.CheckedTrace.{IsCheckedTrace};
+ghost use Rattle.titan_top.specs.FrontOfRun.{IsFrontOfRun};
+ghost use Rattle.titan_top.specs.Output.{Outcome, IsOutcome, OfAnswer, NothingRefused, SomeRefused, SomeRejected, IsCut, usage, usage_text, AreNoForm};
+ghost use Rattle.titan_top.specs.OwnTraces.{HasOwnTrace};
+ghost use Rattle.titan_top.specs.Streams.{HasRoomForWords, IsDrivenAs, OfInput, StreamsAs};
+ghost use Rattle.titan_top.specs.Wire.{Writes, WritesAs};
+ghost use Rattle.titan_top.specs.Words.{asked, IsForm};
 
-use crate::check::Check;
-use crate::run::Run;
-use crate::show::Show;
 use crate::status::{Status, status_of};
 use crate::trial::drive_trial;
 use crate::words::{Form, form_of};
-use line_machine::{Cut, End, Intake, Unwatched, drive};
+use check_form::{CheckMachine, open_check};
+use line_machine::{Cut, End, Intake, Unwatched, drive_opened};
+use run_form::{RunMachine, open_run};
+use show_form::{ShowMachine, open_show};
 use std::alloc::Global;
 use titan_wire::{PutEnd, Sink, Source, put_all};
-
-/// Drives the machine of `check`.
-fn drive_check<S, K: Sink, I: Intake<S, K>>(
-    alloc: Global,
-    source: &mut S,
-    sink: &mut K,
-) -> Result<End, Cut>
-    requires { HasRoomForWords (Some Form.Check) (I.left source.old) (K.space sink.old) }
-    ensures streamed { StreamedFor Form.Check (I.left source.old) (I.left source.new) (K.written sink.old) (K.written sink.new) result }
-    ensures order { InTurnFor Form.Check (I.left source.old) (I.left source.new) (K.written sink.old) (K.written sink.new) (I.calls source.old) (I.calls source.new) result }
-    ensures text { IfSome (I.left source.old) (λ input. WritesAs (status_of result) (K.written sink.old) (K.written sink.new) (IsOutcomeFor Form.Check input)) }
-    ensures ends { IfSome (I.left source.old) (λ input. (o : Outcome) → IsOutcomeFor Form.Check input o → IfOk result (λ e. o.status ≡ end_status e)) }
-    ensures read { IsErrOf result Cut.ReadFault → Rose (I.faults source.old) (I.faults source.new) }
-    ensures write { IsErrOf result Cut.WriteFault → Rose (K.faults sink.old) (K.faults sink.new) }
-    ensures complete { ¬ (Rose (I.faults source.old) (I.faults source.new)) → ¬ (Rose (K.faults sink.old) (K.faults sink.new)) → IfErr result (λ c. c ≡ Cut.Memory) }
-{
-    match Check::open(alloc) {
-        Ok(mut machine) => drive::<Check, S, K, I>(alloc, &mut machine, source, sink),
-        Err(_) => Err(Cut::Memory),
-    }
-}
 
 /// Drives the machine of a form of words. The source is asked by an intake, so that the order of reads and writes can be said.
 fn drive_form<S, K: Sink, I: Intake<S, K>>(
@@ -53,27 +32,27 @@ fn drive_form<S, K: Sink, I: Intake<S, K>>(
     sink: &mut K,
 ) -> Result<End, Cut>
     requires { HasRoomForWords (Some form) (I.left source.old) (K.space sink.old) }
-    ensures streamed { StreamedFor form (I.left source.old) (I.left source.new) (K.written sink.old) (K.written sink.new) result }
-    ensures order { InTurnFor form (I.left source.old) (I.left source.new) (K.written sink.old) (K.written sink.new) (I.calls source.old) (I.calls source.new) result }
-    ensures text { IfSome (input_for (Some form) (I.left source.old)) (λ input. WritesAs (status_of result) (K.written sink.old) (K.written sink.new) (IsOutcomeFor form input)) }
-    ensures ends { IfSome (input_for (Some form) (I.left source.old)) (λ input. (o : Outcome) → IsOutcomeFor form input o → IfOk result (λ e. o.status ≡ end_status e)) }
+    ensures driven { IsDrivenAs form (I.left source.old) (I.left source.new) (K.written sink.old) (K.written sink.new)
+        (I.calls source.old) (I.calls source.new) result }
     ensures not_asked { (seed : ℕ) → form ≡ Form.Trial seed → source.new ≡ source.old }
     ensures not_read { (seed : ℕ) → form ≡ Form.Trial seed → IsErrOf result Cut.ReadFault → ⊥ }
     ensures read { IsErrOf result Cut.ReadFault → Rose (I.faults source.old) (I.faults source.new) }
     ensures write { IsErrOf result Cut.WriteFault → Rose (K.faults sink.old) (K.faults sink.new) }
-    ensures complete { ¬ (Rose (I.faults source.old) (I.faults source.new)) → ¬ (Rose (K.faults sink.old) (K.faults sink.new)) → IfErr result (λ c. c ≡ Cut.Memory) }
+    ensures complete { ¬ (Rose (I.faults source.old) (I.faults source.new)) → ¬ (Rose (K.faults sink.old) (K.faults sink.new)) →
+        IfErr result (λ c. c ≡ Cut.Memory) }
 {
     match form {
-        Form::Run(notation) => match Run::open(alloc, notation) {
-            Ok(mut machine) => drive::<Run, S, K, I>(alloc, &mut machine, source, sink),
-            Err(_) => Err(Cut::Memory),
-        },
-        Form::Show => match Show::open(alloc) {
-            Ok(mut machine) => drive::<Show, S, K, I>(alloc, &mut machine, source, sink),
-            Err(_) => Err(Cut::Memory),
-        },
+        Form::Run(notation) => {
+            drive_opened::<RunMachine, S, K, I>(alloc, open_run(alloc, notation), source, sink)
+        }
+        Form::Show => drive_opened::<ShowMachine, S, K, I>(alloc, open_show(alloc), source, sink),
         Form::Trial(seed) => drive_trial(alloc, seed, sink),
-        Form::Check => drive_check::<S, K, I>(alloc, source, sink),
+        Form::Check => drive_opened::<CheckMachine, S, K, I>(
+            alloc,
+            open_check(alloc),
+            source,
+            sink,
+        ),
     }
 }
 
@@ -97,46 +76,58 @@ pub fn titan<S: Source, K: Sink>(
     source: &mut S,
     sink: &mut K,
 ) -> Status
-    requires { HasRoomForWords (form_of (texts words.now.items)) (S.left source.old) (K.space sink.old) }
+    requires { HasRoomForWords (asked words.now.items) (S.left source.old) (K.space sink.old) }
 
     // Over every source: some bytes, those that were taken where they are known, what the form's machine says of them, and what of it
     // was written.
-    ensures streamed { (form : Form) → form_of (texts words.now.items) ≡ Some form →
+    ensures streamed { (form : Form) → IsForm words.now.items form →
         StreamsAs form (S.left source.old) (S.left source.new) (K.written sink.old) (K.written sink.new) result }
 
     // Over a source whose bytes are known, and for a trial over every one: the whole text of the words and the input, or a front of it.
-    ensures text { IfSome (input_for (form_of (texts words.now.items)) (S.left source.old)) (λ input.
+    ensures text { OfInput (asked words.now.items) (S.left source.old) (λ input.
         WritesAs result (K.written sink.old) (K.written sink.new) (IsOutcome words.now.items input)) }
 
     // What is printed of a run: the reports are the trace of what was read, each reply is good, and then comes the ending; or
     // the model is refused.
-    ensures trace { (notation : Notation) → form_of (texts words.now.items) ≡ Some (Form.Run notation) → IfSome (input_for (form_of (texts words.now.items)) (S.left source.old)) (λ input.
-        (o : Outcome) → IsOutcome words.now.items input o → IsTraceOf notation input o) }
+    ensures trace { (notation : Notation) → IsForm words.now.items (Form.Run notation) →
+        OfInput (asked words.now.items) (S.left source.old) (λ input.
+        (o : Outcome) → IsOutcome words.now.items input o → OfAnswer (IsTraceOf notation input) o) }
 
     // The same of what is counted for a trial.
-    ensures summary { (seed : ℕ) → form_of (texts words.now.items) ≡ Some (Form.Trial seed) →
-        (o : Outcome) → IsOutcome words.now.items (document seed) o → IsTraceOf (Notation.Summary seed) (document seed) o }
+    ensures summary { (seed : ℕ) → IsForm words.now.items (Form.Trial seed) →
+        (o : Outcome) → IsOutcome words.now.items (document seed) o → OfAnswer (IsTraceOf (Notation.Summary seed) (document seed)) o }
+
+    // A run that a fault or want of memory cut short has written a front of such a trace, that of lines that came.
+    ensures front { (notation : Notation) → IsForm words.now.items (Form.Run notation) → IsCut result →
+        IfSome (S.left source.old) (λ input. IsFrontOfRun notation input (K.written sink.old) (K.written sink.new)) }
 
     // The theorem of the checker: what gets a Yes is a model, a script and the text of its ticks, each of which is a consistent successor
     // of its cost, fits its goal, and sends only what is safe.
-    ensures checked { form_of (texts words.now.items) ≡ Some Form.Check → IfSome (S.left source.old) (λ input.
+    ensures checked { IsForm words.now.items Form.Check → IfSome (S.left source.old) (λ input.
         (o : Outcome) → IsOutcome words.now.items input o → o.status ≡ Status.Ended → IsCheckedTrace input o) }
 
     // The input has no line that is refused, or its first one is named. A check has no No either, or its first one comes first.
-    ensures ended { result ≡ Status.Ended → IfSome (input_for (form_of (texts words.now.items)) (S.left source.old)) (NothingRefused (form_of (texts words.now.items))) }
-    ensures refused { result ≡ Status.Refused → IfSome (input_for (form_of (texts words.now.items)) (S.left source.old)) (SomeRefused (form_of (texts words.now.items))) }
-    ensures rejected { result ≡ Status.Rejected → IfSome (input_for (form_of (texts words.now.items)) (S.left source.old)) (SomeRejected (form_of (texts words.now.items))) }
+    ensures ended { result ≡ Status.Ended →
+        OfInput (asked words.now.items) (S.left source.old) (NothingRefused (asked words.now.items)) }
+    ensures refused { result ≡ Status.Refused →
+        OfInput (asked words.now.items) (S.left source.old) (SomeRefused (asked words.now.items)) }
+    ensures rejected { result ≡ Status.Rejected →
+        OfInput (asked words.now.items) (S.left source.old) (SomeRejected (asked words.now.items)) }
 
     // Without a fault that is how the program ends, or memory ran out.
     ensures ended_where { ¬ (Rose (S.faults source.old) (S.faults source.new)) → ¬ (Rose (K.faults sink.old) (K.faults sink.new)) →
-        IfSome (input_for (form_of (texts words.now.items)) (S.left source.old)) (λ input. NothingRefused (form_of (texts words.now.items)) input → (result ≡ Status.Ended) ⊎ (result ≡ Status.Memory)) }
+        OfInput (asked words.now.items) (S.left source.old) (λ input.
+        NothingRefused (asked words.now.items) input → (result ≡ Status.Ended) ⊎ (result ≡ Status.Memory)) }
     ensures refused_where { ¬ (Rose (S.faults source.old) (S.faults source.new)) → ¬ (Rose (K.faults sink.old) (K.faults sink.new)) →
-        IfSome (input_for (form_of (texts words.now.items)) (S.left source.old)) (λ input. SomeRefused (form_of (texts words.now.items)) input → (result ≡ Status.Refused) ⊎ (result ≡ Status.Memory)) }
+        OfInput (asked words.now.items) (S.left source.old) (λ input.
+        SomeRefused (asked words.now.items) input → (result ≡ Status.Refused) ⊎ (result ≡ Status.Memory)) }
     ensures rejected_where { ¬ (Rose (S.faults source.old) (S.faults source.new)) → ¬ (Rose (K.faults sink.old) (K.faults sink.new)) →
-        IfSome (input_for (form_of (texts words.now.items)) (S.left source.old)) (λ input. SomeRejected (form_of (texts words.now.items)) input → (result ≡ Status.Rejected) ⊎ (result ≡ Status.Memory)) }
+        OfInput (asked words.now.items) (S.left source.old) (λ input.
+        SomeRejected (asked words.now.items) input → (result ≡ Status.Rejected) ⊎ (result ≡ Status.Memory)) }
 
     // What a run with proofs prints is accepted: behind its own text, of which nothing is refused, a check of it ends with a Yes to each tick.
-    ensures own_traces { ¬ (Rose (S.faults source.old) (S.faults source.new)) → ¬ (Rose (K.faults sink.old) (K.faults sink.new)) → form_of (texts words.now.items) ≡ Some Form.Check →
+    ensures own_traces { ¬ (Rose (S.faults source.old) (S.faults source.new)) → ¬ (Rose (K.faults sink.old) (K.faults sink.new)) →
+        IsForm words.now.items Form.Check →
         IfSome (S.left source.old) (λ input. HasOwnTrace input → (result ≡ Status.Ended) ⊎ (result ≡ Status.Memory)) }
 
     // Each fault has its cause.
@@ -150,24 +141,25 @@ pub fn titan<S: Source, K: Sink>(
     ensures not_asked { AreNoForm words.now.items → source.new ≡ source.old }
 
     // A trial asks the source for nothing, so nothing fails to be read.
-    ensures trial_not_asked { (seed : ℕ) → form_of (texts words.now.items) ≡ Some (Form.Trial seed) → source.new ≡ source.old }
-    ensures trial_not_read { (seed : ℕ) → form_of (texts words.now.items) ≡ Some (Form.Trial seed) → result ≡ Status.ReadFault → ⊥ }
+    ensures trial_not_asked { (seed : ℕ) → IsForm words.now.items (Form.Trial seed) → source.new ≡ source.old }
+    ensures trial_not_read { (seed : ℕ) → IsForm words.now.items (Form.Trial seed) → result ≡ Status.ReadFault → ⊥ }
 
     // Where no fault rose, the status is the outcome's, or memory ran out.
     ensures complete { ¬ (Rose (S.faults source.old) (S.faults source.new)) → ¬ (Rose (K.faults sink.old) (K.faults sink.new)) →
-        IfSome (input_for (form_of (texts words.now.items)) (S.left source.old)) (λ input. ((o : Outcome) × IsOutcome words.now.items input o × (result ≡ o.status)) ⊎ (result ≡ Status.Memory)) }
+        OfInput (asked words.now.items) (S.left source.old) (λ input.
+        ((o : Outcome) × IsOutcome words.now.items input o × (result ≡ o.status)) ⊎ (result ≡ Status.Memory)) }
 
     // Only a check rejects anything.
-    ensures only_check { result ≡ Status.Rejected → form_of (texts words.now.items) ≡ Some Form.Check }
+    ensures only_check { result ≡ Status.Rejected → IsForm words.now.items Form.Check }
 
     // A run or a check that ended has read its input to the end; what is shown was read to the line `script`. Before the end `show` and
     // `check` write nothing.
-    ensures whole { (notation : Notation) → form_of (texts words.now.items) ≡ Some (Form.Run notation) → result ≡ Status.Ended → IsAtEnd (S.left source.new) }
-    ensures whole_check { form_of (texts words.now.items) ≡ Some Form.Check → result ≡ Status.Ended → IsAtEnd (S.left source.new) }
-    ensures to_script { form_of (texts words.now.items) ≡ Some Form.Show → result ≡ Status.Ended →
+    ensures whole { (notation : Notation) → IsForm words.now.items (Form.Run notation) → result ≡ Status.Ended → IsAtEnd (S.left source.new) }
+    ensures whole_check { IsForm words.now.items Form.Check → result ≡ Status.Ended → IsAtEnd (S.left source.new) }
+    ensures to_script { IsForm words.now.items Form.Show → result ≡ Status.Ended →
         (taken : List ℕ) × (S.left source.old ≡ prepend_known taken (S.left source.new)) × NothingRefused (Some Form.Show) taken }
-    ensures silent { form_of (texts words.now.items) ≡ Some Form.Show → result ≡ Status.ReadFault → K.written sink.new ≡ K.written sink.old }
-    ensures silent_check { form_of (texts words.now.items) ≡ Some Form.Check → result ≡ Status.ReadFault → K.written sink.new ≡ K.written sink.old }
+    ensures silent { IsForm words.now.items Form.Show → result ≡ Status.ReadFault → K.written sink.new ≡ K.written sink.old }
+    ensures silent_check { IsForm words.now.items Form.Check → result ≡ Status.ReadFault → K.written sink.new ≡ K.written sink.old }
 {
     match form_of(words) {
         Some(form) => status_of(drive_form::<S, K, Unwatched>(alloc, form, source, sink)),

@@ -3,7 +3,7 @@
 ghost use Rattle.std.specs.Prelude.{◌≡◌};
 ghost use Rattle.titan_top.specs.Words.{form_of, seed_of, texts};
 
-use crate::notation::Notation;
+use run_form::Notation;
 use text_base::read_number;
 
 /// What the words ask for.

@@ -1,0 +1,5 @@
+pub mod CheckEvents
+pub mod CheckLines
+pub mod CheckStatuses
+pub mod CheckTexts
+pub mod NotBefore

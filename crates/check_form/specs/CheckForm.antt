@@ -1,0 +1,43 @@
+-- The form `check`, and what it prints for an input.
+use Rattle.std.specs.Prelude.{◌≡◌, ℕ, false, List}
+use Rattle.line_machine.specs.Runs.{IsText}
+use Rattle.line_machine.specs.declared.machine.End.{End}
+use Rattle.line_machine.specs.declared.machine.End.TheVariants.{Ended, Rejected}
+use Rattle.line_machine.specs.declared.machine.Machine.{Ghosts}
+use Rattle.model_form.specs.Answers.{Answer, answer, refused_answer}
+use Rattle.model_form.specs.FormMachine.{form_machine}
+use Rattle.model_form.specs.FormStates.{FormState, form_first}
+use Rattle.model_form.specs.ModelTexts.{ModelText, EndsModel}
+use Rattle.model_form.specs.declared.form.ModelForm.{Ghosts as FormGhosts}
+use Rattle.check_form.specs.CheckEnds.{EndsByModel}
+use Rattle.check_form.specs.CheckMachine.{CheckState, Begins, checking_machine}
+use Rattle.check_form.specs.CheckTrace.{CheckEnd, AllYes, FirstNo, FirstRefusal}
+use Rattle.check_form.specs.Verdicts.{no_line, checked_line}
+use Rattle.check_form.specs.declared.check.Check.{Check}
+
+-- what the form says at the line `script`
+abbrev pub check_form : FormGhosts Check CheckState
+check_form = record { is_json = λ f. false; begins = λ f. Begins }
+
+-- the machine
+abbrev pub check_machine : Ghosts (FormState Check CheckState)
+check_machine = form_machine check_form checking_machine
+
+-- its first state
+abbrev pub check_first : FormState Check CheckState
+check_first = form_first (record {})
+
+-- what is printed of how a check ends
+abbrev pub judged : CheckEnd → Answer
+judged (AllYes ticks) = answer Ended (checked_line ticks)
+judged (FirstNo tick reason) = answer Rejected (no_line tick reason)
+judged (FirstRefusal m line r) = refused_answer false m line r
+
+-- what a check prints, by how the model ends
+abbrev pub IsCheck : ModelText → End → List ℕ → Type 0
+IsCheck m e text = (end : CheckEnd) × EndsByModel m end × (answer e text ≡ judged end)
+
+-- the texts of the machine are what is printed of how the input is judged, both ways
+pub record ChecksAreJudged : Type 0 where
+  pub says : (input : List ℕ) (e : End) (text : List ℕ) → IsText check_machine check_first input e text → (m : ModelText) × EndsModel input m × IsCheck m e text
+  pub comes : (input : List ℕ) (e : End) (text : List ℕ) (m : ModelText) → EndsModel input m → IsCheck m e text → IsText check_machine check_first input e text

@@ -1,0 +1,9 @@
+pub mod CheckEnds
+pub mod CheckForm
+pub mod CheckMachine
+pub mod CheckOneStep
+pub mod CheckScript
+pub mod CheckStages
+pub mod CheckTrace
+pub mod TickLines
+pub mod Verdicts

@@ -1,0 +1,188 @@
+//! The trace of an input for `check`: a checker follows the script's events, and judges each tick by the lines that are printed of it.
+
+ghost use Rattle.std.specs.Prelude.{◌≡◌, ◌+◌, ◌++◌, ◌∷◌, [], ℕ, IfOk, OnOk, Some, None};
+ghost use Rattle.std.specs.Option.{option_map};
+ghost use Rattle.cca_base.specs.Accepted.{IsCompiled};
+ghost use Rattle.cca_base.specs.State.{HasWorlds};
+ghost use Rattle.cca_base.specs.Trace.{start};
+ghost use Rattle.line_machine.specs.Next.{next_of};
+ghost use Rattle.plan_checker.specs.Standing.{FitsModel};
+ghost use Rattle.check_form.specs.CheckMachine.{TraceCloses};
+ghost use Rattle.check_form.specs.CheckStages.{KeepsTrace, MayComeBehind, MayComeInTurn, SaysOf, trace_of, waiting};
+ghost use Rattle.check_form.specs.CheckTrace.{ByLines, ComesTo, SaysLine, TraceLeads, before_tick};
+ghost use Rattle.check_form.specs.TickLines.{Whole, printed_of};
+
+use crate::tick_lines::{PrintedTick, TickLines, TickSoFar, next_lines};
+use crate::verdicts::{checked_line, no_line, rejected};
+use cca_base::{Event, Model};
+use line_machine::{End, Said};
+use model_form::nothing;
+use plan_checker::reasons::LINE;
+use plan_checker::{Checker, Verdict};
+use std::alloc::{AllocError, Global};
+use std::collections::VecDeque;
+use std::mem;
+use trace_text::{LineFault, TraceLine, read_line};
+
+/// A checker that waits for the lines of the next tick.
+#[derive(Drop)]
+pub struct TraceCheck {
+    /// It has made the events before the next tick.
+    pub checker: Checker,
+    /// The events behind that tick, if one comes.
+    pub behind: Option<VecDeque<Event>>,
+    /// What was read of its lines.
+    pub lines: TickSoFar,
+}
+
+/// Makes the events up to the next tick, and answers those behind it, if there is one.
+fn advance(
+    checker: &mut Checker,
+    model: &Model,
+    mut events: VecDeque<Event>,
+) -> Result<Option<VecDeque<Event>>, AllocError>
+    requires fits { FitsModel model.now checker.old }
+    requires come { MayComeInTurn model.now checker.old.pending checker.old.mirrored events.items }
+    ensures comes { IfOk result (λ behind. ComesTo model.now checker.old events.items (before_tick checker.new (option_map (λ q. q.items) behind))) }
+    ensures fits { FitsModel model.now checker.new }
+    ensures behind { IfOk result (λ behind. MayComeBehind model.now checker.new (option_map (λ q. q.items) behind)) }
+{
+    'events: while let Some(event) = events.pop_front() {
+        if matches!(event, Event::Tick) {
+            return Ok(Some(events));
+        }
+        checker.event(model, &event)?;
+    }
+    Ok(None)
+}
+
+/// The line of a trace, if the line is the text of one. The error is out of memory.
+fn read(alloc: Global, model: &Model, line: &[u8]) -> Result<Option<TraceLine>, AllocError>
+    ensures { IfOk result (SaysLine model.now line.now) }
+{
+    match read_line(alloc, model, line) {
+        Ok(value) => Ok(Some(value)),
+        Err(LineFault::NotALine) => Ok(None),
+        Err(LineFault::Memory) => Err(AllocError),
+    }
+}
+
+impl TraceCheck {
+    /// Before the first line of a trace of these events.
+    pub fn open(
+        alloc: Global,
+        model: &Model,
+        events: VecDeque<Event>,
+    ) -> Result<TraceCheck, AllocError>
+        requires come { MayComeInTurn model.now [] 0 events.items }
+        ensures comes { IfOk result (λ t. ComesTo model.now (start model.now 0) events.items (trace_of t)) }
+        ensures keeps { IfOk result (λ t. KeepsTrace model.now (trace_of t)) }
+    {
+        let mut checker = Checker::open(alloc, model)?;
+        let behind = advance(&mut checker, model, events)?;
+        Ok(TraceCheck {
+            checker,
+            behind,
+            lines: TickSoFar::Nothing,
+        })
+    }
+
+    /// Goes on to the next tick.
+    fn go_on(&mut self, model: &Model, events: VecDeque<Event>) -> Result<(), AllocError>
+        requires fits { FitsModel model.now self.old.checker }
+        requires moved { self.old.behind ≡ None }
+        requires come { MayComeInTurn model.now self.old.checker.pending self.old.checker.mirrored events.items }
+        ensures comes { OnOk result (ComesTo model.now self.old.checker events.items (trace_of self.new)) }
+        ensures keeps { KeepsTrace model.now (trace_of self.new) }
+    {
+        self.behind = advance(&mut self.checker, model, events)?;
+        self.lines = TickSoFar::Nothing;
+        Ok(())
+    }
+
+    /// Judges a tick, behind which these events come.
+    fn judge(
+        &mut self,
+        alloc: Global,
+        model: &Model,
+        tick: &PrintedTick,
+        events: VecDeque<Event>,
+    ) -> Result<Said, AllocError>
+        requires worlds { HasWorlds model.now }
+        requires fits { FitsModel model.now self.old.checker }
+        requires moved { self.old.behind ≡ None }
+        requires come { MayComeInTurn model.now [] self.old.checker.mirrored events.items }
+        ensures says { IfOk result (λ said. SaysOf (ByLines (Whole (printed_of tick.now)) model.now (waiting self.old events.items) events.items) (waiting self.old events.items) (trace_of self.new) said) }
+        ensures keeps { KeepsTrace model.now (trace_of self.new) }
+    {
+        let ticks = self.checker.ticks();
+        let verdict = self.checker.check_tick(
+            model,
+            &tick.report,
+            tick.world.as_ref(),
+            tick.route.as_ref(),
+        )?;
+        match verdict {
+            Verdict::Yes => {
+                self.go_on(model, events)?;
+                Ok(nothing(alloc))
+            }
+            Verdict::No(reason) => rejected(alloc, ticks, reason),
+        }
+    }
+
+    /// Takes a line of a tick behind which these events come.
+    fn tick_line(
+        &mut self,
+        alloc: Global,
+        model: &Model,
+        line: &[u8],
+        events: VecDeque<Event>,
+    ) -> Result<Said, AllocError>
+        requires worlds { HasWorlds model.now }
+        requires fits { FitsModel model.now self.old.checker }
+        requires moved { self.old.behind ≡ None }
+        requires come { MayComeInTurn model.now [] self.old.checker.mirrored events.items }
+        ensures says { IfOk result (λ said. SaysOf (TraceLeads model.now (waiting self.old events.items) line.now) (waiting self.old events.items) (trace_of self.new) said) }
+        ensures keeps { KeepsTrace model.now (trace_of self.new) }
+    {
+        let ticks = self.checker.ticks();
+        let Some(value) = read(alloc, model, line)? else {
+            return rejected(alloc, ticks, LINE);
+        };
+        let lines = mem::replace(&mut self.lines, TickSoFar::Nothing);
+        match next_lines(ticks, lines, value) {
+            TickLines::NotNext => rejected(alloc, ticks, LINE),
+            TickLines::More(lines) => {
+                self.lines = lines;
+                self.behind = Some(events);
+                Ok(nothing(alloc))
+            }
+            TickLines::Whole(tick) => self.judge(alloc, model, &tick, events),
+        }
+    }
+
+    /// Takes a line of the trace.
+    pub fn line(&mut self, alloc: Global, model: &Model, line: &[u8]) -> Result<Said, AllocError>
+        requires worlds { HasWorlds model.now }
+        requires keeps { KeepsTrace model.now (trace_of self.old) }
+        ensures says { IfOk result (λ said. SaysOf (TraceLeads model.now (trace_of self.old) line.now) (trace_of self.old) (trace_of self.new) said) }
+        ensures keeps { KeepsTrace model.now (trace_of self.new) }
+    {
+        match mem::replace(&mut self.behind, None) {
+            Some(events) => self.tick_line(alloc, model, line, events),
+            None => rejected(alloc, self.checker.ticks(), LINE),
+        }
+    }
+
+    /// Takes the end of the trace.
+    pub fn close(&self, alloc: Global) -> Result<(Vec<u8>, End), AllocError>
+        ensures { IfOk result (λ said. TraceCloses (trace_of self.now).behind (trace_of self.now) said.1 said.0.items) }
+    {
+        let ticks = self.checker.ticks();
+        match &self.behind {
+            Some(_) => Ok((no_line(alloc, ticks, LINE)?, End::Rejected)),
+            None => Ok((checked_line(alloc, ticks)?, End::Ended)),
+        }
+    }
+}

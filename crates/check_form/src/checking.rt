@@ -1,0 +1,139 @@
+//! The machine of a check behind its model: it reads a script, and then judges a printed trace of it, line by line.
+
+ghost use Rattle.std.specs.Prelude.{◌≡◌};
+ghost use Rattle.check_form.specs.CheckMachine.{InScript, model_of};
+ghost use Rattle.check_form.specs.CheckScript.{no_events};
+ghost use Rattle.formula_syntax.specs.Lookups.{NamesFit};
+
+use crate::check_script::{ScriptEnd, ScriptEvents};
+use crate::check_trace::TraceCheck;
+use crate::limits::MAX_TRACE_LINE;
+use cca_base::codes::ENDS_EARLY;
+use cca_base::{Compiled, Model, Name, Refusal, Subject};
+use indexmap::IndexMap;
+use line_machine::{End, Machine, Said};
+use model_form::{MAX_LINE, nothing, refusal_of, refuse_stop};
+use std::alloc::{AllocError, Global};
+use std::mem;
+
+/// Where a check stands behind its model.
+#[derive(Drop)]
+pub enum Part {
+    /// In its script.
+    Script(ScriptEvents),
+    /// In its trace.
+    Trace(TraceCheck),
+}
+
+/// A check behind an accepted model.
+#[derive(Drop)]
+pub struct Checking {
+    compiled: Compiled,
+    names: IndexMap<Name, Subject>,
+    part: Part,
+}
+
+impl std::marker::Model for Checking {
+    ghost use Rattle.formula_syntax.specs.Lookups.{NamesFit};
+    ghost use Rattle.check_form.specs.CheckMachine.{CheckState};
+    ghost use Rattle.check_form.specs.CheckStages.{KeepsPart, part_state};
+    ghost use Rattle.cca_base.specs.contracts.formula.Formula as formula;
+    ghost use Rattle.std.specs.Coded.{codes};
+
+    ghost Value = { CheckState };
+
+    ghost coded = { Prim.hlevel (codes, formula.the_row.coded) };
+
+    ghost view = { λ c. part_state c.compiled c.part };
+
+    ghost invariant = { λ c. NamesFit c.names c.compiled.model × KeepsPart c.compiled.model c.part };
+}
+
+impl Checking {
+    /// Before the first line of the script.
+    pub fn open(alloc: Global, compiled: Compiled, names: IndexMap<Name, Subject>) -> Checking
+        requires { NamesFit names compiled.model }
+        ensures { result ≡ InScript compiled no_events }
+    {
+        Checking {
+            compiled,
+            names,
+            part: Part::Script(ScriptEvents::new(alloc)),
+        }
+    }
+
+    /// The model.
+    fn model(&self) -> &Model
+        ensures { result.now ≡ model_of self.now }
+    {
+        self.compiled.model()
+    }
+}
+
+// By the clauses of the trait a line gives `CheckSteps`, and the end of the input `CheckCloses` (specs/CheckMachine.antt).
+impl Machine for Checking {
+    ghost use Rattle.std.specs.Prelude.{⊤, false};
+    ghost use Rattle.cca_base.specs.Refusals.{bare};
+    ghost use Rattle.trace_text.specs.Json.{refusal_text};
+    ghost use Rattle.check_form.specs.CheckMachine.{CheckCloses, CheckSteps, limit_in, model_of};
+    ghost use Rattle.check_form.specs.CheckOneStep.{check_closes_are_one, check_steps_are_one};
+
+    ghost limit_of = { limit_in };
+
+    ghost refusal = { λ s n code. refusal_text false (model_of s) n (bare code) };
+
+    ghost steps = { CheckSteps };
+
+    ghost closes = { CheckCloses };
+
+    ghost awaits = { λ s n. ⊤ };
+
+    ghost steps_are_one = { check_steps_are_one };
+
+    ghost closes_are_one = { check_closes_are_one };
+
+    fn limit(&self) -> usize {
+        match &self.part {
+            Part::Script(_) => MAX_LINE,
+            Part::Trace(_) => MAX_TRACE_LINE,
+        }
+    }
+
+    fn refuse(&self, alloc: Global, number: u64, code: u8) -> Result<Vec<u8>, AllocError> {
+        let refusal = Refusal::bare(code);
+        refusal_of(alloc, false, self.model(), number, &refusal)
+    }
+
+    fn step(&mut self, alloc: Global, number: u64, line: &[u8]) -> Result<Said, AllocError> {
+        match &mut self.part {
+            Part::Trace(trace) => trace.line(alloc, self.compiled.model(), line),
+            Part::Script(script) => {
+                match script.line(alloc, self.compiled.model(), &self.names, line) {
+                    Ok(ScriptEnd::Going) => Ok(nothing(alloc)),
+                    Ok(ScriptEnd::Trace) => {
+                        let read = mem::replace(script, ScriptEvents::new(alloc));
+                        let ScriptEvents { events, .. } = read;
+                        let trace = TraceCheck::open(alloc, self.compiled.model(), events)?;
+                        self.part = Part::Trace(trace);
+                        Ok(nothing(alloc))
+                    }
+                    Err(stop) => {
+                        let model = self.compiled.model();
+                        refuse_stop(alloc, false, model, number, &stop)
+                    }
+                }
+            }
+        }
+    }
+
+    fn close(&mut self, alloc: Global, count: u64) -> Result<(Vec<u8>, End), AllocError> {
+        match &self.part {
+            Part::Trace(trace) => trace.close(alloc),
+            Part::Script(_) => {
+                let refusal = Refusal::bare(ENDS_EARLY);
+                let text = refusal_of(alloc, false, self.model(), count, &refusal)?;
+                Ok((text, End::Refused))
+            }
+        }
+    }
+}

@@ -1,0 +1,12 @@
+pub mod Acceptance
+pub mod Answers
+pub mod FormMachine
+pub mod FormStages
+pub mod FormStates
+pub mod Limits
+pub mod ModelEnds
+pub mod ModelSteps
+pub mod ModelTexts
+pub mod NoLines
+pub mod OneStep
+pub mod Openings

@@ -1,0 +1,13 @@
+pub mod CountedTicks
+pub mod DocumentsAreOne
+pub mod JustMadeTicks
+pub mod MadeTexts
+pub mod PrintedDocuments
+pub mod RunDocuments
+pub mod RunEnds
+pub mod RunsTold
+pub mod ScriptLines
+pub mod ScriptRuns
+pub mod ShownPlans
+pub mod SureRuns
+pub mod TraceOfRun

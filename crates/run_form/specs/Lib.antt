@@ -1,0 +1,13 @@
+pub mod Document
+pub mod Headline
+pub mod JustMade
+pub mod Notations
+pub mod OneScript
+pub mod OneText
+pub mod Printed
+pub mod RunLaws
+pub mod RunMachine
+pub mod ScriptMachine
+pub mod Summaries
+pub mod TickProofs
+pub mod TickTexts

@@ -1,0 +1,2 @@
+pub mod ShownModels
+pub mod ShowEnds
