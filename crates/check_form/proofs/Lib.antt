@@ -1,3 +1,4 @@
+pub mod CheckAgrees
 pub mod CheckEvents
 pub mod CheckLines
 pub mod CheckStatuses

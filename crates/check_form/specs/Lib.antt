@@ -1,6 +1,7 @@
 pub mod CheckEnds
 pub mod CheckForm
 pub mod CheckMachine
+pub mod CheckMeaning
 pub mod CheckOneStep
 pub mod CheckScript
 pub mod CheckStages

@@ -1,6 +1,7 @@
 pub mod Acceptance
 pub mod Answers
 pub mod FormMachine
+pub mod FormMeaning
 pub mod FormStages
 pub mod FormStates
 pub mod Limits

@@ -3,6 +3,7 @@ pub mod DocumentsAreOne
 pub mod JustMadeTicks
 pub mod MadeTexts
 pub mod PrintedDocuments
+pub mod RunAgrees
 pub mod RunDocuments
 pub mod RunEnds
 pub mod RunsTold

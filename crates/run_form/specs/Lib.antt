@@ -7,6 +7,7 @@ pub mod OneText
 pub mod Printed
 pub mod RunLaws
 pub mod RunMachine
+pub mod RunMeaning
 pub mod ScriptMachine
 pub mod Summaries
 pub mod TickProofs

@@ -1,2 +1,3 @@
-pub mod ShownModels
+pub mod ShowAgrees
 pub mod ShowEnds
+pub mod ShownModels

@@ -1,2 +1,3 @@
+pub mod ShowMeaning
 pub mod Shown
 pub mod Shows

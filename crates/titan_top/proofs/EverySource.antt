@@ -27,7 +27,7 @@ use Rattle.titan_top.specs.Streams.{StreamedBy, StreamedFor}
 use Rattle.titan_top.specs.declared.status.Status.TheVariants.{Ended, Rejected, ReadFault}
 use Rattle.titan_top.specs.declared.words.Form.{Form}
 use Rattle.titan_top.specs.declared.words.Form.TheVariants.{Run, Show, Check}
-use Rattle.titan_top.proofs.Agreements.{agrees}
+use Rattle.titan_top.proofs.Agreements.{agrees, only_check_rejects}
 use Rattle.titan_top.proofs.FormStatuses.{no_cut_ended, no_cut_rejected, end_ended, end_rejected, end_not_fault}
 
 cut_read : (c : Cut) → cut_status c ≡ ReadFault → c ≡ cuts.ReadFault
@@ -54,7 +54,7 @@ module _ {S : Type 0} (m : Ghosts S) (first : S) where
 rejected_only : (form : Form) (left left' out out' : Option (List ℕ)) (e : End) → e ≡ ends.Rejected → StreamedFor form left left' out out' (Ok e) → form ≡ Check
 rejected_only form left left' out out' e is s =
     let w = subst (Whole (meaning_of form).machine (meaning_of form).first) is (streamed_whole (meaning_of form).machine (meaning_of form).first (meaning_of form).made left left' out out' e s) in
-    (agrees form).only_check w.taken w.text w.is
+    only_check_rejects form w.taken w.text w.is
 
 pub only_check : (form : Form) (left left' out out' : Option (List ℕ)) (r : Result End Cut) → StreamedFor form left left' out out' r → status_of r ≡ Rejected → form ≡ Check
 only_check form left left' out out' (Ok e) s h = rejected_only form left left' out out' e (end_rejected e h) s

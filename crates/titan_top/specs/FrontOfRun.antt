@@ -1,16 +1,20 @@
 -- What was written of a run that was cut short.
-use Rattle.std.specs.Prelude.{◌≡◌, ℕ, List, ◌++◌, Option}
+use Rattle.std.specs.Io.KnownBytes.{prepend_known}
+use Rattle.std.specs.Prelude.{◌≡◌, ℕ, List, ◌++◌, Option, Some}
 use Rattle.line_machine.specs.KnownInput.{WroteFront}
 use Rattle.model_form.specs.Answers.{Answer}
 use Rattle.run_form.specs.Headline.{IsTraceOf}
 use Rattle.run_form.specs.Printed.{IsRunOf}
 use Rattle.run_form.specs.declared.notation.Notation.{Notation}
 
--- some bytes begin the input, what a run prints of these is their fixed trace, and of its text a front was written
-pub record IsFrontOfRun (notation : Notation) (input : List ℕ) (out out' : Option (List ℕ)) : Type 0 where
+-- some bytes were taken, and some of these came first; what a run prints of those is their fixed trace, or the refusal of their model; and of
+-- its text a front was written
+pub record IsFrontOfRun (notation : Notation) (input : List ℕ) (left' out out' : Option (List ℕ)) : Type 0 where
+  pub taken : List ℕ
+  pub moved : Some input ≡ prepend_known taken left'
   pub came : List ℕ
   pub more : List ℕ
-  pub begins : came ++ more ≡ input
+  pub begins : came ++ more ≡ taken
   pub answer : Answer
   pub run : IsRunOf notation came answer
   pub trace : IsTraceOf notation came answer

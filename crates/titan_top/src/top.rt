@@ -97,9 +97,10 @@ pub fn titan<S: Source, K: Sink>(
     ensures summary { (seed : ℕ) → IsForm words.now.items (Form.Trial seed) →
         (o : Outcome) → IsOutcome words.now.items (document seed) o → OfAnswer (IsTraceOf (Notation.Summary seed) (document seed)) o }
 
-    // A run that a fault or want of memory cut short has written a front of such a trace, that of lines that came.
+    // A run that a fault or want of memory cut short has written a front of such a trace, or of such a refusal, of bytes that were taken.
     ensures front { (notation : Notation) → IsForm words.now.items (Form.Run notation) → IsCut result →
-        IfSome (S.left source.old) (λ input. IsFrontOfRun notation input (K.written sink.old) (K.written sink.new)) }
+        IfSome (S.left source.old) (λ input.
+        IsFrontOfRun notation input (S.left source.new) (K.written sink.old) (K.written sink.new)) }
 
     // The theorem of the checker: what gets a Yes is a model, a script and the text of its ticks, each of which is a consistent successor
     // of its cost, fits its goal, and sends only what is safe.

@@ -1,0 +1,32 @@
+-- What a form of words means, and that its machine does it: one record of each for every form.
+use Rattle.std.specs.Prelude.{◌≡◌, ℕ, List, Option}
+use Rattle.line_machine.specs.Runs.{IsText}
+use Rattle.line_machine.specs.declared.machine.End.{End}
+use Rattle.line_machine.specs.declared.machine.End.TheVariants as ends
+use Rattle.line_machine.specs.declared.machine.Machine.{Ghosts}
+use Rattle.line_machine.proofs.RunsAreOne.{IsFixed}
+use Rattle.model_form.specs.ModelTexts.{ModelText, EndsModel}
+
+-- a form's machine and its first state; the document that it reads in place of the source, if it makes one; how it ends and what it
+-- prints, by how the model ends; and when nothing of an input is refused, something is, or a tick has a No
+pub record FormMeaning : Type 1 where
+  pub State : Type 0
+  pub machine : Ghosts State
+  pub first : State
+  pub made : Option (List ℕ)
+  pub says : ModelText → End → List ℕ → Type 0
+  pub nothing_refused : List ℕ → Type 0
+  pub some_refused : List ℕ → Type 0
+  pub some_rejected : List ℕ → Type 0
+
+-- its texts are what it says, both ways; each line leads one way; and its end tells what was refused or rejected, both ways
+pub record FormAgrees (k : FormMeaning) : Type 0 where
+  pub says : (input : List ℕ) (e : End) (text : List ℕ) → IsText k.machine k.first input e text → (end : ModelText) × EndsModel input end × k.says end e text
+  pub comes : (input : List ℕ) (e : End) (text : List ℕ) (end : ModelText) → EndsModel input end → k.says end e text → IsText k.machine k.first input e text
+  pub fixed : IsFixed k.machine
+  pub ended : (input text : List ℕ) (end : ModelText) → EndsModel input end → k.says end ends.Ended text → k.nothing_refused input
+  pub refused : (input text : List ℕ) (end : ModelText) → EndsModel input end → k.says end ends.Refused text → k.some_refused input
+  pub rejected : (input text : List ℕ) (end : ModelText) → EndsModel input end → k.says end ends.Rejected text → k.some_rejected input
+  pub is_ended : (input text : List ℕ) (end : ModelText) → EndsModel input end → (e : End) → k.says end e text → k.nothing_refused input → e ≡ ends.Ended
+  pub is_refused : (input text : List ℕ) (end : ModelText) → EndsModel input end → (e : End) → k.says end e text → k.some_refused input → e ≡ ends.Refused
+  pub is_rejected : (input text : List ℕ) (end : ModelText) → EndsModel input end → (e : End) → k.says end e text → k.some_rejected input → e ≡ ends.Rejected
