@@ -1,6 +1,7 @@
 -- What the bytes so far decide of a run is the whole text of the lines that came: the fixed trace of these lines.
 use Rattle.std.proofs.Common.{◌≡◌, ℕ, ◌+◌, inl, inr, Bool, true, false, cond, eqb, List, [], ◌∷◌, ◌++◌, length, Option, Some, None, Result, Ok, Err, refl, sym, ap, subst, ◌∙◌, append_assoc, append-nil}
 use Rattle.std.proofs.lemmas.Bool.{eqb-true}
+use Rattle.std.specs.Io.KnownBytes.{IsAtEnd}
 use Rattle.cca_base.specs.declared.events.Event.{Event}
 use Rattle.cca_base.specs.PlantModel.{PlantModel}
 use Rattle.line_machine.specs.Driven.{Prints, BySure, ByLines, ByText}
@@ -14,13 +15,13 @@ use Rattle.line_machine.proofs.JoinedLines.{lines-append, one_line}
 use Rattle.line_machine.proofs.SureTextBegins.{decided}
 use Rattle.model_syntax.specs.Lines.{ModelSoFar, LineOutcome, Reads, Refuses, Finishes}
 use Rattle.script_reader.specs.EventLines.{event_line}
-use Rattle.model_form.specs.Answers.{answer}
+use Rattle.model_form.specs.Answers.{Answer, answer}
 use Rattle.model_form.specs.Acceptance.{Acceptance, AcceptedAs, RefusedFor}
 use Rattle.model_form.specs.FormMachine.{BeginsBy, FormAtScript}
 use Rattle.model_form.specs.FormStates.{FormState, InModel, Behind, behind_next, nothing_read}
 use Rattle.model_form.specs.ModelSteps.{StepsBy}
 use Rattle.run_form.specs.Notations.{is_json}
-use Rattle.run_form.specs.RunLaws.{IsLineByLine, IsRunSoFar, RunsAreTraced}
+use Rattle.run_form.specs.RunLaws.{IsLineByLine, IsOwnAnswer, IsRunSoFar, RunsAreTraced}
 use Rattle.run_form.specs.RunMachine.{run_form, run_machine, run_first}
 use Rattle.run_form.specs.ScriptMachine.{ScriptState, ActsBy, script_first, script_machine, after_event}
 use Rattle.run_form.specs.declared.notation.Notation.{Notation}
@@ -183,8 +184,8 @@ module _ (w : Notation) (quiet : IsLineByLine w) where
   }
 
   -- a whole text of bytes that came
-  told_so_far : (bytes came more : List ℕ) (e : End) (text : List ℕ) → came ++ more ≡ bytes → IsText run_machine (run_first w) came e text → IsRunSoFar w bytes text
-  told_so_far bytes came more e text parts is = inr (came, more, answer e text, parts, runs_are_told.says w came e text is, refl)
+  told_so_far : (bytes came more : List ℕ) (e : End) (text : List ℕ) → came ++ more ≡ bytes → IsText run_machine (run_first w) came e text → (IsOver : Type 0) → IsOwnAnswer w came bytes IsOver (answer e text) → IsRunSoFar w bytes IsOver text
+  told_so_far bytes came more e text parts is IsOver own = inr (came, more, answer e text, parts, runs_are_told.says w came e text is, refl, own)
 
   module _ (a : List ℕ) where
     -- the bytes behind the last LF change nothing where the run goes on
@@ -197,42 +198,47 @@ module _ (w : Notation) (quiet : IsLineByLine w) where
     tail_nothing (Stops e) n (b ∷ l) t text h = h
     tail_nothing (GoesOn s) n (b ∷ l) t text h = tail_by (length_code (run_machine.limit_of s) n (length (b ∷ l))) s t n text h
 
-    going_text : (x : ScriptState) (text : List ℕ) → Runs run_machine (GoesOn (run_first w)) 0 (lines_in a).whole (GoesOn (Behind x)) text → IsRunSoFar w a text
+    going_text : (x : ScriptState) (text : List ℕ) → Runs run_machine (GoesOn (run_first w)) 0 (lines_in a).whole (GoesOn (Behind x)) text → IsRunSoFar w a ⊥ text
     going_text x text runs =
         let r = cut a [] tt in
         let whole : all_lines (lines_in r.upto) ≡ (lines_in a).whole = ap all_lines r.again ∙ append-nil (lines_in a).whole in
         told_so_far a r.upto (lines_in a).tail Ended text r.joined
-        (whole_lines r.upto x text (subst (λ (ls : List (List ℕ)). Runs run_machine (GoesOn (run_first w)) 0 ls (GoesOn (Behind x)) text) (sym whole) runs))
+        (whole_lines r.upto x text (subst (λ (ls : List (List ℕ)). Runs run_machine (GoesOn (run_first w)) 0 ls (GoesOn (Behind x)) text) (sym whole) runs)) ⊥ (inl refl)
 
-    sure_by : (t : RunState) (text : List ℕ) → Runs run_machine (GoesOn (run_first w)) 0 (lines_in a).whole (GoesOn t) text → IsRunSoFar w a text
+    sure_by : (t : RunState) (text : List ℕ) → Runs run_machine (GoesOn (run_first w)) 0 (lines_in a).whole (GoesOn t) text → IsRunSoFar w a ⊥ text
     sure_by (InModel f s) text runs = inl (model_quiet (lines_in a).whole (record { notation = w }) nothing_read 0 (GoesOn (InModel f s)) text runs tt)
     sure_by (Behind x) text runs = going_text x text runs
 
-    sure_is_run : (t : Next RunState) (text : List ℕ) → IsSure run_machine (run_first w) a t text → IsRunSoFar w a text
+    sure_is_run : (t : Next RunState) (text : List ℕ) → IsSure run_machine (run_first w) a t text → IsRunSoFar w a ⊥ text
     sure_is_run (Stops e) text sure =
-        told_so_far a a [] e text (append-nil a) (subst (λ (b : List ℕ). IsText run_machine (run_first w) b e text) (append-nil a) (decided run_machine (run_first w) a [] text e sure))
+        told_so_far a a [] e text (append-nil a) (subst (λ (b : List ℕ). IsText run_machine (run_first w) b e text) (append-nil a) (decided run_machine (run_first w) a [] text e sure)) ⊥ (inr (inl sure))
     sure_is_run (GoesOn t) text sure =
         let p = tail_nothing sure.here (length (lines_in a).whole + 1) (lines_in a).tail t sure.last sure.tail in
         let same : text ≡ sure.lines = sure.parts ∙ ap (λ (z : List ℕ). sure.lines ++ z) p.1 ∙ append-nil sure.lines in
-        subst (IsRunSoFar w a) (sym same) (sure_by t sure.lines (subst (λ (u : Next RunState). Runs run_machine (GoesOn (run_first w)) 0 (lines_in a).whole u sure.lines) (sym p.0) sure.runs))
+        subst (IsRunSoFar w a ⊥) (sym same) (sure_by t sure.lines (subst (λ (u : Next RunState). Runs run_machine (GoesOn (run_first w)) 0 (lines_in a).whole u sure.lines) (sym p.0) sure.runs))
 
   -- ---- all that may be printed
 
   -- with more bytes behind
-  longer : (some more bytes text : List ℕ) → some ++ more ≡ bytes → IsRunSoFar w some text → IsRunSoFar w bytes text
-  longer some more bytes text parts (inl nothing) = inl nothing
-  longer some more bytes text parts (inr (came, rest, a, begins, is, said)) =
-      inr (came, rest ++ more, a, sym (append_assoc came rest more) ∙ ap (λ (z : List ℕ). z ++ more) begins ∙ parts, is, said)
+  own_longer : (came some bytes : List ℕ) (a : Answer) (IsOver : Type 0) → IsOwnAnswer w came some ⊥ a → IsOwnAnswer w came bytes IsOver a
+  own_longer came some bytes a IsOver (inl ended) = inl ended
+  own_longer came some bytes a IsOver (inr (inl sure)) = inr (inl sure)
+  own_longer came some bytes a IsOver (inr (inr h)) = absurd h.1
 
-  lines_so_far : (taken : List ℕ) (t : Next RunState) (text : List ℕ) → Runs run_machine (GoesOn (run_first w)) 0 (all_lines (lines_in taken)) t text → IsRunSoFar w taken text
-  lines_so_far taken (Stops e) text runs = told_so_far taken taken [] e text (append-nil taken) (record { here = Stops e; lines = text; runs = runs; last = []; closes = (refl, refl); parts = sym (append-nil text) })
-  lines_so_far taken (GoesOn (Behind x)) text runs = told_so_far taken taken [] Ended text (append-nil taken) (whole_lines taken x text runs)
-  lines_so_far taken (GoesOn (InModel f s)) text runs = inl (model_quiet (all_lines (lines_in taken)) (record { notation = w }) nothing_read 0 (GoesOn (InModel f s)) text runs tt)
+  longer : (some more bytes text : List ℕ) (IsOver : Type 0) → some ++ more ≡ bytes → IsRunSoFar w some ⊥ text → IsRunSoFar w bytes IsOver text
+  longer some more bytes text IsOver parts (inl nothing) = inl nothing
+  longer some more bytes text IsOver parts (inr (came, rest, a, begins, is, said, own)) =
+      inr (came, rest ++ more, a, sym (append_assoc came rest more) ∙ ap (λ (z : List ℕ). z ++ more) begins ∙ parts, is, said, own_longer came some bytes a IsOver own)
 
-  printed_is_run : (taken : List ℕ) (left : Option (List ℕ)) (text : List ℕ) → Prints run_machine (run_first w) taken left text → IsRunSoFar w taken text
-  printed_is_run taken left text (BySure some more t parts sure) = longer some more taken text parts (sure_is_run some t text sure)
-  printed_is_run taken left text (ByLines t ended runs) = lines_so_far taken t text runs
-  printed_is_run taken left text (ByText e ended is) = told_so_far taken taken [] e text (append-nil taken) is
+  lines_so_far : (taken : List ℕ) (IsOver : Type 0) → IsOver → (t : Next RunState) (text : List ℕ) → Runs run_machine (GoesOn (run_first w)) 0 (all_lines (lines_in taken)) t text → IsRunSoFar w taken IsOver text
+  lines_so_far taken IsOver over (Stops e) text runs = told_so_far taken taken [] e text (append-nil taken) (record { here = Stops e; lines = text; runs = runs; last = []; closes = (refl, refl); parts = sym (append-nil text) }) IsOver (inr (inr (refl, over)))
+  lines_so_far taken IsOver over (GoesOn (Behind x)) text runs = told_so_far taken taken [] Ended text (append-nil taken) (whole_lines taken x text runs) IsOver (inl refl)
+  lines_so_far taken IsOver over (GoesOn (InModel f s)) text runs = inl (model_quiet (all_lines (lines_in taken)) (record { notation = w }) nothing_read 0 (GoesOn (InModel f s)) text runs tt)
+
+  printed_is_run : (taken : List ℕ) (left : Option (List ℕ)) (text : List ℕ) → Prints run_machine (run_first w) taken left text → IsRunSoFar w taken (IsAtEnd left) text
+  printed_is_run taken left text (BySure some more t parts sure) = longer some more taken text (IsAtEnd left) parts (sure_is_run some t text sure)
+  printed_is_run taken left text (ByLines t ended runs) = lines_so_far taken (IsAtEnd left) ended t text runs
+  printed_is_run taken left text (ByText e ended is) = told_so_far taken taken [] e text (append-nil taken) is (IsAtEnd left) (inr (inr (refl, ended)))
 
 pub runs_are_traced : RunsAreTraced
 runs_are_traced = record {

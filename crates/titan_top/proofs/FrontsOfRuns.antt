@@ -1,24 +1,18 @@
--- A run that was cut short over a known input wrote a front of what a run prints of some bytes that were taken.
+-- A run that was cut short over a known input wrote nothing, or a front of what a run prints of some bytes that were taken.
 use Rattle.std.proofs.Common.{◌≡◌, ℕ, inl, inr, Bool, true, false, cond, List, [], ◌∷◌, ◌++◌, Option, Some, None, Result, Ok, Err, refl, sym, subst, ◌∙◌, append-nil}
 use Rattle.std.specs.Global.{Global}
-use Rattle.std.specs.Io.KnownBytes.{append_known, prepend_known}
+use Rattle.std.specs.Io.KnownBytes.{append_known, prepend_known, IsAtEnd}
 use Rattle.std.specs.Option.{option_map}
 use Rattle.std.specs.Prelude.{codes, IfSome, String}
 use Rattle.std.specs.Str.{bytes_eq}
-use Rattle.cca_base.specs.declared.codes.TheConstants.{ENDS_EARLY}
-use Rattle.cca_base.specs.Model.{empty_model}
-use Rattle.cca_base.specs.Refusals.{bare}
 use Rattle.line_machine.specs.Driven.{OutputBy}
 use Rattle.line_machine.specs.Next.{GoesOn}
 use Rattle.line_machine.specs.declared.machine.End.{End}
 use Rattle.line_machine.specs.declared.machine.End.TheVariants as ends
 use Rattle.line_machine.specs.declared.send.Cut.{Cut}
 use Rattle.line_machine.specs.declared.send.Cut.TheVariants as cuts
-use Rattle.model_form.specs.Answers.{Answer, refused_answer}
-use Rattle.model_form.specs.ModelTexts.{Stopped}
-use Rattle.run_form.specs.Notations.{is_json}
-use Rattle.run_form.specs.Printed.{IsRunOf}
-use Rattle.run_form.specs.RunLaws.{IsLineByLine, IsRunSoFar}
+use Rattle.model_form.specs.Answers.{Answer}
+use Rattle.run_form.specs.RunLaws.{IsLineByLine, IsOwnAnswer, IsRunSoFar}
 use Rattle.run_form.specs.RunMachine.{run_machine, run_first}
 use Rattle.run_form.specs.declared.notation.Notation.{Notation}
 use Rattle.run_form.specs.declared.notation.Notation.TheVariants as notations
@@ -67,33 +61,19 @@ prints_each_tick (a ∷ b ∷ c ∷ cs) = tt
 -- ---- what was written
 
 module _ (w : Notation) (quiet : IsLineByLine w) (input : List ℕ) (left' : Option (List ℕ)) where
-  -- what is printed of no bytes: that they end early
-  abbrev empty_answer : Answer
-  empty_answer = refused_answer (is_json w) (empty_model 1) 0 (bare ENDS_EARLY)
-
-  empty_run : IsRunOf w [] empty_answer
-  empty_run = (Stopped (empty_model 1) 0 (bare ENDS_EARLY), refl, (refl, refl))
-
   nothing_before : (front rest : List ℕ) → front ++ rest ≡ [] → front ≡ []
   nothing_before [] rest e = refl
   nothing_before (b ∷ front) rest e = absurd cc
 
+  own_at_end : (came taken : List ℕ) (a : Answer) (IsOver : Type 0) → (IsOver → IsAtEnd left') → IsOwnAnswer w came taken IsOver a → IsOwnAnswer w came taken (IsAtEnd left') a
+  own_at_end came taken a IsOver at (inl ended) = inl ended
+  own_at_end came taken a IsOver at (inr (inl sure)) = inr (inl sure)
+  own_at_end came taken a IsOver at (inr (inr (all, over))) = inr (inr (all, at over))
+
   -- a front of a text that may be printed of bytes that were taken
-  front_of : (taken front rest whole : List ℕ) (out out' : Option (List ℕ)) → Some input ≡ prepend_known taken left' → IsRunSoFar w taken whole → front ++ rest ≡ whole → out' ≡ append_known out front → IsFrontOfRun w input left' out out'
-  front_of taken front rest whole out out' moved (inl nothing) parts written =
-      let none : front ≡ [] = nothing_before front rest (parts ∙ nothing) in
-      record {
-        taken = taken;
-        moved = moved;
-        came = [];
-        more = taken;
-        begins = refl;
-        answer = empty_answer;
-        run = empty_run;
-        trace = runs_are_traced.whole w [] empty_answer empty_run;
-        front = record { front = []; begins = (empty_answer.text, refl); written = subst (λ (f : List ℕ). out' ≡ append_known out f) none written };
-      }
-  front_of taken front rest whole out out' moved (inr (came, later, a, begins, is, said)) parts written = record {
+  front_of : (taken front rest whole : List ℕ) (out out' : Option (List ℕ)) (IsOver : Type 0) → (IsOver → IsAtEnd left') → Some input ≡ prepend_known taken left' → IsRunSoFar w taken IsOver whole → front ++ rest ≡ whole → out' ≡ append_known out front → IsFrontOfRun w input left' out out'
+  front_of taken front rest whole out out' IsOver at moved (inl nothing) parts written = inl (subst (λ (f : List ℕ). out' ≡ append_known out f) (nothing_before front rest (parts ∙ nothing)) written)
+  front_of taken front rest whole out out' IsOver at moved (inr (came, later, a, begins, is, said, own)) parts written = inr (record {
     taken = taken;
     moved = moved;
     came = came;
@@ -102,17 +82,18 @@ module _ (w : Notation) (quiet : IsLineByLine w) (input : List ℕ) (left' : Opt
     answer = a;
     run = is;
     trace = runs_are_traced.whole w came a is;
+    own = own_at_end came taken a IsOver at own;
     front = record { front = front; begins = (rest, parts ∙ sym said); written = written };
-  }
+  })
 
   -- by what cut it short
   cut_front : (c : Cut) (taken : List ℕ) (out out' : Option (List ℕ)) → Some input ≡ prepend_known taken left' → OutputBy run_machine (run_first w) taken left' out out' (Err c) → IsFrontOfRun w input left' out out'
   cut_front cuts.ReadFault taken out out' moved says =
-      front_of taken says.text [] says.text out out' moved (runs_are_traced.so_far w taken says.text (GoesOn says.state) quiet says.sure) (append-nil says.text) says.written
+      front_of taken says.text [] says.text out out' ⊥ (λ never. absurd never) moved (runs_are_traced.so_far w taken says.text (GoesOn says.state) quiet says.sure) (append-nil says.text) says.written
   cut_front cuts.WriteFault taken out out' moved says =
-      front_of taken says.text says.rest (says.text ++ says.rest) out out' moved (runs_are_traced.printed w taken left' (says.text ++ says.rest) quiet says.is) refl says.written
+      front_of taken says.text says.rest (says.text ++ says.rest) out out' (IsAtEnd left') (λ over. over) moved (runs_are_traced.printed w taken left' (says.text ++ says.rest) quiet says.is) refl says.written
   cut_front cuts.Memory taken out out' moved says =
-      front_of taken says.text says.rest (says.text ++ says.rest) out out' moved (runs_are_traced.printed w taken left' (says.text ++ says.rest) quiet says.is) refl says.written
+      front_of taken says.text says.rest (says.text ++ says.rest) out out' (IsAtEnd left') (λ over. over) moved (runs_are_traced.printed w taken left' (says.text ++ says.rest) quiet says.is) refl says.written
 
 never_cut : (e : End) → IsCut (end_status e) → ⊥
 never_cut ends.Ended h = h

@@ -15,4 +15,5 @@ pub mod SeedWords
 pub mod TraceIsChecked
 pub mod TracesOfWords
 pub mod TrialRuns
+pub mod WordExamples
 pub mod WordsOfForms

@@ -7,4 +7,5 @@ pub mod OwnTraces
 pub mod Statuses
 pub mod Streams
 pub mod Wire
+pub mod WordExamples
 pub mod Words

@@ -1,7 +1,8 @@
 //! An input has one outcome, which its machine prints and which its first bytes begin; what is shown is read as that model, and what a
-//! run with proofs prints is checked.
+//! run with proofs prints is checked. Each form but a trial has its words.
 
 ghost use Rattle.titan_top.specs.Laws.{OutcomesAreOne, TextsAreOutcomes, SureTextBegins, OutcomesFit, OwnTracesAreChecked, PrintedTextsReadBack};
+ghost use Rattle.titan_top.specs.WordExamples.{WordsAreForms};
 
 /// For words and an input there is one outcome at most: one text, and one status without faults.
 #[tactic(auto, using(crate::proofs::OutcomesAreOne::outcomes_are_one))]
@@ -37,4 +38,10 @@ pub fn printed_texts_read_back()
 #[tactic(auto, using(crate::proofs::OwnTraces::own_traces_are_checked))]
 pub fn own_traces_are_checked()
     ensures { OwnTracesAreChecked }
+{}
+
+/// Each form but a trial has its words.
+#[tactic(auto, using(crate::proofs::WordExamples::words_are_forms))]
+pub fn words_are_forms()
+    ensures { WordsAreForms }
 {}

@@ -10,7 +10,7 @@ mod words;
 
 pub use laws::{
     outcomes_are_one, outcomes_fit, own_traces_are_checked, printed_texts_read_back,
-    sure_text_begins, texts_are_outcomes,
+    sure_text_begins, texts_are_outcomes, words_are_forms,
 };
 pub use status::Status;
 pub use top::titan;

@@ -97,7 +97,12 @@ pub fn titan<S: Source, K: Sink>(
     ensures summary { (seed : ℕ) → IsForm words.now.items (Form.Trial seed) →
         (o : Outcome) → IsOutcome words.now.items (document seed) o → OfAnswer (IsTraceOf (Notation.Summary seed) (document seed)) o }
 
-    // A run that a fault or want of memory cut short has written a front of such a trace, or of such a refusal, of bytes that were taken.
+    // A trial reads the document of its seed, whatever the source has.
+    ensures trial_text { (seed : ℕ) → IsForm words.now.items (Form.Trial seed) →
+        WritesAs result (K.written sink.old) (K.written sink.new) (IsOutcome words.now.items (document seed)) }
+
+    // A run that a fault or want of memory cut short has written nothing, or a front of such a trace, or of such a refusal, of bytes that
+    // were taken.
     ensures front { (notation : Notation) → IsForm words.now.items (Form.Run notation) → IsCut result →
         IfSome (S.left source.old) (λ input.
         IsFrontOfRun notation input (S.left source.new) (K.written sink.old) (K.written sink.new)) }

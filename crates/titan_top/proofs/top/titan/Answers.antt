@@ -47,6 +47,10 @@ returns-in-Some-clause-trace g c notation = run_is_traced notation c.args.words.
 pub returns-in-Some-clause-summary : goal.returns-in-Some-clause-summary
 returns-in-Some-clause-summary g c = trial_is_traced c.args.words.now.items
 
+pub returns-in-Some-clause-trial_text : goal.returns-in-Some-clause-trial_text
+returns-in-Some-clause-trial_text g c seed is =
+    subst (λ f. OfInput f (g.S.Source.left c.args.source.now) (λ b. WritesAs c.status_of.result (g.K.Sink.written c.args.sink.now) (g.K.Sink.written c.drive_form.new.sink) (IsOutcome c.args.words.now.items b))) is (returns-in-Some-clause-text g c)
+
 pub returns-in-Some-clause-front : goal.returns-in-Some-clause-front
 returns-in-Some-clause-front g c notation run cut =
     run_front c.args.words.now.items notation c.in-Some.form (g.S.Source.left c.args.source.now) (g.S.Source.left c.drive_form.new.source) (g.K.Sink.written c.args.sink.now) (g.K.Sink.written c.drive_form.new.sink) c.drive_form.result run (the_form c.args.words.now.items c.in-Some.form (rw c.deref.ensures.value at c.in-Some.ensures) (Run notation) run) (form_streams c.in-Some.form (g.S.Source.left c.args.source.now) (g.S.Source.left c.drive_form.new.source) (g.K.Sink.written c.args.sink.now) (g.K.Sink.written c.drive_form.new.sink) _ _ c.drive_form.result c.drive_form.ensures.driven) (subst IsCut c.status_of.ensures cut)

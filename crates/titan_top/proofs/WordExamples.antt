@@ -1,0 +1,15 @@
+-- The words of each form.
+use Rattle.std.proofs.Common.{refl}
+use Rattle.titan_top.specs.WordExamples.{WordsAreForms}
+
+pub words_are_forms : WordsAreForms
+words_are_forms = record {
+  run = refl;
+  json = refl;
+  proof = refl;
+  show = refl;
+  check = refl;
+  no_word = refl;
+  another = refl;
+  one_more = refl;
+}

@@ -1,0 +1,16 @@
+-- What words ask for: the words of each form but a trial, and words that are none.
+use Rattle.std.specs.Prelude.{◌≡◌, [], ◌∷◌, None, Some, codes}
+use Rattle.run_form.specs.declared.notation.Notation.TheVariants.{Words, Json, Proof}
+use Rattle.titan_top.specs.Words.{form_of}
+use Rattle.titan_top.specs.declared.words.Form.TheVariants.{Run, Show, Check}
+
+-- each form but a trial has its words; no word, another one, or one more is none
+pub record WordsAreForms : Type 0 where
+  pub run : form_of (codes "run" ∷ []) ≡ Some (Run Words)
+  pub json : form_of (codes "run" ∷ codes "--json" ∷ []) ≡ Some (Run Json)
+  pub proof : form_of (codes "run" ∷ codes "--proof" ∷ []) ≡ Some (Run Proof)
+  pub show : form_of (codes "show" ∷ []) ≡ Some Show
+  pub check : form_of (codes "check" ∷ []) ≡ Some Check
+  pub no_word : form_of [] ≡ None
+  pub another : form_of (codes "shown" ∷ []) ≡ None
+  pub one_more : form_of (codes "show" ∷ codes "--json" ∷ []) ≡ None
