@@ -73,6 +73,14 @@ impl Compiled {
         &self.model
     }
 
+    /// The model alone.
+    pub fn into_model(self) -> Model
+        ensures value { result ≡ self.model }
+        ensures compiled { IsCompiled self }
+    {
+        self.model
+    }
+
     /// The prime implicants of each move, in cube order.
     pub fn ways(&self) -> &List<List<Cube>>
         ensures value { result.now ≡ self.now.ways }

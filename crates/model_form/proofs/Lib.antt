@@ -3,5 +3,7 @@ pub mod Behind
 pub mod Following
 pub mod FormEnds
 pub mod OneModelText
+pub mod PrintedLimits
+pub mod PrintedLines
 pub mod SameAnswer
 pub mod TextsAreAnswers

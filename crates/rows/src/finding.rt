@@ -17,6 +17,8 @@ pub enum Finding {
     Ended(Status),
     /// A tick's line didn't go out right behind that tick.
     OutOfTurn,
+    /// The text in version 2 isn't migrated to itself.
+    NotMigrated,
     /// The text differs from this byte on, counted from 0.
     Differs(usize),
 }
@@ -29,6 +31,10 @@ impl fmt::Display for Finding {
             Finding::NoFile => write!(f, "has a file that can't be read"),
             Finding::Ended(status) => write!(f, "ends with status {}", status.number()),
             Finding::OutOfTurn => write!(f, "prints a tick out of turn"),
+            Finding::NotMigrated => write!(
+                f,
+                "has a text in version 2 that is migrated to another"
+            ),
             Finding::Differs(at) => write!(f, "differs at byte {at}"),
         }
     }

@@ -6,6 +6,7 @@ mod endless;
 mod finding;
 mod in_turn;
 mod lines;
+mod migrated;
 mod numbered;
 mod pieces;
 mod prefixes;

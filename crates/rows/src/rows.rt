@@ -1,6 +1,7 @@
 //! The rows of `rows.txt`: an input, and how the program must end and what it must write.
 use crate::finding::{Finding, compared};
 use crate::in_turn::in_turn;
+use crate::migrated::migrated;
 use crate::prefixes::prefixes;
 use crate::run::{Ends, run, run_endless};
 use crate::table::cell;
@@ -36,6 +37,11 @@ struct Row {
 }
 
 impl Row {
+    /// Whether the row ends over its whole input, and neither end fails.
+    fn is_steady(&self) -> bool {
+        self.status == Status::Ended && self.ends.take == 0 && self.ends.put == 0
+    }
+
     /// Takes a field whose value is a number, if there is one of this name.
     fn set_number(&mut self, name: &str, value: u32) -> bool {
         match name {
@@ -140,7 +146,12 @@ fn words_finding(
         Kind::Endless => run_endless(alloc, words, row.byte)?,
         Kind::InTurn => return in_turn(alloc, words, input, row.status),
     };
-    Ok(compared(ended, &text, row.status, wanted))
+    match compared(ended, &text, row.status, wanted) {
+        Finding::Right if row.is_steady() => {
+            Ok(migrated(alloc, words, input, row.ends, wanted)?)
+        }
+        finding => Ok(finding),
+    }
 }
 
 /// How the row comes out for each list of words between commas.

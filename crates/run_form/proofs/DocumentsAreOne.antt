@@ -22,7 +22,7 @@ line_one (Ok (Some e)) m pending mirrored n Later a b on (p, x, known, later, is
     let same : q ≡ p = one_pending pending e p q known known' in
     is ∙ ap (with_event e) (on p (mirrored_after mirrored e) x y later (subst (λ (z : List Pair). Later z (mirrored_after mirrored e) y) same later')) ∙ sym is'
 
-script_one : (ls : List (List ℕ)) (m : PlantModel) (pending : List Pair) (mirrored n : ℕ) (a b : Document) → SaysScript m pending mirrored n ls a → SaysScript m pending mirrored n ls b → a ≡ b
+pub script_one : (ls : List (List ℕ)) (m : PlantModel) (pending : List Pair) (mirrored n : ℕ) (a b : Document) → SaysScript m pending mirrored n ls a → SaysScript m pending mirrored n ls b → a ≡ b
 script_one [] m pending mirrored n a b h k = h ∙ sym k
 script_one (l ∷ ls) m pending mirrored n a b h k =
     line_one (line_says m pending mirrored (n + 1) l) m pending mirrored (n + 1) (λ after mirrors rest. SaysScript m after mirrors (n + 1) ls rest) a b (λ after mirrors x y. script_one ls m after mirrors (n + 1) x y) h k

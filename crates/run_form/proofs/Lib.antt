@@ -1,4 +1,5 @@
 pub mod CountedTicks
+pub mod DocumentEnds
 pub mod DocumentsAreOne
 pub mod JustMadeTicks
 pub mod MadeTexts

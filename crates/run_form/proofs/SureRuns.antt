@@ -11,7 +11,7 @@ use Rattle.line_machine.specs.Runs.{length_code, TransitionByCode, Runs, TailByC
 use Rattle.line_machine.specs.declared.machine.End.{End}
 use Rattle.line_machine.specs.declared.machine.End.TheVariants.{Ended, Refused}
 use Rattle.line_machine.proofs.EndsSo.{not_end}
-use Rattle.line_machine.proofs.JoinedLines.{lines-append, one_line}
+use Rattle.line_machine.proofs.JoinedLines.{line_before, clean_on}
 use Rattle.line_machine.proofs.SureTextBegins.{decided}
 use Rattle.model_syntax.specs.Lines.{ModelSoFar, LineOutcome, Reads, Refuses, Finishes}
 use Rattle.script_reader.specs.EventLines.{event_line}
@@ -46,13 +46,6 @@ record UpToLastLf (front bytes : List ℕ) : Type 0 where
   joined : upto ++ (lines_behind front bytes).tail ≡ front ++ bytes
   again : lines_in upto ≡ record { whole = (lines_behind front bytes).whole; tail = [] }
 
-one_more : (front upto : List ℕ) → HasNoLf front → lines_in ((front ++ 10 ∷ []) ++ upto) ≡ with_line front (lines_in upto)
-one_more front upto clean = lines-append [] (front ++ 10 ∷ []) upto ∙ rw (one_line front clean) refl
-
-longer_clean : (front : List ℕ) (b : ℕ) → HasNoLf front → eqb b 10 ≡ false → HasNoLf (front ++ b ∷ [])
-longer_clean [] b h e = (e, tt)
-longer_clean (x ∷ front) b h e = (h.0, longer_clean front b h.1 e)
-
 cut_by : (t : Bool) (front : List ℕ) (b : ℕ) (bytes : List ℕ) → eqb b 10 ≡ t → HasNoLf front → UpToLastLf [] bytes → (eqb b 10 ≡ false → UpToLastLf (front ++ b ∷ []) bytes) → UpToLastLf front (b ∷ bytes)
 cut_by true front b bytes e clean here on =
     let ends : lines_behind front (b ∷ bytes) ≡ with_line front (lines_in bytes) = ap (λ (t : Bool). cond t (with_line front (lines_in bytes)) (lines_behind (front ++ b ∷ []) bytes)) e in
@@ -61,7 +54,7 @@ cut_by true front b bytes e clean here on =
       upto = (front ++ 10 ∷ []) ++ here.upto;
       joined = ap (λ (x : Lines). ((front ++ 10 ∷ []) ++ here.upto) ++ x.tail) ends ∙ append_assoc (front ++ 10 ∷ []) here.upto (lines_in bytes).tail ∙ ap (λ (x : List ℕ). (front ++ 10 ∷ []) ++ x) here.joined
           ∙ append_assoc front (10 ∷ []) bytes ∙ ap (λ (x : ℕ). front ++ x ∷ bytes) (sym lf);
-      again = one_more front here.upto clean ∙ ap (with_line front) here.again ∙ ap (λ (x : Lines). record { whole = x.whole; tail = [] }) (sym ends);
+      again = line_before front here.upto clean ∙ ap (with_line front) here.again ∙ ap (λ (x : Lines). record { whole = x.whole; tail = [] }) (sym ends);
     }
 cut_by false front b bytes e clean here on =
     let ends : lines_behind front (b ∷ bytes) ≡ lines_behind (front ++ b ∷ []) bytes = ap (λ (t : Bool). cond t (with_line front (lines_in bytes)) (lines_behind (front ++ b ∷ []) bytes)) e in
@@ -74,7 +67,7 @@ cut_by false front b bytes e clean here on =
 
 cut : (bytes front : List ℕ) → HasNoLf front → UpToLastLf front bytes
 cut [] front clean = record { upto = []; joined = sym (append-nil front); again = refl }
-cut (b ∷ bytes) front clean = cut_by (eqb b 10) front b bytes refl clean (cut bytes [] tt) (λ e. cut bytes (front ++ b ∷ []) (longer_clean front b clean e))
+cut (b ∷ bytes) front clean = cut_by (eqb b 10) front b bytes refl clean (cut bytes [] tt) (λ e. cut bytes (front ++ b ∷ []) (clean_on front b clean e))
 
 -- ---- a run that is still in its model has printed nothing
 

@@ -12,15 +12,19 @@ use Rattle.run_form.specs.declared.notation.Notation.TheVariants.{Summary}
 use Rattle.run_form.proofs.RunAgrees.{run_agrees}
 use Rattle.run_form.proofs.RunEnds.{run_never_rejected}
 use Rattle.check_form.proofs.CheckAgrees.{check_agrees}
+use Rattle.migrate_form.specs.MigrateMachine.{migrate_first}
+use Rattle.migrate_form.proofs.MigrateAgrees.{migrate_agrees}
+use Rattle.migrate_form.proofs.MigrateEnds.{migrate_never_rejected}
 use Rattle.titan_top.specs.Meanings.{meaning_of}
 use Rattle.titan_top.specs.declared.words.Form.{Form}
-use Rattle.titan_top.specs.declared.words.Form.TheVariants.{Run, Show, Trial, Check}
+use Rattle.titan_top.specs.declared.words.Form.TheVariants.{Run, Show, Trial, Check, Migrate}
 
 pub agrees : (form : Form) → FormAgrees (meaning_of form)
 agrees (Run notation) = run_agrees notation _
 agrees Show = show_agrees
 agrees (Trial seed) = run_agrees _ _
 agrees Check = check_agrees
+agrees Migrate = migrate_agrees
 
 -- a text that is printed, or surely comes, says No
 abbrev SaysNo : Form → List ℕ → List ℕ → Type 0
@@ -31,3 +35,4 @@ only_check_rejects (Run notation) bytes text h = absurd (run_never_rejected (run
 only_check_rejects Show bytes text h = absurd (show_never_rejected show_first bytes text h)
 only_check_rejects (Trial seed) bytes text h = absurd (run_never_rejected (run_first (Summary seed)) bytes text h)
 only_check_rejects Check bytes text h = refl
+only_check_rejects Migrate bytes text h = absurd (migrate_never_rejected migrate_first bytes text h)

@@ -1,4 +1,4 @@
--- What holds over every source: only a check is rejected, a run and a check are read to their end and what is shown to its script, and
+-- What holds over every source: only a check is rejected, a run, a check and a migration are read to their end and what is shown to its script, and
 -- show and check are silent before.
 use Rattle.std.proofs.Common.{◌≡◌, ℕ, ◌⊎◌, inl, inr, List, [], append-nil, Option, Some, None, Result, Ok, Err, refl, subst, ◌∙◌}
 use Rattle.std.specs.Io.KnownBytes.{prepend_known, IsAtEnd}
@@ -20,13 +20,15 @@ use Rattle.run_form.specs.declared.notation.Notation.{Notation}
 use Rattle.run_form.proofs.RunEnds.{run_sure_refused}
 use Rattle.check_form.specs.CheckForm.{check_machine, check_first}
 use Rattle.check_form.proofs.NotBefore.{check_sure_not, check_is_quiet}
+use Rattle.migrate_form.specs.MigrateMachine.{migrate_machine, migrate_first}
+use Rattle.migrate_form.proofs.MigrateEnds.{migrate_sure_refused}
 use Rattle.titan_top.specs.Meanings.{meaning_of}
 use Rattle.titan_top.specs.Output.{NothingRefused}
 use Rattle.titan_top.specs.Statuses.{cut_status, status_of}
 use Rattle.titan_top.specs.Streams.{StreamedBy, StreamedFor}
 use Rattle.titan_top.specs.declared.status.Status.TheVariants.{Ended, Rejected, ReadFault}
 use Rattle.titan_top.specs.declared.words.Form.{Form}
-use Rattle.titan_top.specs.declared.words.Form.TheVariants.{Run, Show, Check}
+use Rattle.titan_top.specs.declared.words.Form.TheVariants.{Run, Show, Check, Migrate}
 use Rattle.titan_top.proofs.Agreements.{agrees, only_check_rejects}
 use Rattle.titan_top.proofs.FormStatuses.{no_cut_ended, no_cut_rejected, end_ended, end_rejected, end_not_fault}
 
@@ -60,7 +62,7 @@ pub only_check : (form : Form) (left left' out out' : Option (List ℕ)) (r : Re
 only_check form left left' out out' (Ok e) s h = rejected_only form left left' out out' e (end_rejected e h) s
 only_check form left left' out out' (Err c) s h = absurd (no_cut_rejected c h)
 
--- ---- a run and a check that ended are at the end of their input
+-- ---- a run, a check and a migration that ended are at the end of their input
 
 module _ {S : Type 0} (m : Ghosts S) (first : S) (never : (taken text : List ℕ) → IsSure m first taken (Stops ends.Ended) text → ⊥) where
   at_end_by : (left left' out out' : Option (List ℕ)) (e : End) → e ≡ ends.Ended → Streamed m first left left' out out' (Ok e) → IsAtEnd left'
@@ -81,6 +83,12 @@ run_at_end w form left left' out out' r is s h = ended_at_end run_machine (run_f
 pub check_at_end : (form : Form) (left left' out out' : Option (List ℕ)) (r : Result End Cut) → form ≡ Check → StreamedFor form left left' out out' r → status_of r ≡ Ended → IsAtEnd left'
 check_at_end form left left' out out' r is s h =
     ended_at_end check_machine check_first (λ taken text k. check_sure_not check_first taken ends.Ended text k refl) left left' out out' r (subst (λ (f : Form). StreamedFor f left left' out out' r) is s) h
+
+migration_never : (taken text : List ℕ) → IsSure migrate_machine migrate_first taken (Stops ends.Ended) text → ⊥
+migration_never taken text h = let k : ends.Ended ≡ ends.Refused = migrate_sure_refused migrate_first taken ends.Ended text h in absurd cc
+
+pub migration_at_end : (form : Form) (left left' out out' : Option (List ℕ)) (r : Result End Cut) → form ≡ Migrate → StreamedFor form left left' out out' r → status_of r ≡ Ended → IsAtEnd left'
+migration_at_end form left left' out out' r is s h = ended_at_end migrate_machine migrate_first migration_never left left' out out' r (subst (λ (f : Form). StreamedFor f left left' out out' r) is s) h
 
 -- ---- what was shown was read to its script
 

@@ -6,6 +6,7 @@ pub mod FormAnswers
 pub mod FormStatuses
 pub mod FrontsOfRuns
 pub mod MachineLaws
+pub mod Migrations
 pub mod OutcomesAreOne
 pub mod OwnTraces
 pub mod PrintedTexts

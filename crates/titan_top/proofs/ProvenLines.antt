@@ -1,8 +1,7 @@
 -- The lines that are printed of a proven tick are read as its own, and the tick that they say gets a Yes.
-use Rattle.std.proofs.Common.{◌≡◌, ◌≢◌, ◌≤◌, ◌<◌, ◌+◌, ℕ, true, false, eqb, List, [], ◌∷◌, ◌++◌, length, Option, Some, None, All, Contains, inl, inr, refl, sym, ap, subst, ◌∙◌, append_assoc, append-nil, arith}
+use Rattle.std.proofs.Common.{◌≡◌, ◌≤◌, ◌<◌, ◌+◌, ℕ, true, false, eqb, List, [], ◌∷◌, ◌++◌, length, Option, Some, None, All, Contains, inl, inr, refl, sym, ap, subst, ◌∙◌, append_assoc, append-nil, arith}
 use Rattle.std.specs.Prelude.{codes, IfSome}
 use Rattle.std.proofs.lemmas.Bool.{eq-eqb}
-use Rattle.std.proofs.lemmas.Bool.Decides.{eqb_tells}
 use Rattle.std.proofs.lemmas.List.{append_cancel_right}
 use Rattle.std.proofs.lemmas.List.Elements.{All-head, All-tail, All-contains, Contains-append_right}
 use Rattle.cca_base.specs.declared.cube.Pair.{Pair}
@@ -23,9 +22,10 @@ use Rattle.cca_base.specs.Model.{HasMode}
 use Rattle.cca_base.specs.Plans.{Promising, Whole, ShowsPlan, ShowsBack, IsRoute}
 use Rattle.cca_base.specs.Trace.{ExecutiveState, IsReply, TickShows}
 use Rattle.cca_base.proofs.Members.{contains_here}
-use Rattle.line_machine.specs.Lines.{Lines, lines_behind, lines_in, all_lines, HasNoLf}
+use Rattle.line_machine.specs.Lines.{lines_in, all_lines, HasNoLf}
 use Rattle.line_machine.specs.declared.machine.TheConstants.{MAX_LINES}
-use Rattle.line_machine.proofs.JoinedLines.{lines-append, one_line, with_lines}
+use Rattle.line_machine.proofs.JoinedLines.{line_before}
+use Rattle.model_form.proofs.PrintedLines.{clean}
 use Rattle.line_machine.proofs.LengthCodes.{short_code}
 use Rattle.plan_checker.specs.Reasons.{Printed, WritesRoute, IsWritten}
 use Rattle.plan_checker.specs.declared.verdict.Verdict.TheVariants.{Yes}
@@ -48,15 +48,9 @@ use Rattle.run_form.proofs.ShownPlans.{whole_runs}
 
 -- ---- the lines of a text
 
-has_no_lf : (l : List ℕ) → All (λ b. b ≢ 10) l → HasNoLf l
-has_no_lf [] h = tt
-has_no_lf (b ∷ l) h = (elim (eqb_tells b 10) [ inl e ↦ absurd (All-head (λ c. c ≢ 10) b l h e.1) | inr e ↦ e.0 ], has_no_lf l (All-tail (λ c. c ≢ 10) b l h))
-
 -- a line before a text is its first line
 pub first_line : (l rest : List ℕ) → HasNoLf l → all_lines (lines_in ((l ++ 10 ∷ []) ++ rest)) ≡ l ∷ all_lines (lines_in rest)
-first_line l rest clean =
-    let joins = lines-append [] (l ++ 10 ∷ []) rest in
-    ap all_lines (joins ∙ ap (λ (x : Lines). with_lines x.whole (lines_behind x.tail rest)) (one_line l clean))
+first_line l rest h = ap all_lines (line_before l rest h)
 
 -- behind n lines the lines of the text are not too many, and none shows a plan or a way back as too long
 pub record KeepsLimits (n : ℕ) (text : List ℕ) : Type 0 where
@@ -72,7 +66,7 @@ record FirstOf (n : ℕ) (l rest : List ℕ) : Type 0 where
 first_of : (n : ℕ) (text rest : List ℕ) (short : IsShortLine text) → KeepsLimits n (text ++ rest) → FirstOf n short.line rest
 first_of n text rest short keeps =
     let lines : all_lines (lines_in (text ++ rest)) ≡ short.line ∷ all_lines (lines_in rest) =
-    ap (λ (t : List ℕ). all_lines (lines_in (t ++ rest))) short.is ∙ first_line short.line rest (has_no_lf short.line short.clean) in
+    ap (λ (t : List ℕ). all_lines (lines_in (t ++ rest))) short.is ∙ first_line short.line rest (clean short.line short.clean) in
     let few : n + length (short.line ∷ all_lines (lines_in rest)) ≤ MAX_LINES = subst (λ (ls : List (List ℕ)). n + length ls ≤ MAX_LINES) lines keeps.few in
     let written = subst (All (λ (l : List ℕ). ShowsLong l → ⊥)) lines keeps.written in
     record {
@@ -91,7 +85,7 @@ module _ (b : CompiledModel) (compiled : IsCompiled b) where
   line_judged x events lines value t n rest end short fits within by on =
       let here : TraceSoFar = record { state = x; behind = Some events; lines = lines } in
       let text : all_lines (lines_in (trace_line b.model value ++ rest)) ≡ short.line ∷ all_lines (lines_in rest) =
-      ap (λ (z : List ℕ). all_lines (lines_in (z ++ rest))) short.is ∙ first_line short.line rest (has_no_lf short.line short.clean) in
+      ap (λ (z : List ℕ). all_lines (lines_in (z ++ rest))) short.is ∙ first_line short.line rest (clean short.line short.clean) in
       let code : trace_line_code (n + 1) short.line ≡ None = short_code 400000 n (length short.line) within short.short in
       subst (λ (ls : List (List ℕ)). JudgesLines b.model here n ls end) (sym text)
       (subst (λ (c : Option ℕ). JudgesByCode c b.model here (n + 1) short.line (λ u. JudgesLines b.model u (n + 1) (all_lines (lines_in rest)) end) end) (sym code)

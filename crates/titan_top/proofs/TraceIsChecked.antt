@@ -29,7 +29,8 @@ use Rattle.model_form.specs.Acceptance.{Acceptance, AcceptedAs, RefusedFor, IsAc
 use Rattle.check_form.specs.CheckEnds.{EndsByScript, EndsByAcceptance, EndsByModel}
 use Rattle.check_form.specs.CheckScript.{ScriptText, Traced, Stopped, ReadsScript, no_events}
 use Rattle.check_form.specs.CheckTrace.{TraceSoFar, Follows, Fails, ComesTo, SeesPairs, ByVerdict, ByLines, LeadsBehind, AllYes, FirstNo, FirstRefusal, JudgesByCode, JudgesLines, end_behind, trace_line_code, with_said}
-use Rattle.titan_top.specs.CheckedTrace.{IsCheckedTick, AreChecked, IsCheckedTrace, joined}
+use Rattle.line_machine.specs.Lines.{joined_lines}
+use Rattle.titan_top.specs.CheckedTrace.{IsCheckedTick, AreChecked, IsCheckedTrace}
 use Rattle.run_form.specs.TickProofs.{tick_text}
 use Rattle.model_form.specs.Answers.{Answer}
 use Rattle.model_form.specs.ModelTexts.{ModelText, EndsModel, Scripted}
@@ -96,9 +97,9 @@ module _ (m : PlantModel) where
   next_text ticks (Planned r w p) (Back back) = back_text r w p back
 
   -- a line before others
-  text_first : (front line : List ℕ) (rest : List (List ℕ)) (text whole : List ℕ) → text ≡ line ++ 10 ∷ [] → front ++ text ≡ whole → front ++ joined (line ∷ rest) ≡ whole ++ joined rest
+  text_first : (front line : List ℕ) (rest : List (List ℕ)) (text whole : List ℕ) → text ≡ line ++ 10 ∷ [] → front ++ text ≡ whole → front ++ joined_lines (line ∷ rest) ≡ whole ++ joined_lines rest
   text_first front line rest text whole is e =
-      sym (append_assoc front (line ++ 10 ∷ []) (joined rest)) ∙ ap (λ (z : List ℕ). (front ++ z) ++ joined rest) (sym is) ∙ ap (λ (z : List ℕ). z ++ joined rest) e
+      sym (append_assoc front (line ++ 10 ∷ []) (joined_lines rest)) ∙ ap (λ (z : List ℕ). (front ++ z) ++ joined_lines rest) (sym is) ∙ ap (λ (z : List ℕ). z ++ joined_lines rest) e
 
 -- ---- the ticks
 
@@ -163,7 +164,7 @@ module _ (m : PlantModel) (good : WellFormed m) where
   -- the lines are the text of ticks that are checked, so many of them
   record Checks (x : TraceSoFar) (ls : List (List ℕ)) (count : ℕ) : Type 0 where
     ticks : List Printed
-    text : text_so_far m x.lines ++ joined ls ≡ flat_map (tick_text m) ticks
+    text : text_so_far m x.lines ++ joined_lines ls ≡ flat_map (tick_text m) ticks
     checked : AwaitsTicks x.state x.behind ticks
     number : count ≡ x.state.ticks + length ticks
 
@@ -213,7 +214,7 @@ module _ (m : PlantModel) (good : WellFormed m) where
     yes_checks p text of e v sees y takes comes =
         let unread : t.lines ≡ Nothing = comes_unread m events y t comes in
         let r = on (λ none. unread) in
-        let later : joined ls ≡ flat_map (tick_text m) r.ticks = ap (λ (z : TickSoFar). text_so_far m z ++ joined ls) (sym unread) ∙ r.text in
+        let later : joined_lines ls ≡ flat_map (tick_text m) r.ticks = ap (λ (z : TickSoFar). text_so_far m z ++ joined_lines ls) (sym unread) ∙ r.text in
         let before : t.state.ticks ≡ x.state.ticks + 1 = comes_counted m events y t comes ∙ takes_counted m x.state p.report.shown y takes in
         record {
           ticks = p ∷ r.ticks;
@@ -273,7 +274,7 @@ script_checked input b k n ls count (Traced events line rest) compiled is ends r
       rest = rest;
       document = subst (λ (m : PlantModel). ReadsScript m no_events n ls (Traced events line rest)) (sym is) reads;
       ticks = r.ticks;
-      text = ap (λ (z : TickSoFar). text_so_far b.model z ++ joined rest) (sym unread) ∙ r.text;
+      text = ap (λ (z : TickSoFar). text_so_far b.model z ++ joined_lines rest) (sym unread) ∙ r.text;
       checked = comes_checked b.model compiled.accepted.well_formed events (start b.model 0) x r.ticks comes r.checked;
       outcome = ap (λ (z : ℕ). outcome_of (judged (AllYes z))) number;
     }

@@ -9,6 +9,7 @@ words_are_forms = record {
   proof = refl;
   show = refl;
   check = refl;
+  migrate = refl;
   no_word = refl;
   another = refl;
   one_more = refl;

@@ -1,5 +1,5 @@
 -- What a checked trace is, by the model's rules and guards alone: the theorem of the checker.
-use Rattle.std.specs.Prelude.{◌≡◌, ◌⊎◌, ℕ, List, [], ◌∷◌, ◌++◌, length, flat_map}
+use Rattle.std.specs.Prelude.{◌≡◌, ◌⊎◌, ℕ, List, [], ◌∷◌, length, flat_map}
 use Rattle.cca_base.specs.declared.events.Event.{Event}
 use Rattle.cca_base.specs.Accepted.{CompiledModel, IsCompiled}
 use Rattle.cca_base.specs.PlantModel.{PlantModel}
@@ -8,6 +8,7 @@ use Rattle.plan_checker.specs.Checked.{AsGiven, Takes, ShowsSuccessor, ShowsRepl
 use Rattle.plan_checker.specs.Reasons.{Printed, HasItsLines, HasItsWorld, LeadsBack, AnswersGoal, WritesRoute}
 use Rattle.trace_laws.specs.Events.{IsTick}
 use Rattle.check_form.specs.CheckScript.{Traced, ReadsScript, no_events}
+use Rattle.line_machine.specs.Lines.{joined_lines}
 use Rattle.model_form.specs.ModelTexts.{EndsModel, Scripted}
 use Rattle.titan_top.specs.Output.{Outcome}
 use Rattle.run_form.specs.TickProofs.{tick_text}
@@ -35,10 +36,6 @@ AreChecked m x (e ∷ events) ticks =
 
 -- ---- the text
 
--- lines, each with its LF
-abbrev pub joined : List (List ℕ) → List ℕ
-joined lines = flat_map (λ l. l ++ 10 ∷ []) lines
-
 -- the input's model is compiled, its script ends with the line `trace`, the lines behind that are the text of ticks that are checked, one after the other for the script's events, and their number is printed
 pub record IsCheckedTrace (input : List ℕ) (o : Outcome) : Type 0 where
   pub compiled : CompiledModel
@@ -51,6 +48,6 @@ pub record IsCheckedTrace (input : List ℕ) (o : Outcome) : Type 0 where
   pub rest : List (List ℕ)
   pub document : ReadsScript compiled.model no_events script lines (Traced events trace rest)
   pub ticks : List Printed
-  pub text : joined rest ≡ flat_map (tick_text compiled.model) ticks
+  pub text : joined_lines rest ≡ flat_map (tick_text compiled.model) ticks
   pub checked : AreChecked compiled.model (start compiled.model 0) events ticks
   pub outcome : o ≡ record { text = checked_line (length ticks); status = Ended }

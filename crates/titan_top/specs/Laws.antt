@@ -1,5 +1,5 @@
 -- What the definitions of the program's text say together.
-use Rattle.std.specs.Prelude.{◌≡◌, ◌≤◌, ℕ, true, List, [], ◌++◌, length, Option, Some, String}
+use Rattle.std.specs.Prelude.{◌≡◌, ◌↔◌, ◌≤◌, ℕ, true, List, [], ◌++◌, length, Option, Some, String}
 use Rattle.std.specs.Global.{Global}
 use Rattle.cca_base.specs.PlantModel.{PlantModel}
 use Rattle.cca_base.specs.Model.{WellFormed, IsComplete}
@@ -12,13 +12,15 @@ use Rattle.model_syntax.specs.RoundTrip.{ReadsTo}
 use Rattle.model_form.specs.Answers.{answer}
 use Rattle.model_form.specs.FormStates.{nothing_read}
 use Rattle.check_form.specs.CheckEnds.{IsAllYes}
+use Rattle.run_form.specs.declared.notation.Notation.{Notation}
 use Rattle.titan_top.specs.Meanings.{meaning_of}
 use Rattle.titan_top.specs.Output.{Outcome, outcome_of, IsOutcomeFor, IsOutcome}
 use Rattle.titan_top.specs.OwnTraces.{HasOwnTrace}
 use Rattle.titan_top.specs.Statuses.{end_status}
 use Rattle.titan_top.specs.Streams.{FitsIn, input_for}
+use Rattle.titan_top.specs.declared.status.Status.TheVariants.{Ended}
 use Rattle.titan_top.specs.declared.words.Form.{Form}
-use Rattle.titan_top.specs.declared.words.Form.TheVariants.{Show, Check}
+use Rattle.titan_top.specs.declared.words.Form.TheVariants.{Run, Show, Check, Migrate}
 
 -- for words and an input there is one outcome at most
 abbrev pub OutcomesAreOne : Type 0
@@ -38,6 +40,11 @@ pub record SureTextBegins : Type 0 where
 -- what a run with proofs prints of a document is checked: each tick of it gets a yes, and no line is left
 abbrev pub OwnTracesAreChecked : Type 0
 OwnTracesAreChecked = (input : List ℕ) → HasOwnTrace input → IsAllYes input
+
+-- where nothing of an input is refused, a run prints for it what it prints for its migration, and that is migrated to itself
+pub record MigrationsRunAlike : Type 0 where
+  pub runs : (notation : Notation) (input : List ℕ) (o p : Outcome) → IsOutcomeFor Migrate input o → o.status ≡ Ended → IsOutcomeFor (Run notation) input p ↔ IsOutcomeFor (Run notation) o.text p
+  pub again : (input : List ℕ) (o : Outcome) → IsOutcomeFor Migrate input o → o.status ≡ Ended → IsOutcomeFor Migrate o.text o
 
 -- where the input that is read has an outcome, its length is room enough
 abbrev pub OutcomesFit : Type 0

@@ -6,8 +6,9 @@ use Rattle.show_form.specs.ShowMeaning.{show_meaning}
 use Rattle.run_form.specs.RunMeaning.{run_meaning}
 use Rattle.run_form.specs.declared.notation.Notation.TheVariants.{Summary}
 use Rattle.check_form.specs.CheckMeaning.{check_meaning}
+use Rattle.migrate_form.specs.MigrateMeaning.{migrate_meaning}
 use Rattle.titan_top.specs.declared.words.Form.{Form}
-use Rattle.titan_top.specs.declared.words.Form.TheVariants.{Run, Show, Trial, Check}
+use Rattle.titan_top.specs.declared.words.Form.TheVariants.{Run, Show, Trial, Check, Migrate}
 
 -- a trial is a run of the document of its number
 abbrev pub meaning_of : Form → FormMeaning
@@ -15,3 +16,4 @@ meaning_of (Run notation) = run_meaning notation None
 meaning_of Show = show_meaning
 meaning_of (Trial seed) = run_meaning (Summary seed) (Some (document seed))
 meaning_of Check = check_meaning
+meaning_of Migrate = migrate_meaning

@@ -6,7 +6,7 @@ use Rattle.std.specs.Option.{option_map}
 use Rattle.std.specs.Str.{bytes_eq}
 use Rattle.std.specs.Str.Parse.{digits_value}
 use Rattle.titan_top.specs.declared.words.Form.{Form}
-use Rattle.titan_top.specs.declared.words.Form.TheVariants.{Run, Show, Trial, Check}
+use Rattle.titan_top.specs.declared.words.Form.TheVariants.{Run, Show, Trial, Check, Migrate}
 use Rattle.run_form.specs.declared.notation.Notation.TheVariants.{Words, Json, Proof}
 
 -- the number of 64 bits that the word says, if it says one
@@ -16,7 +16,12 @@ seed_of word = if bytes_eq (decimal (digits_value 10 word)) word && nat_lt (digi
 -- the form of the words, if they have one
 abbrev pub form_of : List (List ℕ) → Option Form
 form_of [] = None
-form_of (a ∷ []) = if bytes_eq a (codes "run") then Some (Run Words) else (if bytes_eq a (codes "show") then Some Show else (if bytes_eq a (codes "check") then Some Check else None))
+form_of (a ∷ []) =
+    if bytes_eq a (codes "run") then Some (Run Words)
+    else (if bytes_eq a (codes "show") then Some Show
+    else (if bytes_eq a (codes "check") then Some Check
+    else (if bytes_eq a (codes "migrate") then Some Migrate
+    else None)))
 form_of (a ∷ b ∷ []) =
     if bytes_eq a (codes "run")
     then (if bytes_eq b (codes "--json") then Some (Run Json) else (if bytes_eq b (codes "--proof") then Some (Run Proof) else None))

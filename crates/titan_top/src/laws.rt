@@ -1,7 +1,7 @@
 //! An input has one outcome, which its machine prints and which its first bytes begin; what is shown is read as that model, and what a
-//! run with proofs prints is checked. Each form but a trial has its words.
+//! run with proofs prints is checked, and what a migration prints runs as its input does. Each form but a trial has its words.
 
-ghost use Rattle.titan_top.specs.Laws.{OutcomesAreOne, TextsAreOutcomes, SureTextBegins, OutcomesFit, OwnTracesAreChecked, PrintedTextsReadBack};
+ghost use Rattle.titan_top.specs.Laws.{OutcomesAreOne, TextsAreOutcomes, SureTextBegins, OutcomesFit, OwnTracesAreChecked, MigrationsRunAlike, PrintedTextsReadBack};
 ghost use Rattle.titan_top.specs.WordExamples.{WordsAreForms};
 
 /// For words and an input there is one outcome at most: one text, and one status without faults.
@@ -38,6 +38,12 @@ pub fn printed_texts_read_back()
 #[tactic(auto, using(crate::proofs::OwnTraces::own_traces_are_checked))]
 pub fn own_traces_are_checked()
     ensures { OwnTracesAreChecked }
+{}
+
+/// What a migration prints is run as its input is, and is migrated to itself.
+#[tactic(auto, using(crate::proofs::Migrations::migrations_run_alike))]
+pub fn migrations_run_alike()
+    ensures { MigrationsRunAlike }
 {}
 
 /// Each form but a trial has its words.

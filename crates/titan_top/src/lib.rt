@@ -9,8 +9,8 @@ mod trial;
 mod words;
 
 pub use laws::{
-    outcomes_are_one, outcomes_fit, own_traces_are_checked, printed_texts_read_back,
-    sure_text_begins, texts_are_outcomes, words_are_forms,
+    migrations_run_alike, outcomes_are_one, outcomes_fit, own_traces_are_checked,
+    printed_texts_read_back, sure_text_begins, texts_are_outcomes, words_are_forms,
 };
 pub use status::Status;
 pub use top::titan;

@@ -4,6 +4,7 @@ ghost use Rattle.std.specs.Prelude.{◌≡◌, ◌⊎◌, ℕ, List, IfSome, IfE
 ghost use Rattle.std.specs.Io.KnownBytes.{prepend_known, IsAtEnd};
 ghost use Rattle.titan_wire.specs.Wire.{Rose, HasRoom};
 ghost use Rattle.trial_maker.specs.Documents.{document};
+ghost use Rattle.migrate_form.specs.MigrateLaws.{IsMigrated};
 ghost use Rattle.run_form.specs.Headline.{IsTraceOf};
 ghost use Rattle.run_form.specs.declared.notation.Notation.{Notation};
 ghost use Rattle.titan_top.specs.CheckedTrace.{IsCheckedTrace};
@@ -19,6 +20,7 @@ use crate::trial::drive_trial;
 use crate::words::{Form, form_of};
 use check_form::{CheckMachine, open_check};
 use line_machine::{Cut, End, Intake, Unwatched, drive_opened};
+use migrate_form::{MigrateMachine, open_migrate};
 use run_form::{RunMachine, open_run};
 use show_form::{ShowMachine, open_show};
 use std::alloc::Global;
@@ -50,6 +52,12 @@ fn drive_form<S, K: Sink, I: Intake<S, K>>(
         Form::Check => drive_opened::<CheckMachine, S, K, I>(
             alloc,
             open_check(alloc),
+            source,
+            sink,
+        ),
+        Form::Migrate => drive_opened::<MigrateMachine, S, K, I>(
+            alloc,
+            open_migrate(alloc),
             source,
             sink,
         ),
@@ -112,6 +120,11 @@ pub fn titan<S: Source, K: Sink>(
     ensures checked { IsForm words.now.items Form.Check → IfSome (S.left source.old) (λ input.
         (o : Outcome) → IsOutcome words.now.items input o → o.status ≡ Status.Ended → IsCheckedTrace input o) }
 
+    // What is printed of a migration that ends is the input's document in version 2: it has the input's events, a run prints for it what it
+    // prints for the input, and it is migrated to itself.
+    ensures migrated { IsForm words.now.items Form.Migrate → IfSome (S.left source.old) (λ input.
+        (o : Outcome) → IsOutcome words.now.items input o → o.status ≡ Status.Ended → IsMigrated input o.text) }
+
     // The input has no line that is refused, or its first one is named. A check has no No either, or its first one comes first.
     ensures ended { result ≡ Status.Ended →
         OfInput (asked words.now.items) (S.left source.old) (NothingRefused (asked words.now.items)) }
@@ -158,10 +171,11 @@ pub fn titan<S: Source, K: Sink>(
     // Only a check rejects anything.
     ensures only_check { result ≡ Status.Rejected → IsForm words.now.items Form.Check }
 
-    // A run or a check that ended has read its input to the end; what is shown was read to the line `script`. Before the end `show` and
+    // A run, a check or a migration that ended has read its input to the end; what is shown was read to the line `script`. Before the end `show` and
     // `check` write nothing.
     ensures whole { (notation : Notation) → IsForm words.now.items (Form.Run notation) → result ≡ Status.Ended → IsAtEnd (S.left source.new) }
     ensures whole_check { IsForm words.now.items Form.Check → result ≡ Status.Ended → IsAtEnd (S.left source.new) }
+    ensures whole_migration { IsForm words.now.items Form.Migrate → result ≡ Status.Ended → IsAtEnd (S.left source.new) }
     ensures to_script { IsForm words.now.items Form.Show → result ≡ Status.Ended →
         (taken : List ℕ) × (S.left source.old ≡ prepend_known taken (S.left source.new)) × NothingRefused (Some Form.Show) taken }
     ensures silent { IsForm words.now.items Form.Show → result ≡ Status.ReadFault → K.written sink.new ≡ K.written sink.old }

@@ -17,6 +17,8 @@ pub enum Form {
     Trial(u64),
     /// Reads a document and its printed trace, and prints the verdict on it.
     Check,
+    /// Reads a document and prints it as one of version 2.
+    Migrate,
 }
 
 /// The number of 64 bits that the word says, if it says one.
@@ -45,6 +47,8 @@ pub fn form_of(words: &[String]) -> Option<Form>
                 Some(Form::Show)
             } else if a.as_str() == "check" {
                 Some(Form::Check)
+            } else if a.as_str() == "migrate" {
+                Some(Form::Migrate)
             } else {
                 None
             }

@@ -169,7 +169,7 @@ module _ (b : CompiledModel) (v : ℕ) where
   one_value_at : (m : PlantModel) (u : ℕ) (plant : List ℕ) (p : Pair) → HasOneValue m plant p → HasOneValue (at_version u m) plant p
   one_value_at m u plant p h w world = h w (world_at (at_version u m) m.version plant w world)
 
-  observed_at : (x : ExecutiveState) (seen : List Pair) → Observed b.model x seen → Observed c.model x seen
+  pub observed_at : (x : ExecutiveState) (seen : List Pair) → Observed b.model x seen → Observed c.model x seen
   observed_at x seen h = record {
     rising = h.rising;
     each = λ p. (
@@ -211,7 +211,7 @@ module _ (b : CompiledModel) (v : ℕ) where
   }
   shows_at x Holding y h = h
 
-  ticks_at : (x : ExecutiveState) (since events : List Event) (ticks : List TickRecord) → Ticks b (Promising b) x since events ticks → Ticks c (Promising c) x since events ticks
+  pub ticks_at : (x : ExecutiveState) (since events : List Event) (ticks : List TickRecord) → Ticks b (Promising b) x since events ticks → Ticks c (Promising c) x since events ticks
   ticks_at x since [] ticks h = h
   ticks_at x since (event.Tick ∷ events) [] h = h
   ticks_at x since (event.Tick ∷ events) (t ∷ ticks) h =

@@ -3,8 +3,9 @@ use Rattle.std.specs.Prelude.{Some}
 use Rattle.show_form.specs.Shown.{show_machine, show_first}
 use Rattle.run_form.specs.RunMachine.{run_machine, run_first}
 use Rattle.check_form.specs.CheckForm.{check_machine, check_first}
+use Rattle.migrate_form.specs.MigrateMachine.{migrate_machine, migrate_first}
 use Rattle.titan_top.specs.Streams.{HasRoomForWords, IsDrivenAs}
-use Rattle.titan_top.specs.declared.words.Form.TheVariants.{Run, Show, Check}
+use Rattle.titan_top.specs.declared.words.Form.TheVariants.{Run, Show, Check, Migrate}
 use Rattle.titan_top.proofs.FormAnswers.{room_for, opened_room}
 use Rattle.titan_top.proofs.TrialRuns.{trial_leaves}
 use Rattle.titan_top.proofs.top.drive_form.Goals as goal
@@ -30,6 +31,12 @@ drive_opened-requires-in-Check-clause-room g c =
     let space = g.K.Sink.space c.args.sink.now in
     opened_room check_machine check_first left space c.open_check.result c.open_check.ensures (room_for Check left space (subst (λ f. HasRoomForWords (Some f) left space) c.in-Check.is c.requires))
 
+pub drive_opened-requires-in-Migrate-clause-room : goal.drive_opened-requires-in-Migrate-clause-room
+drive_opened-requires-in-Migrate-clause-room g c =
+    let left = g.I.Intake.left c.args.source.now in
+    let space = g.K.Sink.space c.args.sink.now in
+    opened_room migrate_machine migrate_first left space c.open_migrate.result c.open_migrate.ensures (room_for Migrate left space (subst (λ f. HasRoomForWords (Some f) left space) c.in-Migrate.is c.requires))
+
 pub returns-in-Run-clause-driven : goal.returns-in-Run-clause-driven
 returns-in-Run-clause-driven g c =
     subst (λ f. IsDrivenAs f (g.I.Intake.left c.args.source.now) (g.I.Intake.left c.drive_opened.new.source) (g.K.Sink.written c.args.sink.now) (g.K.Sink.written c.drive_opened.new.sink) (g.I.Intake.calls c.args.source.now) (g.I.Intake.calls c.drive_opened.new.source) c.drive_opened.result) (sym c.in-Run.is)
@@ -49,3 +56,8 @@ pub returns-in-Check-clause-driven : goal.returns-in-Check-clause-driven
 returns-in-Check-clause-driven g c =
     subst (λ f. IsDrivenAs f (g.I.Intake.left c.args.source.now) (g.I.Intake.left c.drive_opened-in-Check.new.source) (g.K.Sink.written c.args.sink.now) (g.K.Sink.written c.drive_opened-in-Check.new.sink) (g.I.Intake.calls c.args.source.now) (g.I.Intake.calls c.drive_opened-in-Check.new.source) c.drive_opened-in-Check.result) (sym c.in-Check.is)
     (c.drive_opened-in-Check.ensures.driven check_first c.open_check.ensures)
+
+pub returns-in-Migrate-clause-driven : goal.returns-in-Migrate-clause-driven
+returns-in-Migrate-clause-driven g c =
+    subst (λ f. IsDrivenAs f (g.I.Intake.left c.args.source.now) (g.I.Intake.left c.drive_opened-in-Migrate.new.source) (g.K.Sink.written c.args.sink.now) (g.K.Sink.written c.drive_opened-in-Migrate.new.sink) (g.I.Intake.calls c.args.source.now) (g.I.Intake.calls c.drive_opened-in-Migrate.new.source) c.drive_opened-in-Migrate.result) (sym c.in-Migrate.is)
+    (c.drive_opened-in-Migrate.ensures.driven migrate_first c.open_migrate.ensures)

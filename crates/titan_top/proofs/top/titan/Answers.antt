@@ -5,11 +5,12 @@ use Rattle.titan_top.specs.Streams.{HasRoomForWords, OfInput, input_for}
 use Rattle.titan_top.specs.Wire.{WritesAs}
 use Rattle.titan_top.specs.Words.{asked}
 use Rattle.titan_top.specs.declared.status.Status.TheVariants.{Ended, Rejected, Refused, Memory}
-use Rattle.titan_top.specs.declared.words.Form.TheVariants.{Run, Show, Trial, Check}
-use Rattle.titan_top.proofs.EverySource.{only_check, run_at_end, check_at_end, show_silent, check_silent, show_to_script}
+use Rattle.titan_top.specs.declared.words.Form.TheVariants.{Run, Show, Trial, Check, Migrate}
+use Rattle.titan_top.proofs.EverySource.{only_check, run_at_end, check_at_end, migration_at_end, show_silent, check_silent, show_to_script}
 use Rattle.titan_top.proofs.FormAnswers.{usage_room, form_prints, form_streams}
 use Rattle.titan_top.proofs.FormStatuses.{no_read, form_ended, form_refused, form_rejected, ended_where, refused_where, rejected_where, completes}
 use Rattle.titan_top.proofs.FrontsOfRuns.{run_front}
+use Rattle.titan_top.proofs.Migrations.{migration_is_migrated}
 use Rattle.titan_top.proofs.OwnTraces.{own_where}
 use Rattle.titan_top.proofs.TraceIsChecked.{check_is_checked}
 use Rattle.titan_top.proofs.TracesOfWords.{run_is_traced, trial_is_traced}
@@ -23,6 +24,9 @@ send_usage-requires g c = usage_room (g.S.Source.left c.args.source.now) (g.K.Si
 
 pub returns-in-None-clause-checked : goal.returns-in-None-clause-checked
 returns-in-None-clause-checked g c = check_is_checked c.args.words.now.items _
+
+pub returns-in-None-clause-migrated : goal.returns-in-None-clause-migrated
+returns-in-None-clause-migrated g c = migration_is_migrated c.args.words.now.items _
 
 pub returns-in-None-clause-text : goal.returns-in-None-clause-text
 returns-in-None-clause-text g c = usage_answers c.args.words.now.items (sym (rw c.deref.ensures.value at c.in-None.ensures)) _ _ _ _ c.send_usage.ensures.sent
@@ -57,6 +61,9 @@ returns-in-Some-clause-front g c notation run cut =
 
 pub returns-in-Some-clause-checked : goal.returns-in-Some-clause-checked
 returns-in-Some-clause-checked g c = check_is_checked c.args.words.now.items _
+
+pub returns-in-Some-clause-migrated : goal.returns-in-Some-clause-migrated
+returns-in-Some-clause-migrated g c = migration_is_migrated c.args.words.now.items _
 
 pub returns-in-Some-clause-ended : goal.returns-in-Some-clause-ended
 returns-in-Some-clause-ended g c e = all_words c.args.words.now.items c.in-Some.form (rw c.deref.ensures.value at c.in-Some.ensures) NothingRefused (g.S.Source.left c.args.source.now) (form_ended c.in-Some.form c.drive_form.result (input_for (Some c.in-Some.form) (g.S.Source.left c.args.source.now)) (g.K.Sink.written c.args.sink.now) (g.K.Sink.written c.drive_form.new.sink) (form_prints c.in-Some.form (g.S.Source.left c.args.source.now) (g.S.Source.left c.drive_form.new.source) (g.K.Sink.written c.args.sink.now) (g.K.Sink.written c.drive_form.new.sink) _ _ c.drive_form.result c.drive_form.ensures.driven) (sym c.status_of.ensures ∙ e))
@@ -98,6 +105,9 @@ returns-in-Some-clause-whole g c notation run e = run_at_end notation c.in-Some.
 
 pub returns-in-Some-clause-whole_check : goal.returns-in-Some-clause-whole_check
 returns-in-Some-clause-whole_check g c check e = check_at_end c.in-Some.form (g.S.Source.left c.args.source.now) (g.S.Source.left c.drive_form.new.source) (g.K.Sink.written c.args.sink.now) (g.K.Sink.written c.drive_form.new.sink) c.drive_form.result (the_form c.args.words.now.items c.in-Some.form (rw c.deref.ensures.value at c.in-Some.ensures) Check check) (form_streams c.in-Some.form (g.S.Source.left c.args.source.now) (g.S.Source.left c.drive_form.new.source) (g.K.Sink.written c.args.sink.now) (g.K.Sink.written c.drive_form.new.sink) _ _ c.drive_form.result c.drive_form.ensures.driven) (sym c.status_of.ensures ∙ e)
+
+pub returns-in-Some-clause-whole_migration : goal.returns-in-Some-clause-whole_migration
+returns-in-Some-clause-whole_migration g c migrate e = migration_at_end c.in-Some.form (g.S.Source.left c.args.source.now) (g.S.Source.left c.drive_form.new.source) (g.K.Sink.written c.args.sink.now) (g.K.Sink.written c.drive_form.new.sink) c.drive_form.result (the_form c.args.words.now.items c.in-Some.form (rw c.deref.ensures.value at c.in-Some.ensures) Migrate migrate) (form_streams c.in-Some.form (g.S.Source.left c.args.source.now) (g.S.Source.left c.drive_form.new.source) (g.K.Sink.written c.args.sink.now) (g.K.Sink.written c.drive_form.new.sink) _ _ c.drive_form.result c.drive_form.ensures.driven) (sym c.status_of.ensures ∙ e)
 
 pub returns-in-Some-clause-to_script : goal.returns-in-Some-clause-to_script
 returns-in-Some-clause-to_script g c show e = show_to_script c.in-Some.form (g.S.Source.left c.args.source.now) (g.S.Source.left c.drive_form.new.source) (g.K.Sink.written c.args.sink.now) (g.K.Sink.written c.drive_form.new.sink) c.drive_form.result (the_form c.args.words.now.items c.in-Some.form (rw c.deref.ensures.value at c.in-Some.ensures) Show show) (form_streams c.in-Some.form (g.S.Source.left c.args.source.now) (g.S.Source.left c.drive_form.new.source) (g.K.Sink.written c.args.sink.now) (g.K.Sink.written c.drive_form.new.sink) _ _ c.drive_form.result c.drive_form.ensures.driven) (sym c.status_of.ensures ∙ e)

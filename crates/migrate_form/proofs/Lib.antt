@@ -1,0 +1,9 @@
+pub mod EventsAlike
+pub mod MigrateAgrees
+pub mod MigrateEnds
+pub mod MigratedDocuments
+pub mod MigratedTexts
+pub mod MigrationsTold
+pub mod ScriptsKept
+pub mod TextsAlike
+pub mod TicksAlike

@@ -1,0 +1,39 @@
+-- What `migrate` prints is the document in version 2.
+use Rattle.std.specs.Prelude.{◌≡◌, ◌↔◌, ℕ, false, List}
+use Rattle.line_machine.specs.Runs.{IsText}
+use Rattle.line_machine.specs.declared.machine.End.{End}
+use Rattle.line_machine.specs.declared.machine.End.TheVariants.{Ended}
+use Rattle.model_form.specs.Answers.{Answer, answer, IsAnswer}
+use Rattle.run_form.specs.Document.{Document, Complete, IsDocument}
+use Rattle.run_form.specs.Printed.{IsRunOf}
+use Rattle.run_form.specs.declared.notation.Notation.{Notation}
+use Rattle.version_laws.specs.Laws.{at_version}
+use Rattle.migrate_form.specs.MigrateMachine.{migrate_machine, migrate_first}
+use Rattle.migrate_form.specs.Migrated.{SaysMigrated}
+
+-- the same document of the model in another version
+abbrev pub document_at : ℕ → Document → Document
+document_at v r = record r { model = at_version v r.model }
+
+-- what `migrate` prints for an input
+abbrev pub IsMigrationOf : List ℕ → Answer → Type 0
+IsMigrationOf input a = IsAnswer false SaysMigrated input a.end a.text
+
+-- the texts of the machine are what `migrate` prints, both ways
+pub record MigrationsAreTold : Type 0 where
+  pub says : (input : List ℕ) (e : End) (text : List ℕ) → IsText migrate_machine migrate_first input e text → IsMigrationOf input (answer e text)
+  pub comes : (input : List ℕ) (e : End) (text : List ℕ) → IsMigrationOf input (answer e text) → IsText migrate_machine migrate_first input e text
+
+-- nothing of the input is refused, and the text is a document with its events, of its model in version 2; what a run prints for one is what it
+-- prints for the other; and from the text `migrate` makes the text itself
+pub record IsMigrated (input text : List ℕ) : Type 0 where
+  pub document : Document
+  pub read : IsDocument input document
+  pub complete : document.ending ≡ Complete
+  pub migrated : IsDocument text (document_at 2 document)
+  pub runs : (notation : Notation) (a : Answer) → IsRunOf notation input a ↔ IsRunOf notation text a
+  pub again : IsMigrationOf text (answer Ended text)
+
+-- a text that `migrate` prints of an input of which nothing is refused
+abbrev pub DocumentsMigrate : Type 0
+DocumentsMigrate = (input text : List ℕ) → IsMigrationOf input (answer Ended text) → IsMigrated input text

@@ -1,0 +1,66 @@
+//! The form `migrate`.
+
+ghost use Rattle.std.specs.Prelude.{◌≡◌, ◌++◌, ◌∷◌, [], codes, IfOk};
+ghost use Rattle.model_syntax.specs.Printing.{printed_model};
+ghost use Rattle.migrate_form.specs.MigrateMachine.{migrate_first};
+
+use crate::script::ScriptInSecond;
+use cca_base::{Compiled, Model, Name, Subject};
+use indexmap::IndexMap;
+use model_form::{ModelForm, Opened, Opening, WithModel};
+use model_syntax::print_model;
+use std::alloc::{AllocError, Global};
+
+/// The form `migrate`.
+#[derive(Clone, Copy, Debug, PartialEq, Eq)]
+pub struct Migrate;
+
+/// Its machine: behind the model stands a script.
+pub type MigrateMachine = WithModel<Migrate, ScriptInSecond>;
+
+/// The model's text, and the line `script`.
+fn document_head(alloc: Global, model: &Model) -> Result<Vec<u8>, AllocError>
+    ensures { IfOk result (λ text. text.items ≡ printed_model model.now ++ codes "script" ++ 10 ∷ []) }
+{
+    let mut text = print_model(alloc, model)?.into_vec();
+    text.extend_from_slice(b"script\n")?;
+    Ok(text)
+}
+
+impl ModelForm<ScriptInSecond> for Migrate {
+    ghost use Rattle.std.specs.Prelude.{false};
+    ghost use Rattle.migrate_form.specs.MigrateMachine.{Begins};
+    ghost use Rattle.migrate_form.specs.OneStep.{begins_one_way};
+
+    ghost is_json = { λ f. false };
+
+    ghost begins = { λ f. Begins };
+
+    ghost begins_one_way = { λ f. begins_one_way };
+
+    fn is_json(&self) -> bool {
+        false
+    }
+
+    fn begin(
+        &self,
+        alloc: Global,
+        compiled: Compiled,
+        names: IndexMap<Name, Subject>,
+        _number: u64,
+    ) -> Result<Opening<ScriptInSecond>, AllocError> {
+        let model = compiled.into_model().to_second();
+        let text = document_head(alloc, &model)?;
+        Ok(Opening {
+            text,
+            opened: Opened::Lines(ScriptInSecond::open(alloc, model, names)),
+        })
+    }
+}
+
+/// The machine before the first line.
+pub fn open_migrate(alloc: Global) -> Result<MigrateMachine, AllocError>
+    ensures { IfOk result (λ w. w ≡ migrate_first) }
+{
+    WithModel::open(alloc, Migrate)
+}

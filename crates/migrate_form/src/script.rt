@@ -1,0 +1,124 @@
+//! The script behind an accepted model: its events' lines are printed as they stand.
+
+ghost use Rattle.std.specs.Prelude.{◌≡◌, ◌++◌, ◌∷◌, [], IfOk};
+ghost use Rattle.formula_syntax.specs.Lookups.{NamesFit};
+ghost use Rattle.migrate_form.specs.MigrateMachine.{script_first};
+
+use crate::follow::{follow, nothing_seen};
+use cca_base::{Model, Name, Refusal, Seen, Subject, VarSet};
+use indexmap::IndexMap;
+use line_machine::{End, Machine, Said};
+use model_form::{MAX_LINE, nothing, refusal_of, refuse_stop};
+use script_reader::read_named_event;
+use std::alloc::{AllocError, Global};
+
+/// A model of version 2, its names, and what bears on which events may come next.
+#[derive(Drop)]
+pub struct ScriptInSecond {
+    model: Model,
+    names: IndexMap<Name, Subject>,
+    pending: Seen,
+    mirrored: VarSet,
+}
+
+impl std::marker::Model for ScriptInSecond {
+    ghost use Rattle.cca_base.specs.Cube.{IsRising};
+    ghost use Rattle.formula_syntax.specs.Lookups.{NamesFit};
+    ghost use Rattle.migrate_form.specs.MigrateMachine.{ScriptSoFar};
+    ghost use Rattle.cca_base.specs.contracts.formula.Formula as formula;
+    ghost use Rattle.std.specs.Coded.{codes};
+
+    ghost Value = { ScriptSoFar };
+
+    ghost coded = { Prim.hlevel (codes, formula.the_row.coded) };
+
+    ghost view = { λ s. record { model = s.model; pending = s.pending.pairs; mirrored = s.mirrored } };
+
+    ghost invariant = { λ s. NamesFit s.names s.model × IsRising s.pending.pairs };
+}
+
+/// The line with its LF.
+fn whole_line(alloc: Global, line: &[u8]) -> Result<Vec<u8>, AllocError>
+    ensures { IfOk result (λ text. text.items ≡ line.now ++ 10 ∷ []) }
+{
+    let mut text = Vec::from_slice(alloc, line)?;
+    text.push(b'\n')?;
+    Ok(text)
+}
+
+impl ScriptInSecond {
+    /// Before the first line of the script.
+    pub fn open(alloc: Global, model: Model, names: IndexMap<Name, Subject>) -> ScriptInSecond
+        requires { NamesFit names model }
+        ensures { result ≡ script_first model }
+    {
+        ScriptInSecond {
+            model,
+            names,
+            pending: nothing_seen(alloc),
+            mirrored: VarSet::empty(),
+        }
+    }
+}
+
+// By the clauses of the trait a line gives `MigrateSteps`, and the end of the input `MigrateCloses` (specs/MigrateMachine.antt).
+impl Machine for ScriptInSecond {
+    ghost use Rattle.std.specs.Prelude.{⊤, false};
+    ghost use Rattle.cca_base.specs.Refusals.{bare};
+    ghost use Rattle.model_form.specs.declared.limits.TheConstants.{MAX_LINE};
+    ghost use Rattle.trace_text.specs.Json.{refusal_text};
+    ghost use Rattle.migrate_form.specs.MigrateMachine.{MigrateSteps, MigrateCloses};
+    ghost use Rattle.migrate_form.specs.OneStep.{steps_one, closes_one};
+
+    ghost limit_of = { λ x. MAX_LINE };
+
+    ghost refusal = { λ x n code. refusal_text false x.model n (bare code) };
+
+    ghost steps = { MigrateSteps };
+
+    ghost closes = { λ x n. MigrateCloses };
+
+    ghost awaits = { λ x n. ⊤ };
+
+    ghost steps_are_one = { steps_one };
+
+    ghost closes_are_one = { closes_one };
+
+    fn limit(&self) -> usize {
+        MAX_LINE
+    }
+
+    fn refuse(&self, alloc: Global, number: u64, code: u8) -> Result<Vec<u8>, AllocError> {
+        let refusal = Refusal::bare(code);
+        refusal_of(alloc, false, &self.model, number, &refusal)
+    }
+
+    fn step(&mut self, alloc: Global, number: u64, line: &[u8]) -> Result<Said, AllocError> {
+        match read_named_event(
+            alloc,
+            line,
+            &self.model,
+            &self.names,
+            &self.pending,
+            self.mirrored,
+        ) {
+            Ok(Some(event)) => {
+                let text = whole_line(alloc, line)?;
+                follow(
+                    alloc,
+                    &self.model,
+                    &mut self.pending,
+                    &mut self.mirrored,
+                    &event,
+                )?;
+                Ok(Said { text, end: None })
+            }
+            Ok(None) => Ok(nothing(alloc)),
+            Err(stop) => refuse_stop(alloc, false, &self.model, number, &stop),
+        }
+    }
+
+    fn close(&mut self, alloc: Global, _count: u64) -> Result<(Vec<u8>, End), AllocError> {
+        Ok((Vec::new(alloc), End::Ended))
+    }
+}

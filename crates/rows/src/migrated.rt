@@ -1,0 +1,37 @@
+//! A row over its text in version 2.
+use crate::finding::{Finding, compared};
+use crate::run::{Ends, run};
+use std::alloc::{AllocError, Global};
+use titan_top::Status;
+
+/// Whether the words read a document whole and nothing behind it, so that they can be asked of its text in version 2.
+fn read_a_document(words: &str) -> bool {
+    match words.split_whitespace().next() {
+        Some(word) => word == "run" || word == "migrate",
+        None => false,
+    }
+}
+
+/// How a row comes out over its text in version 2, if its words read a document: it has to print what is wanted of the row, and to be migrated
+/// to itself.
+pub fn migrated(
+    alloc: Global,
+    words: &str,
+    input: &[u8],
+    ends: Ends,
+    wanted: &[u8],
+) -> Result<Finding, AllocError> {
+    if !read_a_document(words) {
+        return Ok(Finding::Right);
+    }
+    // No printed line is longer than the line that was read, but for the LF that the last one may lack.
+    let room = input.len().saturating_add(1);
+    let wide = Ends { room, ..ends };
+    let (first, text) = run(alloc, "migrate", input, wide)?;
+    let (second, same) = run(alloc, "migrate", &text, wide)?;
+    if first != Status::Ended || compared(second, &same, Status::Ended, &text) != Finding::Right {
+        return Ok(Finding::NotMigrated);
+    }
+    let (ended, printed) = run(alloc, words, &text, ends)?;
+    Ok(compared(ended, &printed, Status::Ended, wanted))
+}
