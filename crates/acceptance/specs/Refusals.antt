@@ -79,12 +79,12 @@ pub record RefusesDeep (m : PlantModel) (refusal : Refusal) : Type 0 where
 abbrev pub Refuses : PlantModel → Refusal → Type 0
 Refuses m refusal = RefusesClash m refusal ⊎ (RefusesWays m refusal ⊎ (RefusesCycle m refusal ⊎ RefusesDeep m refusal))
 
--- want of memory, or the same model with why it is refused
+-- memory ran out, or the same model with why it is refused
 abbrev pub HandsBack : PlantModel → NotAccepted → Type 0
 HandsBack m (Refused refusal model) = (model ≡ m) × Refuses m refusal
 HandsBack m Memory = Unit {0}
 
--- want of memory
+-- memory ran out
 abbrev pub IsMemory : NotAccepted → Type 0
 IsMemory (Refused refusal model) = ⊥
 IsMemory Memory = Unit {0}

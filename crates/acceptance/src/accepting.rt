@@ -41,7 +41,7 @@ fn refused(code: u8, detail: Detail) -> Stop
     Stop::Refused(Refusal { code, detail })
 }
 
-/// The list of one number. The error is want of memory.
+/// The list of one number. The error is out of memory.
 fn one(alloc: Global, component: u16) -> Result<List<u16>, AllocError>
     ensures { IfOk result (λ list. list ≡ component ∷ []) }
 {
@@ -50,7 +50,7 @@ fn one(alloc: Global, component: u16) -> Result<List<u16>, AllocError>
     Ok(list)
 }
 
-/// What is compiled from the model by the clauses of its rules, or the first refusal that applies, or want of memory.
+/// What is compiled from the model by the clauses of its rules, or the first refusal that applies; or memory ran out.
 fn parts_by(alloc: Global, model: &Model, rules: &List<RuleClause>) -> Result<Pieces, Stop>
     requires complete { IsComplete model.now }
     requires rules { AreRulesOf model.now rules.now }
@@ -87,7 +87,7 @@ fn parts_of(alloc: Global, model: &Model) -> Result<Pieces, Stop>
 
 /// The model with its moves' prime implicants, its order and its bounds. It is refused exactly where it is not accepted,
 /// with the first code that applies: 9 where a state has no world, 10 where a move has too many prime implicants, 11
-/// where the needs have a cycle, and 12 where the bounds add up to too much. The other error is want of memory.
+/// where the needs have a cycle, and 12 where the bounds add up to too much. The other error is out of memory.
 pub fn accept(alloc: Global, model: Model) -> Result<Compiled, NotAccepted>
     requires complete { IsComplete model }
     ensures compiled { IfOk result (λ c. (c.model ≡ model) × IsCompiled c) }

@@ -37,7 +37,8 @@ fn least_free(literals: &[Literal], subject: usize, size: u8) -> Option<u8>
 /// Values that make the clause false, each the least that does. None comes exactly where the clause is always met.
 fn least_false(alloc: Global, sizes: &[u8], clause: &Clause) -> Result<Option<State>, AllocError>
     requires { All (λ l. l.subject < length sizes.now) clause.now.literals }
-    ensures { IfOk result (λ r. LeastOrNone sizes.now clause.now.literals (option_map (λ s. s.modes) r)) }
+    ensures { IfOk result (λ r.
+        LeastOrNone sizes.now clause.now.literals (option_map (λ s. s.modes) r)) }
 {
     let mut modes = Items::new(alloc);
     for subject in 0..sizes.len() {
@@ -58,7 +59,8 @@ fn is_before(a: &State, b: &State) -> bool
 
 /// The earlier of two states, or the one that there is.
 fn first_of(best: Option<State>, new: Option<State>) -> Option<State>
-    ensures { option_map (λ s. s.modes) result ≡ first_of (option_map (λ s. s.modes) best) (option_map (λ s. s.modes) new) }
+    ensures { option_map (λ s. s.modes) result
+        ≡ first_of (option_map (λ s. s.modes) best) (option_map (λ s. s.modes) new) }
 {
     match (best, new) {
         (Some(best), Some(new)) => {
@@ -76,7 +78,8 @@ fn first_of(best: Option<State>, new: Option<State>) -> Option<State>
 /// The first values that make some clause false. None comes exactly where all clauses are always met.
 pub fn first_false(alloc: Global, clauses: &Clauses) -> Result<Option<State>, AllocError>
     requires { AreClauses clauses.now }
-    ensures { IfOk result (λ r. IsFirstOrNone clauses.now.sizes clauses.now.clauses (option_map (λ s. s.modes) r)) }
+    ensures { IfOk result (λ r.
+        IsFirstOrNone clauses.now.sizes clauses.now.clauses (option_map (λ s. s.modes) r)) }
 {
     let sizes = clauses.sizes.as_slice();
     let mut best = None;

@@ -11,7 +11,7 @@ use guard_compiler::{RuleClause, worlds_of};
 use std::alloc::{AllocError, Global};
 
 /// The first state in mode order that has no world, by the clauses of the model's rules. None comes exactly where every
-/// state has one. The error is want of memory.
+/// state has one. The error is out of memory.
 pub fn first_worldless(
     alloc: Global,
     model: &Model,

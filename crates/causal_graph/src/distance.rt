@@ -23,7 +23,8 @@ fn direct(alloc: Global, needs: &List<List<u16>>, target: u16) -> Result<Vec<u32
 /// Whether a number of the row is at this distance.
 fn leads_to(row: &[u16], distances: &[u32], distance: u32) -> bool
     requires { All (λ u. u < length distances.now) row.now }
-    ensures { IsTrue result ↔ ((u : ℕ) × Contains row.now u × (slice_index distances.now u ≡ distance)) }
+    ensures { IsTrue result ↔ ((u : ℕ) × Contains row.now u
+        × (slice_index distances.now u ≡ distance)) }
 {
     row.iter().any(|u| distances[*u as usize] == distance)
 }

@@ -43,7 +43,8 @@ fn needed(
 /// The first place of a component that no remaining one needs.
 fn first_free(remaining: &[u16], needed: &[bool]) -> Option<usize>
     requires { All (λ c. c < length needed.now) remaining.now }
-    ensures { MatchOption result (All (IsSet needed.now) remaining.now) (IsFirstUnset needed.now remaining.now) }
+    ensures { MatchOption result (All (IsSet needed.now) remaining.now)
+        (IsFirstUnset needed.now remaining.now) }
 {
     for (i, c) in remaining.iter().enumerate() {
         if !needed[*c as usize] {
@@ -61,7 +62,8 @@ pub(crate) fn effects_first(
     requires few { length needs.now ≤ MAX_ROWS }
     requires rows { AreRows needs.now }
     ensures { IfOk result
-        (λ o. MatchOption o (HasStuck needs.now) (IsEffectsFirstBy (RowNeeds needs.now) (length needs.now))) }
+        (λ o. MatchOption o (HasStuck needs.now)
+        (IsEffectsFirstBy (RowNeeds needs.now) (length needs.now))) }
 {
     let mut remaining = numbers(alloc, needs.len())?;
     let mut order = List::new(alloc);

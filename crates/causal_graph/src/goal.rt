@@ -9,7 +9,8 @@ use std::alloc::{AllocError, Global};
 
 /// The pair of the component.
 fn pair_of(pairs: &[Pair], component: u16) -> Option<Pair>
-    ensures { MatchOption result (Lacks component pairs.now) (λ p. Contains pairs.now p × (p.item ≡ component)) }
+    ensures { MatchOption result (Lacks component pairs.now) (λ p.
+        Contains pairs.now p × (p.item ≡ component)) }
 {
     for pair in pairs {
         if pair.item == component {
@@ -19,7 +20,7 @@ fn pair_of(pairs: &[Pair], component: u16) -> Option<Pair>
     None
 }
 
-/// The same pairs as a goal, effects before their causes. The error is want of memory.
+/// The same pairs as a goal, effects before their causes. The error is out of memory.
 pub fn sort_goal(alloc: Global, compiled: &Compiled, pairs: &List<Pair>) -> Result<Goal, AllocError>
     requires once { IsCube pairs.now }
     requires within { All (λ p. p.item < length compiled.now.model.components) pairs.now }

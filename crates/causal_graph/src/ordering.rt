@@ -13,7 +13,7 @@ use cca_base::List;
 use std::alloc::{AllocError, Global};
 
 /// The order of the components, or the shown cycle. Row c of `needs` lists the components that c needs, in any order. The
-/// answer is `Effects` exactly where no component is its own ancestor. The error is want of memory.
+/// answer is `Effects` exactly where no component is its own ancestor. The error is out of memory.
 pub fn order(alloc: Global, needs: &List<List<u16>>) -> Result<Order, AllocError>
     requires few { length needs.now ≤ MAX_ROWS }
     requires rows { AreRows needs.now }

@@ -43,7 +43,7 @@ fn reached(alloc: Global, needs: &List<List<u16>>, component: u16) -> Result<Vec
 }
 
 /// The components that `c` reaches by one or more needs, rising, each once. Row d of `needs` lists the components that d
-/// needs, in any order. The error is want of memory.
+/// needs, in any order. The error is out of memory.
 pub fn ancestors(alloc: Global, needs: &List<List<u16>>, c: u16) -> Result<List<u16>, AllocError>
     requires rows { AreRows needs.now }
     requires within { c < length needs.now }

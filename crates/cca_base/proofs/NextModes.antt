@@ -51,9 +51,6 @@ sound_chain moves c a b (suc n) p sound = absurd (both_ways (is_broken moves c a
 pub of_chain_sound : (moves : List Move) (c a b : ℕ) → IsInChain moves c a b → is_broken moves c a ≡ false → b ≡ a
 of_chain_sound moves c a b h sound = sym (sound_chain moves c a b h.0 h.1 sound)
 
-pub mended_in_chain : (moves : List Move) (c a b : ℕ) → IsMended moves c a b → IsInChain moves c a b
-mended_in_chain moves c a b h = (h.count, h.chain)
-
 module _ (version : ℕ) (moves : List Move) (fit : RepairsFit version moves) where
   -- repairs lead from a mode to one mode at most that is not broken
   pub one_end : (c a b d n k : ℕ) → RepairChain moves c a b n → RepairChain moves c a d k → is_broken moves c b ≡ false → is_broken moves c d ≡ false → b ≡ d

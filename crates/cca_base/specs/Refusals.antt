@@ -9,7 +9,7 @@ use Rattle.cca_base.specs.declared.events.Stop.TheVariants as stops
 abbrev pub bare : ℕ → Refusal
 bare code = record { code = code; detail = Nothing }
 
--- the code of a refusal; want of memory has none
+-- the code of a refusal; out of memory has none
 abbrev pub stop_code : Stop → Option ℕ
 stop_code stops.Memory = None
 stop_code (stops.Refused refusal) = Some refusal.code

@@ -54,7 +54,13 @@ impl Compiled {
         order: List<u16>,
         bounds: List<u64>,
     ) -> Compiled
-        requires { IsCompiled (record { model = model; ways = ways; order = order; bounds = bounds }) }
+        requires { IsCompiled (record {
+          model = model;
+          ways = ways;
+          order = order;
+          bounds =
+              bounds;
+        }) }
         ensures { result ≡ record { model = model; ways = ways; order = order; bounds = bounds } }
     {
         Compiled {

@@ -69,7 +69,7 @@ impl Cube {
         self.pairs.as_slice()
     }
 
-    /// Puts a pair behind the others. The error is want of memory.
+    /// Puts a pair behind the others. The error is out of memory.
     pub fn push(&mut self, pair: Pair) -> Result<(), AllocError>
         requires { Lacks pair.item self.old }
         ensures ok { OnOk result (self.new ≡ self.old ++ pair ∷ []) }
@@ -92,7 +92,7 @@ impl Cube {
         true
     }
 
-    /// A cube of the same pairs. The error is want of memory.
+    /// A cube of the same pairs. The error is out of memory.
     pub fn copy(&self, alloc: Global) -> Result<Cube, AllocError>
         ensures { IfOk result (λ c. c ≡ self.now) }
     {

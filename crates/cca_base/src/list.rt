@@ -64,7 +64,8 @@ impl<T> List<T> {
 
     /// Removes the last item and gives it, where there is one.
     pub fn pop(&mut self) -> Option<T>
-        ensures { MatchOption result ((self.old ≡ []) × (self.new ≡ [])) (λ x. self.old ≡ self.new ++ x ∷ []) }
+        ensures { MatchOption result ((self.old ≡ []) × (self.new ≡ [])) (λ x.
+            self.old ≡ self.new ++ x ∷ []) }
     {
         self.items.pop()
     }
@@ -78,7 +79,7 @@ impl<T> List<T> {
 }
 
 impl<T: Drop> List<T> {
-    /// Puts an item behind the others. The error is want of memory, and the item is gone then.
+    /// Puts an item behind the others. The error is out of memory, and the item is gone then.
     pub fn push(&mut self, x: T) -> Result<(), AllocError>
         ensures ok { OnOk result (self.new ≡ self.old ++ x ∷ []) }
         ensures err { OnErr result (self.new ≡ self.old) }
@@ -105,7 +106,7 @@ impl<T: Drop> List<T> {
 }
 
 impl<T: Copy> List<T> {
-    /// A list of the same items. The error is want of memory.
+    /// A list of the same items. The error is out of memory.
     pub fn copy(&self, alloc: Global) -> Result<List<T>, AllocError>
         ensures { IfOk result (λ l. l ≡ self.now) }
     {

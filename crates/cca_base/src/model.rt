@@ -206,7 +206,7 @@ impl Model {
     }
 
     /// Puts a component behind the others.
-    /// The error is want of memory, and the component is gone then.
+    /// The error is out of memory, and the component is gone then.
     pub fn add_component(&mut self, x: Component) -> Result<(), AllocError>
         requires { WellFormed (with_component self.old x) }
         ensures ok { OnOk result (self.new ≡ with_component self.old x) }
@@ -216,7 +216,7 @@ impl Model {
     }
 
     /// Puts a variable behind the others.
-    /// The error is want of memory, and the variable is gone then.
+    /// The error is out of memory, and the variable is gone then.
     pub fn add_variable(&mut self, x: Variable) -> Result<(), AllocError>
         requires { WellFormed (with_variable self.old x) }
         ensures ok { OnOk result (self.new ≡ with_variable self.old x) }
@@ -226,7 +226,7 @@ impl Model {
     }
 
     /// Puts a rule behind the others.
-    /// The error is want of memory, and the rule is gone then.
+    /// The error is out of memory, and the rule is gone then.
     pub fn add_rule(&mut self, x: Formula) -> Result<(), AllocError>
         requires { WellFormed (with_rule self.old x) }
         ensures ok { OnOk result (self.new ≡ with_rule self.old x) }
@@ -235,7 +235,7 @@ impl Model {
         self.rules.push(x)
     }
 
-    /// Puts a command's name behind the others. The error is want of memory.
+    /// Puts a command's name behind the others. The error is out of memory.
     pub fn add_command(&mut self, x: Name) -> Result<(), AllocError>
         requires { WellFormed (with_command self.old x) }
         ensures ok { OnOk result (self.new ≡ with_command self.old x) }
@@ -255,7 +255,7 @@ impl Model {
     }
 
     /// Puts a move behind the others.
-    /// The error is want of memory, and the move is gone then.
+    /// The error is out of memory, and the move is gone then.
     pub fn add_move(&mut self, x: Move) -> Result<(), AllocError>
         requires { WellFormed (with_move self.old x) }
         ensures ok { OnOk result (self.new ≡ with_move self.old x) }
@@ -264,7 +264,7 @@ impl Model {
         self.moves.push(x)
     }
 
-    /// Puts a failure behind the others. The error is want of memory.
+    /// Puts a failure behind the others. The error is out of memory.
     pub fn add_failure(&mut self, x: Failure) -> Result<(), AllocError>
         requires { WellFormed (with_failure self.old x) }
         ensures ok { OnOk result (self.new ≡ with_failure self.old x) }

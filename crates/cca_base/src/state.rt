@@ -14,7 +14,7 @@ pub struct State {
 }
 
 impl State {
-    /// A state of the same modes. The error is want of memory.
+    /// A state of the same modes. The error is out of memory.
     pub fn copy(&self, alloc: Global) -> Result<State, AllocError>
         ensures { IfOk result (λ s. s ≡ self.now) }
     {

@@ -26,15 +26,20 @@ then_less Less b e h = less_greater e
 then_less Equal b e h = equal_greater e
 then_less Greater b e h = less_greater (sym h)
 
+-- no cube comes before one of fewer pairs
+pub longer_is_later : (a b : List Pair) → length b < length a → IsBeforeCube a b → ⊥
+longer_is_later a b longer h =
+    let more : ℕ = length a in
+    let less : ℕ = length b in
+    by_ranked (more < less) (more ≡ less) (less < more) (nat_cmp more less) (ranked more less (nat_cmp more less) refl)
+    (λ e below. absurd (omega arith))
+    (λ e same. absurd (omega arith))
+    (λ e above. then_less (nat_cmp more less) (slice_cmp pair_cmp a b) e h)
+
 -- nothing comes before the empty cube
 pub least_cube : (cube : List Pair) → IsBeforeCube cube [] → ⊥
 least_cube [] h = absurd cc
-least_cube (p ∷ cube) h =
-    let more : ℕ = length (p ∷ cube) in
-    by_ranked (more < 0) (more ≡ 0) (0 < more) (nat_cmp more 0) (ranked more 0 (nat_cmp more 0) refl)
-    (λ e lt. absurd (omega arith))
-    (λ e same. absurd (omega arith))
-    (λ e above. then_less (nat_cmp more 0) (slice_cmp pair_cmp (p ∷ cube) []) e h)
+least_cube (p ∷ cube) h = longer_is_later (p ∷ cube) [] (omega arith) h
 
 module _ (m : PlantModel) (s : List ℕ) where
   -- a move whose guard is always true is open

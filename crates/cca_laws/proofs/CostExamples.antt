@@ -20,7 +20,7 @@ use Rattle.cca_laws.proofs.FormulaExamples.{truth_mode, truth_iff, truth_both, t
 use Rattle.cca_laws.proofs.ValveExamples.{truth_flow, open_is_the_one}
 use Rattle.cca_laws.specs.FormulaExamples.{mode_in, both, either}
 use Rattle.cca_laws.specs.ValveExamples.{flow_in, valve_model, open_move}
-use Rattle.cca_laws.specs.CostExamples.{falling_open, staying_shut, poor_rule, three, OpeningIsFree, StayingShutCosts, StandingIsFree, TwoForOne}
+use Rattle.cca_laws.specs.CostExamples.{falling_open, staying_shut, stuck_twice, poor_rule, three, OpeningIsFree, StayingShutCosts, StandingIsFree, LesserFailureCounts, TwoForOne}
 
 pub sum_two : (parts : List ℕ) → length parts ≡ 2 → sum parts ≡ slice_index parts 0 + slice_index parts 1
 sum_two [] e = absurd (omega arith)
@@ -141,6 +141,55 @@ standing_is_free cost = (
       free staying_shut 1 0 0 (slice_index h.parts 1) (subst (λ (n : List ℕ). ChangeCosts staying_shut 1 0 (slice_index n 1) 0 (slice_index h.parts 1)) e (h.each 1 (omega arith))) in
       h.total ∙ sum_two h.parts h.full ∙ omega arith,
   λ e. subst (Costs staying_shut (1 ∷ 0 ∷ []) None (1 ∷ 0 ∷ [])) (sym e) standing_costs,
+)
+
+-- ---- two failures between the same modes
+
+stuck_cost : (cost : ℕ) → ChangeCosts stuck_twice 1 0 0 2 cost → cost ≡ 4
+stuck_cost cost (inl x) = absurd (omega (arith, x.0))
+stuck_cost cost (inr (other_mode, (zero, h, e), least)) = sym (ap (λ (f : Failure). f.cost) e)
+stuck_cost cost (inr (other_mode, (suc zero, h, e), least)) = absurd (omega (arith, ap (λ (f : Failure). f.source) e))
+stuck_cost cost (inr (other_mode, (suc (suc zero), h, e), least)) =
+    let dear : 7 ≡ cost = ap (λ (f : Failure). f.cost) e in
+    let cheaper : cost ≤ 4 = least 4 (0, omega arith, refl) in
+    absurd (omega (arith, dear, cheaper))
+stuck_cost cost (inr (other_mode, (suc (suc (suc k)), h, e), least)) = absurd (omega arith)
+
+least_stuck : (other : ℕ) → HasFailure stuck_twice 1 0 2 other → 4 ≤ other
+least_stuck other (zero, h, e) = omega (arith, ap (λ (f : Failure). f.cost) e)
+least_stuck other (suc zero, h, e) = absurd (omega (arith, ap (λ (f : Failure). f.source) e))
+least_stuck other (suc (suc zero), h, e) = omega (arith, ap (λ (f : Failure). f.cost) e)
+least_stuck other (suc (suc (suc k)), h, e) = absurd (omega arith)
+
+stuck_costs : Costs stuck_twice (0 ∷ 0 ∷ []) None (0 ∷ 2 ∷ []) 4
+stuck_costs = record {
+  state = record {
+    full = refl;
+    modes = below_two (λ c. HasMode stuck_twice c (slice_index (0 ∷ 2 ∷ []) c)) (omega arith) (omega arith);
+  };
+  nominal = 0 ∷ 0 ∷ [];
+  is_nominal = inr (λ move h. none-some move.command h.command, refl);
+  parts = 0 ∷ 4 ∷ [];
+  full = refl;
+  each = below_two (λ c. ChangeCosts stuck_twice c (slice_index (0 ∷ 0 ∷ []) c) (slice_index (0 ∷ 0 ∷ []) c) (slice_index (0 ∷ 2 ∷ []) c) (slice_index (0 ∷ 4 ∷ []) c))
+      (inl (refl, refl)) (inr (λ e. absurd (omega (arith, e)), (0, omega arith, refl), least_stuck));
+  total = refl;
+}
+
+-- the cost is that of the component's change to the mode, where these are the nominal modes
+abbrev StuckFrom : ℕ → ℕ → ℕ → List ℕ → Type 0
+StuckFrom c to cost nominal = ChangeCosts stuck_twice c 0 (slice_index nominal c) to cost
+
+pub lesser_failure_counts : LesserFailureCounts
+lesser_failure_counts cost = (
+  λ h.
+      let e : h.nominal ≡ 0 ∷ 0 ∷ [] = unmoved stuck_twice (0 ∷ 0 ∷ []) h.nominal h.is_nominal in
+      let a : slice_index h.parts 0 ≡ 0 =
+      free stuck_twice 0 0 0 (slice_index h.parts 0) (subst (StuckFrom 0 0 (slice_index h.parts 0)) e (h.each 0 (omega arith))) in
+      let b : slice_index h.parts 1 ≡ 4 =
+      stuck_cost (slice_index h.parts 1) (subst (StuckFrom 1 2 (slice_index h.parts 1)) e (h.each 1 (omega arith))) in
+      h.total ∙ sum_two h.parts h.full ∙ omega arith,
+  λ e. subst (Costs stuck_twice (0 ∷ 0 ∷ []) None (0 ∷ 2 ∷ [])) (sym e) stuck_costs,
 )
 
 -- ---- the estimate

@@ -27,6 +27,9 @@ pub mod MirrorExamples
 pub mod FirstExamples
 pub mod FreeMoves
 pub mod CauseExamples
+pub mod ExcuseExamples
+pub mod WithinExamples
+pub mod ChosenExamples
 pub mod MendModel
 pub mod MendImplicants
 pub mod MendCompiled

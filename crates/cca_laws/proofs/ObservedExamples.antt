@@ -1,15 +1,18 @@
 -- What is observed.
-use Rattle.std.proofs.Common.{◌≡◌, ◌<◌, ℕ, zero, suc, inl, inr, [], ◌∷◌, Some, Contains, refl, arith}
+use Rattle.std.proofs.Common.{◌≡◌, ◌<◌, ℕ, zero, suc, inl, inr, [], ◌∷◌, Some, Contains, refl, ap, subst, ◌∙◌, arith}
 use Rattle.std.specs.Prelude.{slice_get, slice_index}
 use Rattle.std.proofs.lemmas.List.Sorted.{IsPermutation-append_comm}
 use Rattle.std.proofs.lemmas.Option.{same_Some, none-some}
 use Rattle.cca_base.specs.declared.cube.Pair.{Pair}
 use Rattle.cca_base.specs.Cube.{IsRising}
 use Rattle.cca_base.specs.State.{IsWorld, HasValue}
-use Rattle.cca_base.specs.Trace.{HasOneValue}
+use Rattle.cca_base.specs.Orders.{IsSorted}
+use Rattle.cca_base.specs.Trace.{ExecutiveState, HasOneValue}
 use Rattle.cca_base.proofs.Members.{contains_cases, contains_none, contains_here, contains_there}
 use Rattle.cca_laws.proofs.Tiny.{below_two}
-use Rattle.cca_laws.specs.ObservedExamples.{loose, x_low, y_high, PendingRises, NothingMirrored, GoalIsTurned}
+use Rattle.cca_laws.proofs.OneOrder.{one_sorted}
+use Rattle.cca_laws.specs.ObservedExamples.{loose, x_low, y_high, as_given, as_kept, PendingRises, NothingMirrored, GoalIsTurned, GoalIsKeptTurned, TickHasGoalTurned}
+use Rattle.cca_laws.specs.Laws.{NoneTwice}
 
 rising : IsRising (x_low ∷ y_high ∷ [])
 rising zero zero d h k = absurd (omega arith)
@@ -57,3 +60,20 @@ goal_is_turned = record {
   same = IsPermutation-append_comm (record { item = 0; value = 0 } ∷ []) (record { item = 1; value = 1 } ∷ []);
   in_order = inr (1, record { item = 0; value = 0 } ∷ [], refl, inr (0, [], refl, refl));
 }
+
+-- no component comes twice in the order
+once : NoneTwice (1 ∷ 0 ∷ [])
+once = (
+  λ among. elim (contains_cases 0 1 [] among) [ inl e ↦ absurd (omega (arith, e)) | inr none ↦ contains_none 1 none ],
+  (contains_none 0, tt),
+)
+
+pub goal_is_kept_turned : GoalIsKeptTurned
+goal_is_kept_turned x y (kept, sorted, e) =
+    ap (λ (z : ExecutiveState). z.goal) e
+    ∙ ap Some (one_sorted (1 ∷ 0 ∷ []) as_given kept as_kept once sorted goal_is_turned)
+
+pub tick_has_goal_turned : TickHasGoalTurned
+tick_has_goal_turned b x t order (y, (kept, sorted, e), tick) =
+    ap (λ (z : ExecutiveState). z.goal) tick.1
+    ∙ goal_is_kept_turned x y (kept, subst (λ l. IsSorted l as_given kept) order sorted, e)

@@ -7,7 +7,9 @@ use Rattle.std.proofs.lemmas.Option.{same_Some, none-some}
 use Rattle.cca_base.specs.declared.cube.Pair.{Pair}
 use Rattle.cca_base.specs.declared.events.Event.{Event}
 use Rattle.cca_base.specs.declared.events.Event.TheVariants as event
-use Rattle.cca_base.specs.Trace.{ExecutiveState, Observed, start}
+use Rattle.cca_base.specs.Cube.{IsRising}
+use Rattle.cca_base.specs.Sets.{has}
+use Rattle.cca_base.specs.Trace.{ExecutiveState, Observed}
 use Rattle.cca_base.specs.Runs.{TickRecord, CanBeSeen, StartsAnew, LeavesPlantAlone}
 use Rattle.cca_base.proofs.SetLaws.{has-empty}
 use Rattle.cca_laws.proofs.Tiny.{one_at}
@@ -15,14 +17,24 @@ use Rattle.cca_laws.proofs.ValveExamples.{start_world}
 use Rattle.cca_laws.specs.ValveExamples.{valve_model}
 use Rattle.cca_laws.specs.RightExamples.{no_flow, wrong_moment, faulty_moment, reset_moment, WrongIsNotRight, FaultsExcuse, ResetsEndExcuses, ResetKeepsTicks}
 
-observed : Observed valve_model (record (start valve_model 0) { pending = no_flow }) no_flow
-observed = record {
-  rising = λ i j d lt h. absurd (omega arith);
-  each = λ p. (λ among. inl among, λ h. elim h [ inl among ↦ among | inr shown ↦ absurd (false≢true (sym (has-empty p.item) ∙ shown.0)) ]);
+-- where nothing is mirrored, what is pending is observed
+pub observed : (x : ExecutiveState) → x.mirrored ≡ 0 → IsRising x.pending → Observed valve_model x x.pending
+observed x none rising = record {
+  rising = rising;
+  each = λ p. (
+    λ among. inl among,
+    λ h. elim h [ inl among ↦ among | inr shown ↦ absurd (false≢true (sym (ap (λ set. has set p.item) none ∙ has-empty p.item) ∙ shown.0)) ],
+  );
 }
 
+pub one_rises : (p : Pair) → IsRising (p ∷ [])
+one_rises p i j d lt h = absurd (omega arith)
+
 pub can_be_seen : CanBeSeen valve_model wrong_moment
-can_be_seen = (no_flow, 0 ∷ [], observed, start_world, one_at (λ (p : Pair). slice_get (0 ∷ []) p.item ≡ Some p.value) (record { item = 0; value = 0 }) refl)
+can_be_seen =
+    let p : Pair = record { item = 0; value = 0 } in
+    let agrees = one_at (λ (q : Pair). slice_get (0 ∷ []) q.item ≡ Some q.value) p refl in
+    (no_flow, 0 ∷ [], observed wrong_moment.before refl (one_rises p), start_world, agrees)
 
 pub wrong : ◌≡◌ {A = List ℕ} (1 ∷ 0 ∷ []) (0 ∷ 0 ∷ []) → ⊥
 wrong e = absurd cc

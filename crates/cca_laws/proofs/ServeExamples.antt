@@ -1,5 +1,5 @@
 -- Served and unserved goals.
-use Rattle.std.proofs.Common.{◌≡◌, ◌<◌, ◌≤◌, ◌+◌, ℕ, zero, suc, false, List, [], ◌∷◌, All, Some, refl, sym, ap, arith}
+use Rattle.std.proofs.Common.{◌≡◌, ◌<◌, ◌≤◌, ◌+◌, ℕ, zero, suc, false, List, [], ◌∷◌, All, Some, refl, sym, ap, ◌∙◌, arith}
 use Rattle.std.specs.Prelude.{slice_get}
 use Rattle.std.proofs.lemmas.Bool.{false≢true}
 use Rattle.std.proofs.lemmas.List.Elements.{All-nil}
@@ -56,8 +56,10 @@ lost_begins_none j h = false≢true (sym (h.reachable (replied (Unreachable 0 1)
 abbrev sending : List TickRecord
 sending = replied (Send 0) ∷ replied (Send 1) ∷ []
 
-not_lost_at_first : (t : TickRecord) → slice_get sending 0 ≡ Some t → is_unreachable (reply_at t) ≡ false
-not_lost_at_first t e = ap (λ (x : TickRecord). is_unreachable (reply_at x)) (sym (same_Some (replied (Send 0)) t e))
+-- what does not say unreachable may begin a stretch
+pub may_begin : (x : TickRecord) (ticks : List TickRecord) → is_unreachable (reply_at x) ≡ false
+    → (t : TickRecord) → slice_get (x ∷ ticks) 0 ≡ Some t → is_unreachable (reply_at t) ≡ false
+may_begin x ticks h t e = ap (λ (y : TickRecord). is_unreachable (reply_at y)) (sym (same_Some x t e)) ∙ h
 
 is_stretch : IsStretch sending lit 0 1
 is_stretch = record {
@@ -66,7 +68,7 @@ is_stretch = record {
   goals = two_at (λ t. t.before.goal ≡ Some lit) (replied (Send 0)) (replied (Send 1)) refl refl;
   quiet = one_at (λ t. All LeavesPlantAndGoalAlone t.since) (replied (Send 1)) (All-nil LeavesPlantAndGoalAlone);
   right = two_at IsRight (replied (Send 0)) (replied (Send 1)) refl refl;
-  reachable = not_lost_at_first;
+  reachable = may_begin (replied (Send 0)) (replied (Send 1) ∷ []) refl;
 }
 
 pub lamp_is_promised : LampIsPromised

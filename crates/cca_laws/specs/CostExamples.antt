@@ -29,6 +29,14 @@ StayingShutCosts = (cost : ℕ) → Costs staying_shut (1 ∷ 0 ∷ []) (Some 2)
 abbrev pub StandingIsFree : Type 0
 StandingIsFree = (cost : ℕ) → Costs staying_shut (1 ∷ 0 ∷ []) None (1 ∷ 0 ∷ []) cost ↔ (cost ≡ 0)
 
+-- a valve that may get stuck in two ways while it is closed, at 4 and at 7
+abbrev pub stuck_twice : PlantModel
+stuck_twice = with_failure valve_model (record { component = 1; source = 0; target = 2; cost = 7 })
+
+-- to be stuck costs 4, and neither 7 nor both together
+abbrev pub LesserFailureCounts : Type 0
+LesserFailureCounts = (cost : ℕ) → Costs stuck_twice (0 ∷ 0 ∷ []) None (0 ∷ 2 ∷ []) cost ↔ (cost ≡ 4)
+
 -- the output is poor exactly where p and q are bad, or r is
 abbrev pub poor_rule : Formula
 poor_rule = roll-Formula (Formula-F.Iff (flow_in 2) (either (both (mode_in 0 2) (mode_in 1 2)) (mode_in 2 2)))

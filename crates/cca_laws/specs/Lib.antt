@@ -15,6 +15,9 @@ pub mod MoreExamples
 pub mod MirrorExamples
 pub mod FirstExamples
 pub mod CauseExamples
+pub mod ExcuseExamples
 pub mod MendExamples
+pub mod WithinExamples
+pub mod ChosenExamples
 pub mod ChainExamples
 pub mod Conditions

@@ -3,10 +3,10 @@
 ghost use Rattle.cca_laws.specs.Examples.{EmptyTicks, LampIsLit};
 ghost use Rattle.cca_laws.specs.FormulaExamples.{DepthIsSeven, ChoicesOfTwo, OnePartDoesNotFit, NoneAmongDoesNotFit};
 ghost use Rattle.cca_laws.specs.ValveExamples.{ValveIsWellFormed, DriverComesOn, StuckMends, OpeningNeedsDriver, StuckIsNotLeanedOn, ClosedIsLeanedOn, OpeningForGood, OpeningIsAllowed};
-ghost use Rattle.cca_laws.specs.CostExamples.{OpeningIsFree, StayingShutCosts, StandingIsFree, TwoForOne};
+ghost use Rattle.cca_laws.specs.CostExamples.{OpeningIsFree, StayingShutCosts, StandingIsFree, LesserFailureCounts, TwoForOne};
 ghost use Rattle.cca_laws.specs.EdgeExamples.{WhichAreNames, ForeignFailure, CostsAtTheEdge, OutOfFirstUse, WhichAreChoices, MostAreChoices, OneMoreIsTooMany};
 ghost use Rattle.cca_laws.specs.OrderExamples.{OneImplicant, OneNeed, CauseComesLast};
-ghost use Rattle.cca_laws.specs.ObservedExamples.{PendingRises, NothingMirrored, GoalIsTurned};
+ghost use Rattle.cca_laws.specs.ObservedExamples.{PendingRises, NothingMirrored, GoalIsTurned, GoalIsKeptTurned, TickHasGoalTurned};
 ghost use Rattle.cca_laws.specs.ServeExamples.{OneOfOne, TwoOfOne, TooLate, NoneAfter, NotLost, LampIsPromised, LostBeginsNone};
 ghost use Rattle.cca_laws.specs.EventLaws.{FaultsMovePlant, ClearEndsGoal, CommandsMovePlant, UnexplainedHolds, HoldingGoesOn, TenThousandAreShown, OneMoreIsLong, LongBothWays};
 ghost use Rattle.cca_laws.specs.MoreExamples.{WrongAfterRight, BrokenIsNoGoal, MirroredIsNotObserved, OnceBeforeTick};
@@ -15,6 +15,9 @@ ghost use Rattle.cca_laws.specs.FirstExamples.{LesserWorldIsFirst, GreaterWorldI
 ghost use Rattle.cca_laws.specs.CauseExamples.{DriverServesValve, ValveServesNoDriver};
 ghost use Rattle.cca_laws.specs.MendExamples.{MendingIsCompiled, GoingIsAllowed, BackGoalIsMended, RouteComesBack};
 ghost use Rattle.cca_laws.specs.ChainExamples.{UnitIsWellFormed, OnlyInSecond, NextIsLatched, MendedIsOk, OkHasNoMended, ChainOfHung, MendingsOfHung, MendingsOfLatched, MendingsOfOk, LatchedIsNotSound, TwoCommandsMend, NoChainGoesRound, NoRepairStays, OneNextMode, OnlyRepairsEnter, OnlyRepairsLeave};
+ghost use Rattle.cca_laws.specs.ExcuseExamples.{NewGoalIsNoExcuse, GoalBetweenIsNoExcuse, ClearIsNoExcuse, RightIsFree, LastEstimateIsWrong, PlantIsSeen};
+ghost use Rattle.cca_laws.specs.WithinExamples.{ObservingEndsNoStretch, OneBoundIsStated};
+ghost use Rattle.cca_laws.specs.ChosenExamples.{FirstIsNamed, FirstMoveIsChosen, FirstCubeIsChosen};
 ghost use Rattle.cca_laws.specs.RightExamples.{WrongIsNotRight, FaultsExcuse, ResetsEndExcuses, ResetKeepsTicks};
 
 /// The empty model.
@@ -52,6 +55,7 @@ pub fn successors()
     ensures opening { OpeningIsFree }
     ensures shut { StayingShutCosts }
     ensures standing { StandingIsFree }
+    ensures lesser { LesserFailureCounts }
     ensures two_for_one { TwoForOne }
 {}
 
@@ -74,6 +78,16 @@ pub fn right()
     ensures reset { ResetKeepsTicks }
 {}
 
+/// What is no excuse for a wrong estimate, and what it is to be right.
+pub fn excuses()
+    ensures new_goal { NewGoalIsNoExcuse }
+    ensures goal { GoalBetweenIsNoExcuse }
+    ensures clear { ClearIsNoExcuse }
+    ensures free { RightIsFree }
+    ensures last { LastEstimateIsWrong }
+    ensures seen { PlantIsSeen }
+{}
+
 /// Implicants, needs and their order.
 pub fn implicants()
     ensures one { OneImplicant }
@@ -86,6 +100,8 @@ pub fn observed()
     ensures pending { PendingRises }
     ensures mirrored { NothingMirrored }
     ensures goal { GoalIsTurned }
+    ensures kept { GoalIsKeptTurned }
+    ensures tick { TickHasGoalTurned }
 {}
 
 /// Goals that are served in time, and goals that are not.
@@ -97,6 +113,12 @@ pub fn serves()
     ensures lost { NotLost }
     ensures lamp { LampIsPromised }
     ensures begins { LostBeginsNone }
+{}
+
+/// How far stretches go, and how many commands are stated.
+pub fn within()
+    ensures observing { ObservingEndsNoStretch }
+    ensures one_bound { OneBoundIsStated }
 {}
 
 /// What events and ticks change.
@@ -133,6 +155,13 @@ pub fn firsts()
     ensures greater { GreaterWorldIsNot }
     ensures estimate { PipeIsBurst }
     ensures later { PumpIsNotDead }
+{}
+
+/// What is named and what is chosen of two.
+pub fn chosen()
+    ensures named { FirstIsNamed }
+    ensures first_move { FirstMoveIsChosen }
+    ensures first_cube { FirstCubeIsChosen }
 {}
 
 /// Commands that serve a goal.

@@ -7,8 +7,8 @@ mod examples;
 mod laws;
 
 pub use examples::{
-    causes, chains, changes, edges, empty, firsts, formulas, implicants, lamp, mends, mirrors,
-    more, no_chains, observed, right, serves, successors, valve,
+    causes, chains, changes, chosen, edges, empty, excuses, firsts, formulas, implicants, lamp,
+    mends, mirrors, more, no_chains, observed, right, serves, successors, valve, within,
 };
 pub use laws::{
     compiled, conditions, costs, estimates, first_version, goals, orders, plans, traces,

@@ -1,5 +1,5 @@
 -- The events of a script, kept one after the other and then made one after the other.
-use Rattle.std.proofs.Common.{◌≡◌, ℕ, List, [], ◌∷◌, ◌++◌, Some, None, Contains, inl, inr, refl, sym, ap, subst}
+use Rattle.std.proofs.Common.{◌≡◌, ℕ, List, [], ◌∷◌, ◌++◌, Contains, inr, refl, sym, ap, subst}
 use Rattle.cca_base.specs.declared.cube.Pair.{Pair}
 use Rattle.cca_base.specs.declared.events.Event.{Event}
 use Rattle.cca_base.specs.declared.events.Event.TheVariants as event
@@ -8,11 +8,10 @@ use Rattle.cca_base.specs.PlantModel.{PlantModel}
 use Rattle.cca_base.specs.Trace.{ExecutiveState, MayCome, Changes}
 use Rattle.plan_checker.specs.Checked.{AsGiven}
 use Rattle.plan_checker.specs.Standing.{FitsModel}
-use Rattle.trace_laws.specs.Events.{IsTick, PendingAfter, mirrored_after}
+use Rattle.trace_laws.specs.Events.{PendingAfter, mirrored_after}
 use Rattle.trace_laws.proofs.PendingKnown.{one_pending}
 use Rattle.check_form.specs.CheckScript.{ScriptSoFar, with_event}
-use Rattle.check_form.specs.CheckStages.{ComeInTurn, MayComeInTurn, KeepsScript, MayComeBehind, Advances}
-use Rattle.check_form.specs.CheckTrace.{ComesTo, before_tick}
+use Rattle.check_form.specs.CheckStages.{ComeInTurn, KeepsScript, Advances}
 
 -- ---- kept
 
@@ -46,10 +45,6 @@ changed_known m x (event.Fault p) y e = (ap (λ (s : ExecutiveState). s.pending)
 changed_known m x (event.Mirror v) y e = (ap (λ (s : ExecutiveState). s.pending) e, ap (λ (s : ExecutiveState). s.mirrored) e)
 changed_known m x event.Reset y e = (ap (λ (s : ExecutiveState). s.pending) e, ap (λ (s : ExecutiveState). s.mirrored) e)
 
--- before the first event
-pub advances_first : (m : PlantModel) (x : ExecutiveState) (events : List Event) → FitsModel m x → MayComeInTurn m x.pending x.mirrored events → Advances m x events x events
-advances_first m x events fits come = record { fits = fits; come = come; back = λ t h. h }
-
 -- the next event may come
 pub next_may_come : (m : PlantModel) (x y : ExecutiveState) (events rest : List Event) (e : Event) → Advances m x events y (e ∷ rest) → MayCome m y.pending y.mirrored e
 next_may_come m x y events rest e h = h.come.2.0
@@ -67,23 +62,3 @@ advances_next m x y z events rest e h changes fits =
       come = (q, mirrors, subst (λ (k : ℕ). ComeInTurn m z.pending k rest q mirrors) (sym truly.1) later);
       back = λ t comes. h.back t (inr (z, changes, comes));
     }
-
--- at a tick
-pub advances_tick : (m : PlantModel) (x y : ExecutiveState) (events rest : List Event) (e : Event) → Advances m x events y (e ∷ rest) → IsTick e → ComesTo m x events (before_tick y (Some rest))
-advances_tick m x y events rest e h tick = h.back (before_tick y (Some rest)) (inl (tick, refl))
-
-pub behind_tick : (m : PlantModel) (x y : ExecutiveState) (events rest : List Event) (e : Event) → Advances m x events y (e ∷ rest) → IsTick e → MayComeBehind m y (Some rest)
-behind_tick m x y events rest event.Tick h tick =
-    let (q, mirrors, come) = h.come in
-    let (may, after, known, more) = come in
-    (q, mirrors, subst (λ (l : List Pair). ComeInTurn m l y.mirrored rest q mirrors) known more)
-behind_tick m x y events rest (event.Goal pairs) h tick = absurd tick
-behind_tick m x y events rest event.Clear h tick = absurd tick
-behind_tick m x y events rest (event.Observe pairs) h tick = absurd tick
-behind_tick m x y events rest (event.Fault p) h tick = absurd tick
-behind_tick m x y events rest (event.Mirror v) h tick = absurd tick
-behind_tick m x y events rest event.Reset h tick = absurd tick
-
--- behind the last event
-pub advances_last : (m : PlantModel) (x y : ExecutiveState) (events : List Event) → Advances m x events y [] → ComesTo m x events (before_tick y None)
-advances_last m x y events h = h.back (before_tick y None) refl

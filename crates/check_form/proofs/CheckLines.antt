@@ -1,5 +1,5 @@
 -- What a line of a trace leads to, by what was read of it and by the verdict on its tick.
-use Rattle.std.proofs.Common.{◌≡◌, ℕ, ◌+◌, List, [], Option, Some, None, Result, Ok, Err, IfOk, refl, sym, ap, subst, ◌∙◌}
+use Rattle.std.proofs.Common.{◌≡◌, ℕ, ◌+◌, List, Option, Some, None, Result, Ok, Err, IfOk, refl, sym, ap, subst, ◌∙◌}
 use Rattle.std.specs.declared.alloc.AllocError.{AllocError}
 use Rattle.cca_base.specs.declared.events.Event.{Event}
 use Rattle.cca_base.specs.declared.events.Shown.{Shown}
@@ -16,7 +16,7 @@ use Rattle.plan_checker.specs.declared.verdict.Verdict.{Verdict}
 use Rattle.trace_text.specs.declared.trace_line.TraceLine.{TraceLine}
 use Rattle.plan_checker.specs.Reasons.{Printed, OnEstimate, IsVerdict}
 use Rattle.plan_checker.specs.declared.verdict.Verdict.TheVariants.{Yes, No}
-use Rattle.check_form.specs.CheckStages.{MayComeInTurn, SaysOf}
+use Rattle.check_form.specs.CheckStages.{SaysOf}
 use Rattle.check_form.specs.CheckTrace.{TraceSoFar, TraceOutcome, Follows, Fails, ComesTo, SeesPairs, SaysLine, ByLines, LeadsBehind, TraceLeads}
 use Rattle.check_form.specs.TickLines.{TickLines, NotNext, More, Whole, next_lines, printed_of}
 use Rattle.check_form.specs.Verdicts.{no_line}
@@ -32,18 +32,6 @@ sees_pairs m x Holding h = tt
 pub judged_yes : (m : PlantModel) (x : TraceSoFar) (t : Printed) (y : ExecutiveState) (events : List Event) (next : TraceSoFar) → IsVerdict m x.state t Yes → ShowsSuccessor m x.state t → Takes m x.state t.report.shown y → ComesTo m y events next
     → ByLines (Whole t) m x events (Follows next)
 judged_yes m x t y events next v shows takes comes = (Yes, v, (sees_pairs m x.state t.report.shown shows, y, takes, next, comes, refl))
-
--- what is pending and mirrored behind a tick
-pending_taken : (m : PlantModel) (x : ExecutiveState) (shown : Shown) (y : ExecutiveState) → Takes m x shown y → (y.pending ≡ []) × (y.mirrored ≡ x.mirrored)
-pending_taken m x (Estimated cost state reply) y h = (ap (λ (s : ExecutiveState). s.pending) h.after, ap (λ (s : ExecutiveState). s.mirrored) h.after)
-pending_taken m x Unexplained y h = (ap (λ (s : ExecutiveState). s.pending) h, ap (λ (s : ExecutiveState). s.mirrored) h)
-pending_taken m x Holding y h = (ap (λ (s : ExecutiveState). s.pending) h, ap (λ (s : ExecutiveState). s.mirrored) h)
-
--- the later events may come behind a tick
-pub come_taken : (m : PlantModel) (x : ExecutiveState) (shown : Shown) (y : ExecutiveState) (events : List Event) → Takes m x shown y → MayComeInTurn m [] x.mirrored events → MayComeInTurn m y.pending y.mirrored events
-come_taken m x shown y events takes come =
-    let (nothing, same) = pending_taken m x shown y takes in
-    subst (λ (k : ℕ). MayComeInTurn m y.pending k events) (sym same) (subst (λ l. MayComeInTurn m l x.mirrored events) (sym nothing) come)
 
 -- ---- as the code has it
 

@@ -1,20 +1,19 @@
 //! The script of an input for `check`: its events are kept up to the line `trace`, and not made.
 
-ghost use Rattle.std.specs.Prelude.{◌≡◌, [], IfOk, OnOk};
-ghost use Rattle.cca_base.specs.Cube.{IsRising};
+ghost use Rattle.std.specs.Prelude.{◌≡◌, IfOk, OnOk};
 ghost use Rattle.cca_base.specs.Trace.{MayCome};
 ghost use Rattle.formula_syntax.specs.Lookups.{NamesFit};
-ghost use Rattle.trace_laws.specs.Events.{PendingAfter, mirrored_after};
+ghost use Rattle.trace_laws.specs.Events.{PendingAfter};
 ghost use Rattle.check_form.specs.CheckScript.{is_trace_line, no_events, with_event};
 ghost use Rattle.check_form.specs.CheckStages.{AnswersScript, KeepsScript, script_of};
 
-use cca_base::{Event, List, Model, Name, Seen, Stop, Subject, VarSet};
-use consistency::union;
+use cca_base::{Event, Model, Name, Seen, Stop, Subject, VarSet};
 use indexmap::IndexMap;
 use script_reader::read_named_event;
 use std::alloc::{AllocError, Global};
 use std::collections::VecDeque;
 use text_base::{Kind, TokenFault, is_lexeme, tokens};
+use trace_laws::{known_after, nothing_seen};
 
 /// The events of a script so far, and what they leave pending and mirrored.
 #[derive(Debug, Drop)]
@@ -48,53 +47,6 @@ fn is_trace_line(alloc: Global, line: &[u8]) -> Result<bool, AllocError>
     }
 }
 
-/// No observation, which takes no memory.
-fn nothing_pending(alloc: Global) -> Seen
-    ensures { result.pairs ≡ [] }
-{
-    Seen {
-        pairs: List::new(alloc),
-    }
-}
-
-/// What is pending after an event. The error is out of memory.
-fn pending_after(
-    alloc: Global,
-    model: &Model,
-    pending: &Seen,
-    mirrored: VarSet,
-    event: &Event,
-) -> Result<Seen, AllocError>
-    requires rising { IsRising pending.now.pairs }
-    requires may_come { MayCome model.now pending.now.pairs mirrored event.now }
-    ensures after { IfOk result (λ after. PendingAfter pending.now.pairs event.now after.pairs) }
-    ensures rising { IfOk result (λ after. IsRising after.pairs) }
-{
-    match event {
-        Event::Observe(pairs) => union(alloc, pending, pairs),
-        Event::Tick | Event::Reset => Ok(nothing_pending(alloc)),
-        Event::Goal(_) | Event::Clear | Event::Fault(_) | Event::Mirror(_) => {
-            let pairs = pending.pairs.copy(alloc)?;
-            Ok(Seen { pairs })
-        }
-    }
-}
-
-/// What is mirrored after an event.
-fn mirrored_after(model: &Model, pending: &Seen, mirrored: VarSet, event: &Event) -> VarSet
-    requires { MayCome model.now pending.now.pairs mirrored event.now }
-    ensures { result ≡ mirrored_after mirrored event.now }
-{
-    let _moves = model.moves();
-    match event {
-        Event::Mirror(v) => mirrored.with(*v),
-        Event::Reset => VarSet::empty(),
-        Event::Goal(_) | Event::Clear | Event::Observe(_) | Event::Fault(_) | Event::Tick => {
-            mirrored
-        }
-    }
-}
-
 impl ScriptEvents {
     /// Before the first line of a script.
     pub fn new(alloc: Global) -> ScriptEvents
@@ -102,20 +54,22 @@ impl ScriptEvents {
     {
         ScriptEvents {
             events: VecDeque::new(alloc),
-            pending: nothing_pending(alloc),
+            pending: nothing_seen(alloc),
             mirrored: VarSet::empty(),
         }
     }
 
     /// Keeps an event.
     fn keep(&mut self, alloc: Global, model: &Model, event: Event) -> Result<(), AllocError>
-        requires may_come { MayCome model.now (script_of self.old).pending (script_of self.old).mirrored event }
+        requires may_come { MayCome model.now (script_of self.old).pending
+            (script_of self.old).mirrored event }
         requires keeps { KeepsScript model.now (script_of self.old) }
-        ensures event { OnOk result ((after : _) × PendingAfter (script_of self.old).pending event after × (script_of self.new ≡ with_event (script_of self.old) event after)) }
+        ensures event { OnOk result ((after : _)
+            × PendingAfter (script_of self.old).pending event after
+            × (script_of self.new ≡ with_event (script_of self.old) event after)) }
         ensures keeps { KeepsScript model.now (script_of self.new) }
     {
-        let pending = pending_after(alloc, model, &self.pending, self.mirrored, &event)?;
-        let mirrored = mirrored_after(model, &self.pending, self.mirrored, &event);
+        let (pending, mirrored) = known_after(alloc, model, &self.pending, self.mirrored, &event)?;
         self.events.push_back(event)?;
         self.pending = pending;
         self.mirrored = mirrored;
@@ -132,7 +86,8 @@ impl ScriptEvents {
     ) -> Result<ScriptEnd, Stop>
         requires fit { NamesFit names.now model.now }
         requires keeps { KeepsScript model.now (script_of self.old) }
-        ensures answer { AnswersScript result model.now (script_of self.old) line.now (script_of self.new) }
+        ensures answer { AnswersScript result model.now (script_of self.old) line.now
+            (script_of self.new) }
         ensures keeps { KeepsScript model.now (script_of self.new) }
     {
         if is_trace_line(alloc, line)? {

@@ -43,9 +43,12 @@ fn advance(
 ) -> Result<Option<VecDeque<Event>>, AllocError>
     requires fits { FitsModel model.now checker.old }
     requires come { MayComeInTurn model.now checker.old.pending checker.old.mirrored events.items }
-    ensures comes { IfOk result (λ behind. ComesTo model.now checker.old events.items (before_tick checker.new (option_map (λ q. q.items) behind))) }
+    ensures comes { IfOk result (λ behind.
+        ComesTo model.now checker.old events.items (before_tick checker.new (option_map (λ q.
+        q.items) behind))) }
     ensures fits { FitsModel model.now checker.new }
-    ensures behind { IfOk result (λ behind. MayComeBehind model.now checker.new (option_map (λ q. q.items) behind)) }
+    ensures behind { IfOk result (λ behind.
+        MayComeBehind model.now checker.new (option_map (λ q. q.items) behind)) }
 {
     'events: while let Some(event) = events.pop_front() {
         if matches!(event, Event::Tick) {
@@ -75,7 +78,8 @@ impl TraceCheck {
         events: VecDeque<Event>,
     ) -> Result<TraceCheck, AllocError>
         requires come { MayComeInTurn model.now [] 0 events.items }
-        ensures comes { IfOk result (λ t. ComesTo model.now (start model.now 0) events.items (trace_of t)) }
+        ensures comes { IfOk result (λ t.
+            ComesTo model.now (start model.now 0) events.items (trace_of t)) }
         ensures keeps { IfOk result (λ t. KeepsTrace model.now (trace_of t)) }
     {
         let mut checker = Checker::open(alloc, model)?;
@@ -91,8 +95,10 @@ impl TraceCheck {
     fn go_on(&mut self, model: &Model, events: VecDeque<Event>) -> Result<(), AllocError>
         requires fits { FitsModel model.now self.old.checker }
         requires moved { self.old.behind ≡ None }
-        requires come { MayComeInTurn model.now self.old.checker.pending self.old.checker.mirrored events.items }
-        ensures comes { OnOk result (ComesTo model.now self.old.checker events.items (trace_of self.new)) }
+        requires come { MayComeInTurn model.now self.old.checker.pending self.old.checker.mirrored
+            events.items }
+        ensures comes { OnOk result (ComesTo model.now self.old.checker events.items
+            (trace_of self.new)) }
         ensures keeps { KeepsTrace model.now (trace_of self.new) }
     {
         self.behind = advance(&mut self.checker, model, events)?;
@@ -112,7 +118,9 @@ impl TraceCheck {
         requires fits { FitsModel model.now self.old.checker }
         requires moved { self.old.behind ≡ None }
         requires come { MayComeInTurn model.now [] self.old.checker.mirrored events.items }
-        ensures says { IfOk result (λ said. SaysOf (ByLines (Whole (printed_of tick.now)) model.now (waiting self.old events.items) events.items) (waiting self.old events.items) (trace_of self.new) said) }
+        ensures says { IfOk result (λ said.
+            SaysOf (ByLines (Whole (printed_of tick.now)) model.now (waiting self.old events.items)
+            events.items) (waiting self.old events.items) (trace_of self.new) said) }
         ensures keeps { KeepsTrace model.now (trace_of self.new) }
     {
         let ticks = self.checker.ticks();
@@ -143,7 +151,9 @@ impl TraceCheck {
         requires fits { FitsModel model.now self.old.checker }
         requires moved { self.old.behind ≡ None }
         requires come { MayComeInTurn model.now [] self.old.checker.mirrored events.items }
-        ensures says { IfOk result (λ said. SaysOf (TraceLeads model.now (waiting self.old events.items) line.now) (waiting self.old events.items) (trace_of self.new) said) }
+        ensures says { IfOk result (λ said.
+            SaysOf (TraceLeads model.now (waiting self.old events.items) line.now)
+            (waiting self.old events.items) (trace_of self.new) said) }
         ensures keeps { KeepsTrace model.now (trace_of self.new) }
     {
         let ticks = self.checker.ticks();
@@ -166,7 +176,9 @@ impl TraceCheck {
     pub fn line(&mut self, alloc: Global, model: &Model, line: &[u8]) -> Result<Said, AllocError>
         requires worlds { HasWorlds model.now }
         requires keeps { KeepsTrace model.now (trace_of self.old) }
-        ensures says { IfOk result (λ said. SaysOf (TraceLeads model.now (trace_of self.old) line.now) (trace_of self.old) (trace_of self.new) said) }
+        ensures says { IfOk result (λ said.
+            SaysOf (TraceLeads model.now (trace_of self.old) line.now) (trace_of self.old)
+            (trace_of self.new) said) }
         ensures keeps { KeepsTrace model.now (trace_of self.new) }
     {
         match mem::replace(&mut self.behind, None) {
@@ -177,7 +189,8 @@ impl TraceCheck {
 
     /// Takes the end of the trace.
     pub fn close(&self, alloc: Global) -> Result<(Vec<u8>, End), AllocError>
-        ensures { IfOk result (λ said. TraceCloses (trace_of self.now).behind (trace_of self.now) said.1 said.0.items) }
+        ensures { IfOk result (λ said.
+            TraceCloses (trace_of self.now).behind (trace_of self.now) said.1 said.0.items) }
     {
         let ticks = self.checker.ticks();
         match &self.behind {

@@ -20,7 +20,7 @@ pub struct Clause {
 }
 
 impl Clause {
-    /// The same clause. The error is want of memory.
+    /// The same clause. The error is out of memory.
     pub fn copy(&self, alloc: Global) -> Result<Clause, AllocError>
         ensures { IfOk result (λ r. r ≡ self.now) }
     {

@@ -13,7 +13,8 @@ use std::alloc::{AllocError, Global};
 
 /// Whether one of the clauses subsumes this one.
 fn is_absorbed(clauses: &[Clause], literals: &[Literal]) -> bool
-    ensures { IsTrue result → (xs : List ℕ) → IsTrue (all_met xs clauses.now) → IsTrue (is_met xs literals.now) }
+    ensures { IsTrue result → (xs : List ℕ) → IsTrue (all_met xs clauses.now) →
+        IsTrue (is_met xs literals.now) }
 {
     for clause in clauses {
         if subsumes(clause.literals.as_slice(), literals) {
@@ -39,8 +40,11 @@ fn without_absorbed(
     clauses: Vec<Clause>,
     literals: &[Literal],
 ) -> Result<Vec<Clause>, AllocError>
-    ensures met { IfOk result (λ r. (xs : List ℕ) → IsTrue (is_met xs literals.now) → all_met xs r.items ≡ all_met xs clauses.items) }
-    ensures fewer { IfOk result (λ r. (xs : List ℕ) → IsTrue (all_met xs clauses.items) → IsTrue (all_met xs r.items)) }
+    ensures met { IfOk result (λ r.
+        (xs : List ℕ) → IsTrue (is_met xs literals.now) →
+        all_met xs r.items ≡ all_met xs clauses.items) }
+    ensures fewer { IfOk result (λ r.
+        (xs : List ℕ) → IsTrue (all_met xs clauses.items) → IsTrue (all_met xs r.items)) }
     ensures below { IfOk result (λ r. (n : ℕ) → AllBelow n clauses.items → AllBelow n r.items) }
     ensures names { IfOk result (λ r. (x : ℕ) → AllOthers x clauses.items → AllOthers x r.items) }
 {
@@ -66,9 +70,12 @@ pub(crate) fn with_clause(
     requires few { All (λ n. n ≤ MAX_CHOICES) sizes.now }
     requires of_clause { AreBelow (length sizes.now) clause.literals }
     requires below { AllBelow (length sizes.now) clauses.items }
-    ensures met { IfOk result (λ r. (xs : List ℕ) → AreValues sizes.now xs → all_met xs r.items ≡ (all_met xs clauses.items && is_met xs clause.literals)) }
+    ensures met { IfOk result (λ r.
+        (xs : List ℕ) → AreValues sizes.now xs →
+        all_met xs r.items ≡ (all_met xs clauses.items && is_met xs clause.literals)) }
     ensures below { IfOk result (λ r. AllBelow (length sizes.now) r.items) }
-    ensures names { IfOk result (λ r. (x : ℕ) → AreOthers x clause.literals → AllOthers x clauses.items → AllOthers x r.items) }
+    ensures names { IfOk result (λ r.
+        (x : ℕ) → AreOthers x clause.literals → AllOthers x clauses.items → AllOthers x r.items) }
 {
     let literals = clause.literals.as_slice();
     if is_always_met(sizes, literals) || is_absorbed(&clauses, literals) {
@@ -92,9 +99,12 @@ fn add_row(
     requires of_more { AllBelow (length sizes.now) more.now }
     requires below { AllBelow (length sizes.now) clauses.items }
     ensures met { IfOk result (λ r. (xs : List ℕ) → AreValues sizes.now xs
-        → all_met xs r.items ≡ (all_met xs clauses.items && (is_met xs one.now.literals || all_met xs more.now))) }
+        → all_met xs r.items ≡ (all_met xs clauses.items &&
+        (is_met xs one.now.literals || all_met xs more.now))) }
     ensures below { IfOk result (λ r. AllBelow (length sizes.now) r.items) }
-    ensures names { IfOk result (λ r. (x : ℕ) → AreOthers x one.now.literals → AllOthers x more.now → AllOthers x clauses.items → AllOthers x r.items) }
+    ensures names { IfOk result (λ r.
+        (x : ℕ) → AreOthers x one.now.literals → AllOthers x more.now → AllOthers x clauses.items →
+        AllOthers x r.items) }
 {
     let mut all = clauses;
     for clause in more {
@@ -117,7 +127,8 @@ fn with_all(
     ensures met { IfOk result (λ r. (xs : List ℕ) → AreValues sizes.now xs
         → all_met xs r.items ≡ (all_met xs clauses.items && all_met xs more.items)) }
     ensures below { IfOk result (λ r. AllBelow (length sizes.now) r.items) }
-    ensures names { IfOk result (λ r. (x : ℕ) → AllOthers x clauses.items → AllOthers x more.items → AllOthers x r.items) }
+    ensures names { IfOk result (λ r.
+        (x : ℕ) → AllOthers x clauses.items → AllOthers x more.items → AllOthers x r.items) }
 {
     let mut all = clauses;
     for clause in more {
@@ -139,7 +150,8 @@ fn distributed(
     ensures met { IfOk result (λ r. (xs : List ℕ) → AreValues sizes.now xs
         → all_met xs r.items ≡ (all_met xs clauses.now || all_met xs more.now)) }
     ensures below { IfOk result (λ r. AllBelow (length sizes.now) r.items) }
-    ensures names { IfOk result (λ r. (x : ℕ) → AllOthers x clauses.now → AllOthers x more.now → AllOthers x r.items) }
+    ensures names { IfOk result (λ r.
+        (x : ℕ) → AllOthers x clauses.now → AllOthers x more.now → AllOthers x r.items) }
 {
     let mut out = Vec::new(alloc);
     for clause in clauses {
@@ -149,7 +161,7 @@ fn distributed(
 }
 
 /// Clauses that are true where both parts are, or where one is, and that name nothing more. A literal alone goes into the only
-/// clause where it comes last there. The error is want of memory.
+/// clause where it comes last there. The error is out of memory.
 pub fn combined(
     alloc: Global,
     sizes: &[u8],
@@ -160,9 +172,12 @@ pub fn combined(
     requires few { All (λ n. n ≤ MAX_CHOICES) sizes.now }
     requires below { AllBelow (length sizes.now) clauses.items }
     requires of_more { AllBelow (length sizes.now) more.items }
-    ensures met { IfOk result (λ r. (xs : List ℕ) → AreValues sizes.now xs → all_met xs r.items ≡ combine all (all_met xs clauses.items) (all_met xs more.items)) }
+    ensures met { IfOk result (λ r.
+        (xs : List ℕ) → AreValues sizes.now xs →
+        all_met xs r.items ≡ combine all (all_met xs clauses.items) (all_met xs more.items)) }
     ensures below { IfOk result (λ r. AllBelow (length sizes.now) r.items) }
-    ensures names { IfOk result (λ r. (x : ℕ) → AllOthers x clauses.items → AllOthers x more.items → AllOthers x r.items) }
+    ensures names { IfOk result (λ r.
+        (x : ℕ) → AllOthers x clauses.items → AllOthers x more.items → AllOthers x r.items) }
 {
     if all {
         return with_all(alloc, sizes, clauses, more);

@@ -9,7 +9,7 @@ use crate::clause::Clause;
 use cca_base::List;
 use std::alloc::{AllocError, Global};
 
-/// What the clauses say of the other subjects once one has a value. The error is want of memory.
+/// What the clauses say of the other subjects once one has a value. The error is out of memory.
 pub fn given(
     alloc: Global,
     clauses: &[Clause],
@@ -40,10 +40,13 @@ fn push_rest(
     ensures met { OnOk result ((xs : List ℕ) → subject < length xs
         → all_met xs clauses.new.items
         ≡ (all_met xs clauses.old.items && meets (slice_set xs subject value) clause.now)) }
-    ensures gone { OnOk result (AllOthers subject clauses.old.items → AllOthers subject clauses.new.items) }
-    ensures below { OnOk result ((n : ℕ) → AreBelow n clause.now.literals → AllBelow n clauses.old.items
+    ensures gone { OnOk result (AllOthers subject clauses.old.items →
+        AllOthers subject clauses.new.items) }
+    ensures below { OnOk result ((n : ℕ) → AreBelow n clause.now.literals →
+        AllBelow n clauses.old.items
         → AllBelow n clauses.new.items) }
-    ensures names { OnOk result ((x : ℕ) → AreOthers x clause.now.literals → AllOthers x clauses.old.items
+    ensures names { OnOk result ((x : ℕ) → AreOthers x clause.now.literals →
+        AllOthers x clauses.old.items
         → AllOthers x clauses.new.items) }
 {
     if is_made_true(clause, subject, value) {

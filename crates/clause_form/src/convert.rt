@@ -63,7 +63,9 @@ fn single(
 ) -> Result<Vec<Clause>, AllocError>
     requires few { All (λ n. n ≤ MAX_CHOICES) sizes.now }
     requires inside { subject < length sizes.now }
-    ensures met { IfOk result (λ r. (xs : List ℕ) → AreValues sizes.now xs → all_met xs r.items ≡ has values (slice_index xs subject)) }
+    ensures met { IfOk result (λ r.
+        (xs : List ℕ) → AreValues sizes.now xs →
+        all_met xs r.items ≡ has values (slice_index xs subject)) }
     ensures below { IfOk result (λ r. AllBelow (length sizes.now) r.items) }
 {
     let mut literals = List::new(alloc);

@@ -45,9 +45,13 @@ pub(crate) fn lengthened(
     literal: Literal,
 ) -> Result<Vec<Clause>, AllocError>
     requires { length clauses.items ≡ 1 }
-    ensures met { IfOk result (λ r. (xs : List ℕ) → all_met xs r.items ≡ (all_met xs clauses.items || is_true xs literal)) }
-    ensures below { IfOk result (λ r. (n : ℕ) → literal.subject < n → AllBelow n clauses.items → AllBelow n r.items) }
-    ensures names { IfOk result (λ r. (x : ℕ) → (literal.subject == x) ≡ false → AllOthers x clauses.items → AllOthers x r.items) }
+    ensures met { IfOk result (λ r.
+        (xs : List ℕ) → all_met xs r.items ≡ (all_met xs clauses.items || is_true xs literal)) }
+    ensures below { IfOk result (λ r.
+        (n : ℕ) → literal.subject < n → AllBelow n clauses.items → AllBelow n r.items) }
+    ensures names { IfOk result (λ r.
+        (x : ℕ) → (literal.subject == x) ≡ false → AllOthers x clauses.items →
+        AllOthers x r.items) }
 {
     let clause = &mut clauses[0];
     clause.literals.push(literal)?;

@@ -30,10 +30,13 @@ fn push_between(
 ) -> Result<(), AllocError>
     requires order { from ≤ to }
     requires inside { to ≤ length literals.now }
-    ensures merged { OnOk result ((others : List Literal) → AreMerged literals.now from others merged.old
+    ensures merged { OnOk result ((others : List Literal) →
+        AreMerged literals.now from others merged.old
         → AreMerged literals.now to others merged.new) }
-    ensures below { OnOk result ((n : ℕ) → AreBelow n literals.now → AreBelow n merged.old → AreBelow n merged.new) }
-    ensures names { OnOk result ((x : ℕ) → AreOthers x literals.now → AreOthers x merged.old → AreOthers x merged.new) }
+    ensures below { OnOk result ((n : ℕ) → AreBelow n literals.now → AreBelow n merged.old →
+        AreBelow n merged.new) }
+    ensures names { OnOk result ((x : ℕ) → AreOthers x literals.now → AreOthers x merged.old →
+        AreOthers x merged.new) }
 {
     for at in from..to {
         merged.push(literals[at])?;
@@ -50,10 +53,13 @@ fn push_with(
 ) -> Result<usize, AllocError>
     requires { at ≤ length literals.now }
     ensures inside { IfOk result (λ next. next ≤ length literals.now) }
-    ensures merged { IfOk result (λ next. (others : List Literal) → AreMerged literals.now at others merged.old
+    ensures merged { IfOk result (λ next.
+        (others : List Literal) → AreMerged literals.now at others merged.old
         → AreMerged literals.now next (others ++ literal ∷ []) merged.new) }
-    ensures below { OnOk result ((n : ℕ) → literal.subject < n → AreBelow n merged.old → AreBelow n merged.new) }
-    ensures names { OnOk result ((x : ℕ) → AreOthers x (literal ∷ []) → AreOthers x merged.old → AreOthers x merged.new) }
+    ensures below { OnOk result ((n : ℕ) → literal.subject < n → AreBelow n merged.old →
+        AreBelow n merged.new) }
+    ensures names { OnOk result ((x : ℕ) → AreOthers x (literal ∷ []) → AreOthers x merged.old →
+        AreOthers x merged.new) }
 {
     if at < literals.len() && literals[at].subject == literal.subject {
         let values = literals[at].values.union(literal.values);
@@ -67,11 +73,16 @@ fn push_with(
     Ok(at)
 }
 
-/// True where one of the two is. The error is want of memory.
+/// True where one of the two is. The error is out of memory.
 pub(crate) fn disjoined(alloc: Global, a: &Clause, b: &Clause) -> Result<Clause, AllocError>
-    ensures met { IfOk result (λ c. (xs : List ℕ) → is_met xs c.literals ≡ (is_met xs a.now.literals || is_met xs b.now.literals)) }
-    ensures below { IfOk result (λ c. (n : ℕ) → AreBelow n a.now.literals → AreBelow n b.now.literals → AreBelow n c.literals) }
-    ensures names { IfOk result (λ c. (x : ℕ) → AreOthers x a.now.literals → AreOthers x b.now.literals → AreOthers x c.literals) }
+    ensures met { IfOk result (λ c.
+        (xs : List ℕ) → is_met xs c.literals
+        ≡ (is_met xs a.now.literals || is_met xs b.now.literals)) }
+    ensures below { IfOk result (λ c.
+        (n : ℕ) → AreBelow n a.now.literals → AreBelow n b.now.literals → AreBelow n c.literals) }
+    ensures names { IfOk result (λ c.
+        (x : ℕ) → AreOthers x a.now.literals → AreOthers x b.now.literals →
+        AreOthers x c.literals) }
 {
     let first = a.literals.as_slice();
     let mut literals = List::new(alloc);

@@ -6,7 +6,7 @@ ghost use Rattle.clause_form.specs.Clauses.{names_one};
 use crate::clause::Clause;
 use std::alloc::{AllocError, Global};
 
-/// The same clauses. The error is want of memory.
+/// The same clauses. The error is out of memory.
 pub fn copies(alloc: Global, clauses: &[Clause]) -> Result<Vec<Clause>, AllocError>
     ensures { IfOk result (λ r. r.items ≡ clauses.now) }
 {
@@ -17,7 +17,7 @@ pub fn copies(alloc: Global, clauses: &[Clause]) -> Result<Vec<Clause>, AllocErr
     Ok(all)
 }
 
-/// The clauses that name the subject. The error is want of memory.
+/// The clauses that name the subject. The error is out of memory.
 pub fn naming(alloc: Global, clauses: &[Clause], subject: u16) -> Result<Vec<Clause>, AllocError>
     ensures { IfOk result (λ r. r.items ≡ filter (names_one (λ u. u == subject)) clauses.now) }
 {
@@ -32,7 +32,8 @@ pub fn naming(alloc: Global, clauses: &[Clause], subject: u16) -> Result<Vec<Cla
 
 /// Keeps the clauses that don't name the subject.
 pub fn keep_others(clauses: &mut Vec<Clause>, subject: u16)
-    ensures { clauses.new.items ≡ filter (λ clause. not (names_one (λ u. u == subject) clause)) clauses.old.items }
+    ensures { clauses.new.items
+        ≡ filter (λ clause. not (names_one (λ u. u == subject) clause)) clauses.old.items }
 {
     clauses.retain(|clause| !clause.names(subject));
 }

@@ -29,7 +29,7 @@ fn add_value_counts(sizes: &mut List<u8>, variables: &[Variable]) -> Result<(), 
     Ok(())
 }
 
-/// How many modes each component has, and then how many values each variable. The error is want of memory.
+/// How many modes each component has, and then how many values each variable. The error is out of memory.
 pub fn sizes_of(alloc: Global, model: &Model) -> Result<List<u8>, AllocError>
     ensures sizes { IfOk result (λ r. r ≡ mode_counts model.now ++ value_counts model.now) }
     ensures few { IfOk result (All (λ n. n ≤ MAX_CHOICES)) }

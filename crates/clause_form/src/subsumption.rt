@@ -10,7 +10,8 @@ use cca_base::ValueSet;
 
 /// Whether the second is of the same subject, and has the first one's values.
 fn is_part(one: &Literal, other: &Literal) -> bool
-    ensures { IsTrue result → (xs : List ℕ) → IsTrue (is_true xs one.now) → IsTrue (is_true xs other.now) }
+    ensures { IsTrue result → (xs : List ℕ) → IsTrue (is_true xs one.now) →
+        IsTrue (is_true xs other.now) }
 {
     one.subject == other.subject && one.values.is_within(other.values)
 }
@@ -18,7 +19,8 @@ fn is_part(one: &Literal, other: &Literal) -> bool
 /// Whether the narrow clause subsumes the wide one, which is then true wherever the narrow one is. Both are gone through
 /// once, in the order of subjects; a clause that isn't in this order may be missed.
 pub(crate) fn subsumes(narrow: &[Literal], wide: &[Literal]) -> bool
-    ensures { IsTrue result → (xs : List ℕ) → IsTrue (is_met xs narrow.now) → IsTrue (is_met xs wide.now) }
+    ensures { IsTrue result → (xs : List ℕ) → IsTrue (is_met xs narrow.now) →
+        IsTrue (is_met xs wide.now) }
 {
     if narrow.len() > wide.len() {
         return false;
@@ -37,7 +39,8 @@ pub(crate) fn subsumes(narrow: &[Literal], wide: &[Literal]) -> bool
 pub(crate) fn is_always_met(sizes: &[u8], literals: &[Literal]) -> bool
     requires few { All (λ n. n ≤ MAX_CHOICES) sizes.now }
     requires below { AreBelow (length sizes.now) literals.now }
-    ensures { IsTrue result → (xs : List ℕ) → AreValues sizes.now xs → IsTrue (is_met xs literals.now) }
+    ensures { IsTrue result → (xs : List ℕ) → AreValues sizes.now xs →
+        IsTrue (is_met xs literals.now) }
 {
     for literal in literals {
         let all = ValueSet::full(sizes[literal.subject as usize]);

@@ -29,7 +29,8 @@ fn add_formula(
     requires numbered { length sizes.now ≤ MAX_SUBJECTS }
     requires within { IsTrue (is_within components (length sizes.now - components) formula.now) }
     requires below { AllBelow (length sizes.now) clauses.old }
-    ensures adds { OnOk result (Adds components sizes.now (λ modes values. agrees wanted (truth modes values formula.now)) clauses.old clauses.new) }
+    ensures adds { OnOk result (Adds components sizes.now (λ modes values.
+        agrees wanted (truth modes values formula.now)) clauses.old clauses.new) }
     ensures below { OnOk result (AllBelow (length sizes.now) clauses.new) }
 {
     for clause in clauses_where(alloc, components, sizes, formula, wanted)? {
@@ -49,9 +50,11 @@ fn add_rules(
     requires few { All (λ n. n ≤ MAX_CHOICES) sizes.now }
     requires split { components ≤ length sizes.now }
     requires numbered { length sizes.now ≤ MAX_SUBJECTS }
-    requires within { All (λ rule. IsTrue (is_within components (length sizes.now - components) rule)) rules.now }
+    requires within { All (λ rule.
+        IsTrue (is_within components (length sizes.now - components) rule)) rules.now }
     requires below { AllBelow (length sizes.now) clauses.old }
-    ensures adds { OnOk result (Adds components sizes.now (λ modes values. list_all (truth modes values) rules.now) clauses.old clauses.new) }
+    ensures adds { OnOk result (Adds components sizes.now (λ modes values.
+        list_all (truth modes values) rules.now) clauses.old clauses.new) }
     ensures below { OnOk result (AllBelow (length sizes.now) clauses.new) }
 {
     for rule in rules {
@@ -72,7 +75,8 @@ fn add_pair(
     requires inside { pair.item < components }
     requires split { components ≤ length sizes.now }
     requires below { AllBelow (length sizes.now) clauses.old }
-    ensures adds { OnOk result (Adds components sizes.now (λ modes values. slice_index modes pair.item == pair.value) clauses.old clauses.new) }
+    ensures adds { OnOk result (Adds components sizes.now (λ modes values.
+        slice_index modes pair.item == pair.value) clauses.old clauses.new) }
     ensures below { OnOk result (AllBelow (length sizes.now) clauses.new) }
 {
     let mut literals = List::new(alloc);
@@ -94,7 +98,8 @@ fn add_fixed(
     requires fixed { ForSome fixed (λ p. (p.item < components) × (p.value < MAX_CHOICES)) }
     requires split { components ≤ length sizes.now }
     requires below { AllBelow (length sizes.now) clauses.old }
-    ensures adds { OnOk result (Adds components sizes.now (λ modes values. has_fixed modes fixed) clauses.old clauses.new) }
+    ensures adds { OnOk result (Adds components sizes.now (λ modes values.
+        has_fixed modes fixed) clauses.old clauses.new) }
     ensures below { OnOk result (AllBelow (length sizes.now) clauses.new) }
 {
     match fixed {
@@ -114,9 +119,11 @@ fn add_denied(
     requires few { All (λ n. n ≤ MAX_CHOICES) sizes.now }
     requires split { components ≤ length sizes.now }
     requires numbered { length sizes.now ≤ MAX_SUBJECTS }
-    requires within { ForSome denied (λ f. IsTrue (is_within components (length sizes.now - components) f.now)) }
+    requires within { ForSome denied (λ f.
+        IsTrue (is_within components (length sizes.now - components) f.now)) }
     requires below { AllBelow (length sizes.now) clauses.old }
-    ensures adds { OnOk result (Adds components sizes.now (λ modes values. is_denied modes values (option_copied denied.entry)) clauses.old clauses.new) }
+    ensures adds { OnOk result (Adds components sizes.now (λ modes values.
+        is_denied modes values (option_copied denied.entry)) clauses.old clauses.new) }
     ensures below { OnOk result (AllBelow (length sizes.now) clauses.new) }
 {
     match denied {
@@ -135,7 +142,8 @@ pub fn clauses_of(
     denied: Option<&Formula>,
 ) -> Result<Clauses, AllocError>
     requires fixed { ForSome fixed (λ p. HasMode model.now p.item p.value) }
-    requires denied { ForSome denied (λ f. IsTrue (is_within (length model.now.components) (length model.now.variables) f.now)) }
+    requires denied { ForSome denied (λ f.
+        IsTrue (is_within (length model.now.components) (length model.now.variables) f.now)) }
     ensures { IfOk result (AreClausesOf model.now fixed (option_copied denied.entry)) }
 {
     let components = model.components().len() as u16;
@@ -155,13 +163,14 @@ pub fn clauses_of(
 }
 
 /// Signed clauses over the model's components, and after them its variables. They are all true exactly where the formula
-/// is false. The error is want of memory.
+/// is false. The error is out of memory.
 pub fn denied_clauses(
     alloc: Global,
     model: &Model,
     formula: &Formula,
 ) -> Result<Clauses, AllocError>
-    requires { IsTrue (is_within (length model.now.components) (length model.now.variables) formula.now) }
+    requires { IsTrue (is_within (length model.now.components) (length model.now.variables)
+        formula.now) }
     ensures { IfOk result (AreDenying model.now formula.now) }
 {
     let components = model.components().len() as u16;

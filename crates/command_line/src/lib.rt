@@ -52,7 +52,8 @@ fn run_over<S: Source, K: Sink>(
 ) -> ExitCode
     requires { HasRoomForWords (asked words.now.items) (S.left source.old) (K.space sink.old) }
     ensures status { (s : Status) × (exit_status result ≡ status_number s)
-        × OfInput (asked words.now.items) (S.left source.old) (λ input. WritesAs s (K.written sink.old) (K.written sink.new) (IsOutcome words.now.items input)) }
+        × OfInput (asked words.now.items) (S.left source.old) (λ input.
+        WritesAs s (K.written sink.old) (K.written sink.new) (IsOutcome words.now.items input)) }
     ensures few { exit_status result ≤ 6 }
 {
     exit_code(titan(alloc, words, source, sink))

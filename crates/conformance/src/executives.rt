@@ -43,7 +43,8 @@ fn is_report(report: &Option<TickReport>, comes: Comes<'_>) -> bool {
 
 /// The event of a line, as the executive stands.
 pub fn event_of(alloc: Global, executive: &Executive, line: &str) -> Option<Event>
-    ensures { IfSome result (MayCome executive.now.compiled.model executive.now.state.pending executive.now.state.mirrored) }
+    ensures { IfSome result (MayCome executive.now.compiled.model executive.now.state.pending
+        executive.now.state.mirrored) }
 {
     let model = executive.compiled().model();
     match read_event(

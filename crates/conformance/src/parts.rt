@@ -163,7 +163,8 @@ pub fn seen(alloc: Global, model: &Model, pairs: Pairs<'_>) -> Option<Seen>
 }
 
 fn is_in(model: &Model, subject: Subject) -> bool
-    ensures { IsTrue result → IsTrue (subject_within (length model.now.components) (length model.now.variables) subject) }
+    ensures { IsTrue result →
+        IsTrue (subject_within (length model.now.components) (length model.now.variables) subject) }
 {
     match subject {
         Subject::Component(c) => (c as usize) < model.components().len(),
@@ -173,7 +174,8 @@ fn is_in(model: &Model, subject: Subject) -> bool
 
 /// That a subject of the model has the value.
 pub fn is(model: &Model, subject: Subject, value: u8) -> Option<Formula>
-    ensures { IfSome result (λ f. IsTrue (is_within (length model.now.components) (length model.now.variables) f)) }
+    ensures { IfSome result (λ f.
+        IsTrue (is_within (length model.now.components) (length model.now.variables) f)) }
 {
     if value as usize >= MAX_CHOICES || !is_in(model, subject) {
         return None;

@@ -17,12 +17,15 @@ pub fn run_steady(
     source: &mut SteadySource,
     sink: &mut SteadySink,
 ) -> Status
-    requires { HasRoomForWords (asked words.now.items) (steady_left source.old) (steady_space sink.old) }
+    requires { HasRoomForWords (asked words.now.items) (steady_left source.old)
+        (steady_space sink.old) }
     ensures read { result ≢ Status.ReadFault }
     ensures write { result ≢ Status.WriteFault }
-    ensures ended { OfInput (asked words.now.items) (steady_left source.old) (λ input. NothingRefused (asked words.now.items) input →
+    ensures ended { OfInput (asked words.now.items) (steady_left source.old) (λ input.
+        NothingRefused (asked words.now.items) input →
         (result ≡ Status.Ended) ⊎ (result ≡ Status.Memory)) }
-    ensures refused { OfInput (asked words.now.items) (steady_left source.old) (λ input. SomeRefused (asked words.now.items) input →
+    ensures refused { OfInput (asked words.now.items) (steady_left source.old) (λ input.
+        SomeRefused (asked words.now.items) input →
         (result ≡ Status.Refused) ⊎ (result ≡ Status.Memory)) }
 {
     titan(alloc, words, source, sink)

@@ -112,7 +112,8 @@ fn stays_on_chain(tables: &Tables, from: &State, to: &State, component: u16) -> 
     requires to { CoversState tables.now.classes to.now.modes }
     requires within { component < length tables.now.classes.compiled.model.components }
     ensures { IsTrue result → IsStuck tables.now.classes to.now.modes component
-        → IsInChain tables.now.classes.compiled.model.moves component (slice_index to.now.modes component) (slice_index from.now.modes component) }
+        → IsInChain tables.now.classes.compiled.model.moves component
+        (slice_index to.now.modes component) (slice_index from.now.modes component) }
 {
     let classes = tables.classes();
     let model = classes.compiled().model();
@@ -144,7 +145,8 @@ pub fn stays_stuck(tables: &Tables, from: &State, to: &State) -> bool
 
 fn are_sound(model: &Model, pairs: &[Pair]) -> bool
     ensures modes { IsTrue result → All (λ p. HasMode model.now p.item p.value) pairs.now }
-    ensures sound { IsTrue result → All (λ p. is_broken model.now.moves p.item p.value ≡ false) pairs.now }
+    ensures sound { IsTrue result →
+        All (λ p. is_broken model.now.moves p.item p.value ≡ false) pairs.now }
 {
     pairs.iter().all(|p| has_mode(model, p.item, p.value) && !model.broken(p.item, p.value))
 }
@@ -172,7 +174,8 @@ fn is_reached_by<L: Ledger>(tables: &Tables, state: &State, goal: &Goal, blank: 
     requires some { 0 < blank.parts }
     requires covers { CoversState tables.now.classes state.now.modes }
     requires goal { IsGoal tables.now.classes.compiled goal.now.pairs }
-    ensures { IsTrue result → AreReached tables.now.classes.compiled.model state.now.modes goal.now.pairs }
+    ensures { IsTrue result →
+        AreReached tables.now.classes.compiled.model state.now.modes goal.now.pairs }
 {
     let mut steps = Steps::<L>::of(blank);
     match next_command(tables, state, goal, &mut steps) {
@@ -185,7 +188,8 @@ fn is_reached_by<L: Ledger>(tables: &Tables, state: &State, goal: &Goal, blank: 
 pub fn is_reached(tables: &Tables, state: &State, goal: &Goal) -> bool
     requires covers { CoversState tables.now.classes state.now.modes }
     requires goal { IsGoal tables.now.classes.compiled goal.now.pairs }
-    ensures { IsTrue result → AreReached tables.now.classes.compiled.model state.now.modes goal.now.pairs }
+    ensures { IsTrue result →
+        AreReached tables.now.classes.compiled.model state.now.modes goal.now.pairs }
 {
     is_reached_by::<Brand>(tables, state, goal, Blank::new(1))
 }

@@ -1,10 +1,9 @@
 -- Solutions where one value of one subject is excluded.
-use Rattle.std.proofs.Common.{◌≡◌, ◌≢◌, ◌==◌, ◌&&◌, ◌<◌, not, ℕ, true, List, length, slice_index, sym, ap, subst, ◌∙◌, inl, inr, arith}
+use Rattle.std.proofs.Common.{◌≡◌, ◌≢◌, ◌==◌, ◌&&◌, ◌<◌, not, ℕ, true, List, length, slice_index, sym, ap, subst, ◌∙◌, inl, inr}
 use Rattle.std.specs.Prelude.{nat_lt}
 use Rattle.std.proofs.lemmas.Bool.{cases_eq, and_parts, and_from, lt-ltb, eq-eqb, ne_eqb, not_from_true, not_from_false, false≢true}
 use Rattle.cca_base.specs.Sets.{has}
 use Rattle.cca_base.specs.declared.limits.TheConstants.{MAX_CHOICES}
-use Rattle.clause_form.specs.Clauses.{AllBelow}
 use Rattle.clause_form.specs.declared.clause.Clause.{Clause}
 use Rattle.consistency.specs.Problem.{IsProblem}
 use Rattle.consistency.specs.Search.{IsSolution}
@@ -18,13 +17,6 @@ module _ (clauses : List Clause) (base narrower : List ℕ) (subject value : ℕ
         ap (λ (j : ℕ). has (slice_index base j) v) e ∙ parts.0)
     | inr ne ↦ ap (λ (s : ℕ). has s v) (sym (others d ne)) ∙ h
   ]
-
-  pub narrower_proper : IsProblem clauses narrower
-  narrower_proper = record {
-    small = omega (arith, full, proper.small);
-    within = subst (λ n. AllBelow n clauses) (sym full) proper.within;
-    few = λ d v h. proper.few d v (inside d v h);
-  }
 
   pub other_solution : (xs : List ℕ) → IsSolution clauses narrower xs → IsSolution clauses base xs × (slice_index xs subject ≢ value)
   other_solution xs h = (

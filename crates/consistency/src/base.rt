@@ -17,7 +17,9 @@ use std::alloc::{AllocError, Global};
 fn whole_sets(alloc: Global, sizes: &[u8]) -> Result<Vec<ValueSet>, AllocError>
     requires { All (λ n. n ≤ MAX_CHOICES) sizes.now }
     ensures full { IfOk result (λ r. length r.items ≡ length sizes.now) }
-    ensures values { IfOk result (λ r. (d v : ℕ) → d < length sizes.now → has (slice_index r.items d) v ≡ nat_lt v (slice_index sizes.now d)) }
+    ensures values { IfOk result (λ r.
+        (d v : ℕ) → d < length sizes.now →
+        has (slice_index r.items d) v ≡ nat_lt v (slice_index sizes.now d)) }
 {
     let mut sets = Vec::with_capacity(alloc, sizes.len())?;
     for size in sizes {
@@ -30,7 +32,9 @@ fn whole_sets(alloc: Global, sizes: &[u8]) -> Result<Vec<ValueSet>, AllocError>
 fn restricted(sets: Vec<ValueSet>, first: usize, pairs: &[Pair]) -> Vec<ValueSet>
     requires pairs { ArePairs (length sets.items) first pairs.now }
     ensures full { length result.items ≡ length sets.items }
-    ensures values { (d v : ℕ) → d < length sets.items → has (slice_index result.items d) v ≡ (has (slice_index sets.items d) v && allows first pairs.now d v) }
+    ensures values { (d v : ℕ) → d < length sets.items →
+        has (slice_index result.items d) v
+        ≡ (has (slice_index sets.items d) v && allows first pairs.now d v) }
 {
     let mut left = sets;
     for pair in pairs {
@@ -70,7 +74,8 @@ pub fn model_base(
     requires clauses { AreClauses (clauses_in problem.now) }
     requires modes { All (λ p. HasMode model.now p.item p.value) modes.now }
     requires seen { All (λ p. HasValue model.now p.item p.value) seen.now }
-    ensures base { IfOk result (λ r. IsBase problem.now.sizes (length model.now.components) modes.now seen.now r.items) }
+    ensures base { IfOk result (λ r.
+        IsBase problem.now.sizes (length model.now.components) modes.now seen.now r.items) }
     ensures proper { IfOk result (λ r. IsProblem problem.now.clauses r.items) }
 {
     let components = model.components().len();

@@ -23,7 +23,9 @@ pub fn find_world(
 ) -> Result<Option<Found>, AllocError>
     requires modes { All (λ p. HasMode model.now p.item p.value) modes.now }
     requires seen { All (λ p. HasValue model.now p.item p.value) seen.now.pairs }
-    ensures some { IfOk result (λ o. IfSome o (λ f. IsFirstOf (Fits model.now modes.now seen.now.pairs) f.state.modes f.world.values)) }
+    ensures some { IfOk result (λ o.
+        IfSome o (λ f. IsFirstOf (Fits model.now modes.now seen.now.pairs) f.state.modes
+        f.world.values)) }
     ensures none { IfOk result (λ o. IsNone o → NoneFits model.now modes.now seen.now.pairs) }
 {
     let worlds = Worlds::of(alloc, model)?;
@@ -39,8 +41,11 @@ pub fn find_counter(
     formula: &Formula,
 ) -> Result<Option<Found>, AllocError>
     requires modes { All (λ p. HasMode model.now p.item p.value) modes.now }
-    requires formula { IsTrue (is_within (length model.now.components) (length model.now.variables) formula.now) }
-    ensures some { IfOk result (λ o. IfSome o (λ f. IsFirstOf (Counters model.now modes.now formula.now) f.state.modes f.world.values)) }
+    requires formula { IsTrue (is_within (length model.now.components) (length model.now.variables)
+        formula.now) }
+    ensures some { IfOk result (λ o.
+        IfSome o (λ f. IsFirstOf (Counters model.now modes.now formula.now) f.state.modes
+        f.world.values)) }
     ensures none { IfOk result (λ o. IsNone o → Follows model.now modes.now formula.now) }
 {
     let worlds = Worlds::of(alloc, model)?;
@@ -58,7 +63,8 @@ pub fn conflict(
 ) -> Result<Option<Cube>, AllocError>
     requires state { IsState model.now state.now.modes }
     requires seen { All (λ p. HasValue model.now p.item p.value) seen.now.pairs }
-    ensures some { IfOk result (λ o. IfSome o (IsConflict model.now state.now.modes seen.now.pairs)) }
+    ensures some { IfOk result (λ o.
+        IfSome o (IsConflict model.now state.now.modes seen.now.pairs)) }
     ensures none { IfOk result (λ o. IsNone o ↔ CanShow model.now state.now.modes seen.now.pairs) }
 {
     let worlds = Worlds::of(alloc, model)?;

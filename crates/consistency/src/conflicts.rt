@@ -58,8 +58,10 @@ fn core_left(
     requires cube { IsCube (kept.now ++ behind.now) }
     requires modes { All (λ p. HasMode model.now p.item p.value) (kept.now ++ behind.now) }
     requires seen { All (λ p. HasValue model.now p.item p.value) seen.now.pairs }
-    ensures some { IfOk result (λ o. IfSome o (IsCore model.now seen.now.pairs (kept.now ++ behind.now))) }
-    ensures none { IfOk result (λ o. IsNone o → IsShowable model.now seen.now.pairs (kept.now ++ behind.now)) }
+    ensures some { IfOk result (λ o.
+        IfSome o (IsCore model.now seen.now.pairs (kept.now ++ behind.now))) }
+    ensures none { IfOk result (λ o.
+        IsNone o → IsShowable model.now seen.now.pairs (kept.now ++ behind.now)) }
 {
     let others = joined(alloc, kept, behind)?;
     core_of(alloc, model, worlds, &others, seen)
@@ -109,8 +111,10 @@ impl Worlds {
         requires of { AreWorldsOf model.now self.now }
         requires state { IsState model.now state.now.modes }
         requires seen { All (λ p. HasValue model.now p.item p.value) seen.now.pairs }
-        ensures some { IfOk result (λ o. IfSome o (IsConflict model.now state.now.modes seen.now.pairs)) }
-        ensures none { IfOk result (λ o. IsNone o ↔ CanShow model.now state.now.modes seen.now.pairs) }
+        ensures some { IfOk result (λ o.
+            IfSome o (IsConflict model.now state.now.modes seen.now.pairs)) }
+        ensures none { IfOk result (λ o.
+            IsNone o ↔ CanShow model.now state.now.modes seen.now.pairs) }
     {
         let pairs = all_pairs(alloc, model, state)?;
         match core_of(alloc, model, self, &pairs, seen)? {

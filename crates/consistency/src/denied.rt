@@ -29,7 +29,8 @@ pub fn denied_problem(
     formula: &Formula,
 ) -> Result<Problem, AllocError>
     requires rules { AreClausesOf model.now None None (clauses_in rules.now) }
-    requires formula { IsTrue (is_within (length model.now.components) (length model.now.variables) formula.now) }
+    requires formula { IsTrue (is_within (length model.now.components) (length model.now.variables)
+        formula.now) }
     ensures { IfOk result (λ p. AreClausesOf model.now None (Some formula.now) (clauses_in p)) }
 {
     let Clauses { sizes, mut clauses } = denied_clauses(alloc, model, formula)?;

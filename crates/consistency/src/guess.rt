@@ -113,7 +113,8 @@ pub fn solution_in(
     requires proper { IsProblem problem.now.clauses base.now }
     requires full { length sets.now ≡ length base.now }
     ensures some { IfOk result (λ o. IfSome o (IsSolution problem.now.clauses base.now)) }
-    ensures none { IfOk result (λ o. IsNone o → (xs : List ℕ) → IsSolution problem.now.clauses base.now xs → ⊥) }
+    ensures none { IfOk result (λ o.
+        IsNone o → (xs : List ℕ) → IsSolution problem.now.clauses base.now xs → ⊥) }
 {
     let mut left = Vec::from_slice(alloc, sets)?;
     let guessed = guess(alloc, problem, base, &mut left)?;
@@ -131,7 +132,8 @@ pub fn any_solution(
 ) -> Result<Option<List<u8>>, AllocError>
     requires { IsProblem problem.now.clauses base.now }
     ensures some { IfOk result (λ o. IfSome o (IsSolution problem.now.clauses base.now)) }
-    ensures none { IfOk result (λ o. IsNone o → (xs : List ℕ) → IsSolution problem.now.clauses base.now xs → ⊥) }
+    ensures none { IfOk result (λ o.
+        IsNone o → (xs : List ℕ) → IsSolution problem.now.clauses base.now xs → ⊥) }
 {
     let guessed = guessed(alloc, problem, base)?;
     if guessed.is_some() {

@@ -94,8 +94,10 @@ impl Worlds {
         requires unmirrored { All (λ p. has mirrored p.item ≡ false) pending.now.pairs }
         requires pending { All (λ p. HasValue model.now p.item p.value) pending.now.pairs }
         requires mirror { IsMirror model.now mirror.old }
-        ensures seen { IfOk result (λ seen. IsObserved model.now plant.now.modes mirrored pending.now.pairs seen.pairs) }
-        ensures values { IfOk result (λ seen. All (λ p. HasValue model.now p.item p.value) seen.pairs) }
+        ensures seen { IfOk result (λ seen.
+            IsObserved model.now plant.now.modes mirrored pending.now.pairs seen.pairs) }
+        ensures values { IfOk result (λ seen.
+            All (λ p. HasValue model.now p.item p.value) seen.pairs) }
         ensures mirror { IsMirror model.now mirror.new }
     {
         self.renew(alloc, model, plant, mirrored, &mut mirror.last)?;

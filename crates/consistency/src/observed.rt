@@ -17,7 +17,8 @@ pub fn union(alloc: Global, seen: &Seen, pairs: &List<Pair>) -> Result<Seen, All
     requires rising { IsRising seen.now.pairs }
     requires once { IsCube pairs.now }
     requires new { All (λ p. Lacks p.item seen.now.pairs) pairs.now }
-    ensures { IfOk result (λ both. IsUnion (Contains seen.now.pairs) (Contains pairs.now) both.pairs) }
+    ensures { IfOk result (λ both.
+        IsUnion (Contains seen.now.pairs) (Contains pairs.now) both.pairs) }
 {
     let mut both = Vec::from_slice(alloc, seen.pairs.as_slice())?;
     both.extend_from_slice(pairs.as_slice())?;
@@ -44,8 +45,10 @@ impl Worlds {
         requires rising { IsRising pending.now.pairs }
         requires unmirrored { All (λ p. has mirrored p.item ≡ false) pending.now.pairs }
         requires pending { All (λ p. HasValue model.now p.item p.value) pending.now.pairs }
-        ensures seen { IfOk result (λ seen. IsObserved model.now plant.now.modes mirrored pending.now.pairs seen.pairs) }
-        ensures values { IfOk result (λ seen. All (λ p. HasValue model.now p.item p.value) seen.pairs) }
+        ensures seen { IfOk result (λ seen.
+            IsObserved model.now plant.now.modes mirrored pending.now.pairs seen.pairs) }
+        ensures values { IfOk result (λ seen.
+            All (λ p. HasValue model.now p.item p.value) seen.pairs) }
     {
         let mut mirror = Mirror::new();
         self.observed_by(alloc, model, plant, mirrored, pending, &mut mirror)

@@ -34,8 +34,11 @@ fn excluded(
 ) -> Result<Vec<ValueSet>, AllocError>
     requires { subject < length sets.now }
     ensures full { IfOk result (λ r. length r.items ≡ length sets.now) }
-    ensures at { IfOk result (λ r. (m : ℕ) → has (slice_index r.items subject) m ≡ (has (slice_index sets.now subject) m && (nat_lt m MAX_CHOICES && not (m == value)))) }
-    ensures others { IfOk result (λ r. (d : ℕ) → d ≢ subject → slice_index r.items d ≡ slice_index sets.now d) }
+    ensures at { IfOk result (λ r.
+        (m : ℕ) → has (slice_index r.items subject) m
+        ≡ (has (slice_index sets.now subject) m && (nat_lt m MAX_CHOICES && not (m == value)))) }
+    ensures others { IfOk result (λ r.
+        (d : ℕ) → d ≢ subject → slice_index r.items d ≡ slice_index sets.now d) }
 {
     let mut narrower = Vec::from_slice(alloc, sets)?;
     narrower[subject] = narrower[subject].common(all_but(value));
@@ -52,8 +55,12 @@ fn has_other(
 ) -> Result<bool, AllocError>
     requires proper { IsProblem problem.now.clauses base.now }
     requires subject { subject < length base.now }
-    ensures yes { IfOk result (λ b. b ≡ true → (xs : List ℕ) × IsSolution problem.now.clauses base.now xs × (slice_index xs subject ≢ value)) }
-    ensures no { IfOk result (λ b. b ≡ false → (xs : List ℕ) → IsSolution problem.now.clauses base.now xs → slice_index xs subject ≡ value) }
+    ensures yes { IfOk result (λ b.
+        b ≡ true → (xs : List ℕ) × IsSolution problem.now.clauses base.now xs
+        × (slice_index xs subject ≢ value)) }
+    ensures no { IfOk result (λ b.
+        b ≡ false → (xs : List ℕ) → IsSolution problem.now.clauses base.now xs →
+        slice_index xs subject ≡ value) }
 {
     let narrower = excluded(alloc, base, subject, value)?;
     match any_solution(alloc, problem, narrower.as_slice())? {
@@ -75,8 +82,12 @@ pub fn is_forced(
     requires bounds { AreBounds problem.now.clauses base.now sets.now }
     requires subject { subject < length base.now }
     requires small { value < MAX_CHOICES }
-    ensures yes { IfOk result (λ b. b ≡ true → (xs : List ℕ) → IsSolution problem.now.clauses base.now xs → slice_index xs subject ≡ value) }
-    ensures no { IfOk result (λ b. b ≡ false → (xs : List ℕ) × IsSolution problem.now.clauses base.now xs × (slice_index xs subject ≢ value)) }
+    ensures yes { IfOk result (λ b.
+        b ≡ true → (xs : List ℕ) → IsSolution problem.now.clauses base.now xs →
+        slice_index xs subject ≡ value) }
+    ensures no { IfOk result (λ b.
+        b ≡ false → (xs : List ℕ) × IsSolution problem.now.clauses base.now xs
+        × (slice_index xs subject ≢ value)) }
 {
     if sets[subject] == ValueSet::empty().with(value) {
         return Ok(true);

@@ -115,7 +115,8 @@ pub fn assume_all(
     requires within { AllBelow (length domains.old) problem.now.clauses }
     requires full { length domains.old ≡ length base.now }
     requires small { length base.now ≤ SET_SUBJECTS }
-    ensures keeps { OnOk result (KeepsAllAssumed problem.now.clauses base.now domains.old domains.new) }
+    ensures keeps { OnOk result (KeepsAllAssumed problem.now.clauses base.now domains.old
+        domains.new) }
     ensures clash { IfOk result (IsClashOfAssumed problem.now.clauses base.now domains.old) }
 {
     let mut changed = Vec::new(alloc);
@@ -155,7 +156,8 @@ pub fn extend(
     requires subject { subject < length domains.old }
     requires small { subject < SET_SUBJECTS }
     requires value { value < MAX_CHOICES }
-    ensures keeps { OnOk result (KeepsMore problem.now.clauses domains.old subject value domains.new) }
+    ensures keeps { OnOk result (KeepsMore problem.now.clauses domains.old subject value
+        domains.new) }
     ensures clash { IfOk result (IsClashOfMore problem.now.clauses domains.old subject value) }
 {
     choose(domains, subject, value);

@@ -96,7 +96,8 @@ fn attempt(
 /// All small values for each of so many subjects, before anything is assumed.
 fn whole_domains(alloc: Global, subjects: usize) -> Result<Vec<Domain>, AllocError>
     ensures full { IfOk result (λ r. length r.items ≡ subjects) }
-    ensures values { IfOk result (λ r. (d v : ℕ) → d < subjects → has (values_at r.items d) v ≡ nat_lt v MAX_CHOICES) }
+    ensures values { IfOk result (λ r.
+        (d v : ℕ) → d < subjects → has (values_at r.items d) v ≡ nat_lt v MAX_CHOICES) }
 {
     let mut domains = Vec::new(alloc);
     for _ in 0..subjects {
@@ -134,7 +135,8 @@ pub fn first_solution(
 ) -> Result<Option<List<u8>>, AllocError>
     requires { IsProblem problem.now.clauses base.now }
     ensures some { IfOk result (λ o. IfSome o (IsFirst problem.now.clauses base.now)) }
-    ensures none { IfOk result (λ o. IsNone o → (xs : List ℕ) → IsSolution problem.now.clauses base.now xs → ⊥) }
+    ensures none { IfOk result (λ o.
+        IsNone o → (xs : List ℕ) → IsSolution problem.now.clauses base.now xs → ⊥) }
 {
     match solve(alloc, problem, base)? {
         SearchResult::Found(values) => Ok(Some(values)),

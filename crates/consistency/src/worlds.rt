@@ -46,8 +46,15 @@ fn first_found(
     requires proper { AreClauses (clauses_in problem.now) }
     requires modes { All (λ p. HasMode model.now p.item p.value) modes.now }
     requires seen { All (λ p. HasValue model.now p.item p.value) seen.now }
-    ensures some { (denied : Option Formula) → AreClausesOf model.now None denied (clauses_in problem.now) → IfOk result (λ o. IfSome o (λ f. IsFirstOf (FitsAndDenies model.now modes.now seen.now denied) f.state.modes f.world.values)) }
-    ensures none { (denied : Option Formula) → AreClausesOf model.now None denied (clauses_in problem.now) → IfOk result (λ o. IsNone o → (s w : List ℕ) → FitsAndDenies model.now modes.now seen.now denied s w → ⊥) }
+    ensures some { (denied : Option Formula) →
+        AreClausesOf model.now None denied (clauses_in problem.now) →
+        IfOk result (λ o. IfSome o (λ f.
+        IsFirstOf (FitsAndDenies model.now modes.now seen.now denied) f.state.modes
+        f.world.values)) }
+    ensures none { (denied : Option Formula) →
+        AreClausesOf model.now None denied (clauses_in problem.now) →
+        IfOk result (λ o. IsNone o → (s w : List ℕ) →
+        FitsAndDenies model.now modes.now seen.now denied s w → ⊥) }
 {
     let components = model.components().len();
     let base = model_base(alloc, model, problem, modes, seen)?;
@@ -81,7 +88,9 @@ impl Worlds {
         requires of { AreWorldsOf model.now self.now }
         requires modes { All (λ p. HasMode model.now p.item p.value) modes.now }
         requires seen { All (λ p. HasValue model.now p.item p.value) seen.now.pairs }
-        ensures some { IfOk result (λ o. IfSome o (λ f. IsFirstOf (Fits model.now modes.now seen.now.pairs) f.state.modes f.world.values)) }
+        ensures some { IfOk result (λ o.
+            IfSome o (λ f. IsFirstOf (Fits model.now modes.now seen.now.pairs) f.state.modes
+            f.world.values)) }
         ensures none { IfOk result (λ o. IsNone o → NoneFits model.now modes.now seen.now.pairs) }
     {
         first_found(
@@ -105,8 +114,11 @@ impl Worlds {
     ) -> Result<Option<Found>, AllocError>
         requires of { AreWorldsOf model.now self.now }
         requires modes { All (λ p. HasMode model.now p.item p.value) modes.now }
-        requires formula { IsTrue (is_within (length model.now.components) (length model.now.variables) formula.now) }
-        ensures some { IfOk result (λ o. IfSome o (λ f. IsFirstOf (Counters model.now modes.now formula.now) f.state.modes f.world.values)) }
+        requires formula { IsTrue (is_within (length model.now.components)
+            (length model.now.variables) formula.now) }
+        ensures some { IfOk result (λ o.
+            IfSome o (λ f. IsFirstOf (Counters model.now modes.now formula.now) f.state.modes
+            f.world.values)) }
         ensures none { IfOk result (λ o. IsNone o → Follows model.now modes.now formula.now) }
     {
         let problem = denied_problem(alloc, model, &self.rules, formula)?;

@@ -64,9 +64,12 @@ fn blocked_by(
     cuts: &[Cube],
 ) -> Result<Option<Vec<u16>>, AllocError>
     requires { length part.now.modes ≤ MAX_ROWS }
-    ensures some { IfOk result (λ o. IfSome o (λ v. IsBlocked last.now cuts.now part.now.modes part.now.cost v.items)) }
-    ensures within { IfOk result (λ o. IfSome o (λ v. All (λ c. c < length part.now.modes) v.items)) }
-    ensures none { IfOk result (λ o. IsNone o → IsOpen last.now cuts.now part.now.modes part.now.cost) }
+    ensures some { IfOk result (λ o.
+        IfSome o (λ v. IsBlocked last.now cuts.now part.now.modes part.now.cost v.items)) }
+    ensures within { IfOk result (λ o.
+        IfSome o (λ v. All (λ c. c < length part.now.modes) v.items)) }
+    ensures none { IfOk result (λ o.
+        IsNone o → IsOpen last.now cuts.now part.now.modes part.now.cost) }
 {
     let modes = part.modes.as_slice();
     for cube in cuts {
@@ -91,8 +94,10 @@ fn pieces_of_top(
     requires rows { AreRows rows.now }
     requires queue { IsQueue rows.now (heap_items parts.now) }
     ensures heap { IfOk result (λ o. IfSome o (λ h. IsHeap part_cmp (heap_items h))) }
-    ensures some { IfOk result (λ o. IfSome o (λ h. Replaces rows.now last.now cuts.now (heap_items parts.now) (heap_items h))) }
-    ensures none { IfOk result (λ o. IsNone o → TopIsOpen last.now cuts.now (heap_items parts.now)) }
+    ensures some { IfOk result (λ o.
+        IfSome o (λ h. Replaces rows.now last.now cuts.now (heap_items parts.now) (heap_items h))) }
+    ensures none { IfOk result (λ o.
+        IsNone o → TopIsOpen last.now cuts.now (heap_items parts.now)) }
 {
     let Some(top) = parts.peek() else {
         return Ok(None);
@@ -115,7 +120,8 @@ pub fn settle_part(
     requires rows { AreRows rows.now }
     requires queue { IsQueue rows.now (heap_items parts.old) }
     ensures queue { IsQueue rows.now (heap_items parts.new) }
-    ensures covers { Covers rows.now last.now cuts.now (heap_items parts.old) → Covers rows.now last.now cuts.now (heap_items parts.new) }
+    ensures covers { Covers rows.now last.now cuts.now (heap_items parts.old) →
+        Covers rows.now last.now cuts.now (heap_items parts.new) }
     ensures ok { OnOk result (TopIsOpen last.now cuts.now (heap_items parts.new)) }
 {
     while let Some(mut pieces) = pieces_of_top(alloc, rows, parts, last, cuts)? {

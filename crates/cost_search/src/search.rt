@@ -63,7 +63,8 @@ impl Search {
     /// comes exactly where there is none. The error is out of memory.
     pub fn next(&mut self) -> Result<Option<Costed>, AllocError>
         ensures some { IfOk result (λ o. IfSome o (λ x. IsNext self.old x.state.modes x.cost)) }
-        ensures given { IfOk result (λ o. IfSome o (λ x. self.new ≡ record self.old { last = Some x })) }
+        ensures given { IfOk result (λ o.
+            IfSome o (λ x. self.new ≡ record self.old { last = Some x })) }
         ensures fewer { IfOk result (λ o. IsSome o → states_left self.new < states_left self.old) }
         ensures none { IfOk result (λ o. IsNone o → NoneLeft self.old) }
         ensures stays { IfOk result (λ o. IsNone o → self.new ≡ self.old) }
@@ -94,7 +95,8 @@ impl Search {
 
     /// Cuts the states that hold the cube. The error is out of memory.
     pub fn cut(&mut self, cube: Cube) -> Result<(), AllocError>
-        ensures ok { OnOk result (self.new ≡ record self.old { cuts = self.old.cuts ++ cube ∷ [] }) }
+        ensures ok { OnOk result (self.new
+            ≡ record self.old { cuts = self.old.cuts ++ cube ∷ [] }) }
         ensures err { OnErr result (self.new ≡ self.old) }
     {
         self.cuts.push(cube)?;

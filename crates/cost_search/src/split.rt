@@ -21,7 +21,10 @@ fn onward(
     requires part { IsPart rows.now part.now }
     requires at { at < length rows.now }
     ensures piece { IfOk result (λ o. IfSome o (IsPart rows.now)) }
-    ensures states { IfOk result (λ o. IfSome o (λ p. box_of rows.now p ≡ slice_set (box_of rows.now part.now) at (drop 1 (row_at (box_of rows.now part.now) at)))) }
+    ensures states { IfOk result (λ o.
+        IfSome o (λ p. box_of rows.now p
+        ≡ slice_set (box_of rows.now part.now) at
+        (drop 1 (row_at (box_of rows.now part.now) at)))) }
     ensures none { IfOk result (λ o. IsNone o → length (row_at (box_of rows.now part.now) at) ≤ 1) }
 {
     let span = *part.spans.get(at);
@@ -50,7 +53,8 @@ fn narrow(rows: &[List<Choice>], part: &mut Part, at: usize)
     requires part { IsPart rows.now part.old }
     requires at { at < length rows.now }
     ensures part { IsPart rows.now part.new }
-    ensures states { box_of rows.now part.new ≡ slice_set (box_of rows.now part.old) at (take 1 (row_at (box_of rows.now part.old) at)) }
+    ensures states { box_of rows.now part.new
+        ≡ slice_set (box_of rows.now part.old) at (take 1 (row_at (box_of rows.now part.old) at)) }
 {
     let span = *part.spans.get(at);
     part.spans.set(
@@ -74,8 +78,10 @@ fn add_onward(
     requires pieces { All (IsPart rows.now) (heap_items pieces.old) }
     requires part { IsPart rows.now part.now }
     requires at { at < length rows.now }
-    ensures heap { OnOk result (IsHeap part_cmp (heap_items pieces.old) → IsHeap part_cmp (heap_items pieces.new)) }
-    ensures gains { OnOk result (Gains rows.now (heap_items pieces.old) (heap_items pieces.new) (slice_set (box_of rows.now part.now) at (drop 1 (row_at (box_of rows.now part.now) at)))) }
+    ensures heap { OnOk result (IsHeap part_cmp (heap_items pieces.old) →
+        IsHeap part_cmp (heap_items pieces.new)) }
+    ensures gains { OnOk result (Gains rows.now (heap_items pieces.old) (heap_items pieces.new)
+        (slice_set (box_of rows.now part.now) at (drop 1 (row_at (box_of rows.now part.now) at)))) }
 {
     let Some(piece) = onward(alloc, rows, part, at)? else {
         return Ok(());
@@ -95,7 +101,8 @@ pub fn pieces_of(
     requires whole { IsPart rows.now whole.now }
     requires components { All (λ c. c < length rows.now) components.now }
     ensures heap { IfOk result (λ h. IsHeap part_cmp (heap_items h)) }
-    ensures pieces { IfOk result (λ h. AreInstead rows.now (box_of rows.now whole.now) components.now (heap_items h)) }
+    ensures pieces { IfOk result (λ h.
+        AreInstead rows.now (box_of rows.now whole.now) components.now (heap_items h)) }
 {
     let mut pieces = BinaryHeap::new(alloc);
     let mut rest = whole.copy(alloc)?;
@@ -113,8 +120,10 @@ pub fn replace_top(
     pieces: &mut BinaryHeap<Part>,
 ) -> Result<(), AllocError>
     requires { 0 < heap_len parts.old }
-    ensures ok { OnOk result (IsReplaced (heap_items parts.old) (heap_items pieces.old) (heap_items parts.new)) }
-    ensures heap { OnOk result (IsHeap part_cmp (heap_items parts.old) → IsHeap part_cmp (heap_items parts.new)) }
+    ensures ok { OnOk result (IsReplaced (heap_items parts.old) (heap_items pieces.old)
+        (heap_items parts.new)) }
+    ensures heap { OnOk result (IsHeap part_cmp (heap_items parts.old) →
+        IsHeap part_cmp (heap_items parts.new)) }
     ensures err { OnErr result (heap_items parts.new ≡ heap_items parts.old) }
 {
     parts.reserve(pieces.len())?;

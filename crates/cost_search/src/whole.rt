@@ -38,7 +38,8 @@ fn whole(alloc: Global, rows: &[List<Choice>]) -> Result<Option<Part>, AllocErro
     requires { AreRows rows.now }
     ensures part { IfOk result (λ o. IfSome o (IsPart rows.now)) }
     ensures all { IfOk result (λ o. IfSome o (λ p. box_of rows.now p ≡ rows.now)) }
-    ensures none { IfOk result (λ o. IsNone o → (picks : List Choice) → AllZip Contains rows.now picks → ⊥) }
+    ensures none { IfOk result (λ o.
+        IsNone o → (picks : List Choice) → AllZip Contains rows.now picks → ⊥) }
 {
     let mut cost = 0;
     let mut modes = List::new(alloc);
@@ -60,7 +61,9 @@ fn whole(alloc: Global, rows: &[List<Choice>]) -> Result<Option<Part>, AllocErro
 pub fn all_states(alloc: Global, rows: &[List<Choice>]) -> Result<BinaryHeap<Part>, AllocError>
     requires { AreRows rows.now }
     ensures queue { IfOk result (λ h. IsQueue rows.now (heap_items h)) }
-    ensures all { IfOk result (λ h. (picks : List Choice) → AllZip Contains rows.now picks → IsIn rows.now (heap_items h) picks) }
+    ensures all { IfOk result (λ h.
+        (picks : List Choice) → AllZip Contains rows.now picks →
+        IsIn rows.now (heap_items h) picks) }
 {
     let mut parts = BinaryHeap::new(alloc);
     let Some(part) = whole(alloc, rows)? else {

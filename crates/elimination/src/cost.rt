@@ -19,7 +19,7 @@ pub(crate) struct Costs {
 }
 
 impl Costs {
-    /// The counts of these clauses. The error is want of memory.
+    /// The counts of these clauses. The error is out of memory.
     pub(crate) fn of(alloc: Global, sizes: &[u8], clauses: &[Clause]) -> Result<Costs, AllocError>
         requires few { All (λ n. n ≤ MAX_CHOICES) sizes.now }
         requires below { AllBelow (length sizes.now) clauses.now }

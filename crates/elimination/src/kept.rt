@@ -26,7 +26,9 @@ pub(crate) fn kept_of(
 ) -> Result<List<Clause>, AllocError>
     requires keep { keep ≤ length sizes.now }
     requires below { AllBelow keep clauses.items }
-    ensures met { IfOk result (λ kept. (xs : List ℕ) → all_met xs kept ≡ (not (has_empty sizes.now keep) && all_met xs clauses.items)) }
+    ensures met { IfOk result (λ kept.
+        (xs : List ℕ) → all_met xs kept
+        ≡ (not (has_empty sizes.now keep) && all_met xs clauses.items)) }
     ensures below { IfOk result (AllBelow keep) }
 {
     if has_zero(&sizes[keep as usize..]) {
@@ -36,7 +38,7 @@ pub(crate) fn kept_of(
     }
 }
 
-/// The sizes of the subjects below `keep`. The error is want of memory.
+/// The sizes of the subjects below `keep`. The error is out of memory.
 pub(crate) fn first_sizes(
     alloc: Global,
     sizes: &List<u8>,

@@ -13,7 +13,8 @@ use std::alloc::{AllocError, Global};
 fn left_in(sizes: &[u8], clause: &Clause, keep: u16, marks: &[bool]) -> Option<u16>
     requires marks { length marks.now ≡ length sizes.now }
     requires below { AreBelow (length sizes.now) clause.now.literals }
-    ensures { MatchOption result (All (λ literal. IsDone keep marks.now literal.subject) clause.now.literals)
+    ensures { MatchOption result (All (λ literal.
+        IsDone keep marks.now literal.subject) clause.now.literals)
         (IsLeft sizes.now keep marks.now) }
 {
     for literal in clause.literals.as_slice() {
@@ -28,7 +29,8 @@ fn left_in(sizes: &[u8], clause: &Clause, keep: u16, marks: &[bool]) -> Option<u
 fn some_left(sizes: &[u8], clauses: &[Clause], keep: u16, marks: &[bool]) -> Option<u16>
     requires marks { length marks.now ≡ length sizes.now }
     requires below { AllBelow (length sizes.now) clauses.now }
-    ensures { MatchOption result (AreAllDone keep marks.now clauses.now) (IsLeft sizes.now keep marks.now) }
+    ensures { MatchOption result (AreAllDone keep marks.now clauses.now)
+        (IsLeft sizes.now keep marks.now) }
 {
     for clause in clauses {
         if let Some(subject) = left_in(sizes, clause, keep, marks) {
@@ -59,7 +61,7 @@ fn cheapest(sizes: &[u8], keep: u16, marks: &[bool], first: u16, costs: &Costs) 
 }
 
 /// A subject from `keep` on that a clause names and that isn't marked; None exactly where there is none. It is the one that
-/// costs least to project away, on which no claim rests. The error is want of memory.
+/// costs least to project away, on which no claim rests. The error is out of memory.
 pub(crate) fn next_subject(
     alloc: Global,
     sizes: &[u8],
@@ -70,7 +72,9 @@ pub(crate) fn next_subject(
     requires few { All (λ n. n ≤ MAX_CHOICES) sizes.now }
     requires marks { length marks.now ≡ length sizes.now }
     requires below { AllBelow (length sizes.now) clauses.now }
-    ensures { IfOk result (λ next. MatchOption next (AreAllDone keep marks.now clauses.now) (IsLeft sizes.now keep marks.now)) }
+    ensures { IfOk result (λ next.
+        MatchOption next (AreAllDone keep marks.now clauses.now)
+        (IsLeft sizes.now keep marks.now)) }
 {
     match some_left(sizes, clauses, keep, marks) {
         Some(first) => {

@@ -12,7 +12,7 @@ use clause_form::{Clause, Clauses, copies};
 use std::alloc::{AllocError, Global};
 
 /// Clauses over the subjects below `keep`, true exactly where some values of the other subjects make all of the given
-/// ones true. The error is want of memory.
+/// ones true. The error is out of memory.
 pub fn project(alloc: Global, clauses: &Clauses, keep: u16) -> Result<Clauses, AllocError>
     requires clauses { AreClauses clauses.now }
     requires keep { keep ≤ length clauses.now.sizes }

@@ -32,7 +32,8 @@ fn resolvents(
     requires subject { subject < length sizes.now }
     requires below { AllBelow (length sizes.now) clauses.now }
     ensures met { IfOk result (λ r. (xs : List ℕ) → AreValues sizes.now xs
-        → all_met xs r.items ≡ any_below (slice_index sizes.now subject) (λ v. all_met (slice_set xs subject v) clauses.now)) }
+        → all_met xs r.items ≡ any_below (slice_index sizes.now subject) (λ v.
+        all_met (slice_set xs subject v) clauses.now)) }
     ensures below { IfOk result (λ r. AllBelow (length sizes.now) r.items) }
     ensures gone { IfOk result (λ r. AllOthers subject r.items) }
     ensures names { IfOk result (λ r. (x : ℕ) → AllOthers x clauses.now → AllOthers x r.items) }
@@ -56,7 +57,8 @@ pub(crate) fn without(
     requires subject { subject < length sizes.now }
     requires below { AllBelow (length sizes.now) clauses.items }
     ensures met { IfOk result (λ r. (xs : List ℕ) → AreValues sizes.now xs
-        → all_met xs r.items ≡ any_below (slice_index sizes.now subject) (λ v. all_met (slice_set xs subject v) clauses.items)) }
+        → all_met xs r.items ≡ any_below (slice_index sizes.now subject) (λ v.
+        all_met (slice_set xs subject v) clauses.items)) }
     ensures below { IfOk result (λ r. AllBelow (length sizes.now) r.items) }
     ensures gone { IfOk result (λ r. AllOthers subject r.items) }
     ensures names { IfOk result (λ r. (x : ℕ) → AllOthers x clauses.items → AllOthers x r.items) }

@@ -11,7 +11,7 @@ use clause_form::{Clauses, copies};
 use std::alloc::{AllocError, Global};
 
 /// Clauses that are true exactly where some value of this subject makes all of the given ones true. The error
-/// is want of memory.
+/// is out of memory.
 pub fn project_subject(
     alloc: Global,
     clauses: &Clauses,

@@ -66,8 +66,10 @@ pub(crate) fn reply_in(
     requires tables { IfSome tables.old (AreTablesOf compiled.now.value) }
     requires state { IsState compiled.now.value.model state.now.modes }
     requires goal { IfSome goal.now (λ g. IsKeptGoal compiled.now.value g.pairs) }
-    ensures reply { IfOk result (IsReply (Promising compiled.now.value) state.now.modes (option_map (λ g. g.pairs) goal.now)) }
-    ensures takes { OnOk result (TakesFor base_of covers (option_map (λ g. g.pairs) goal.now) tables.old state.now.modes tables.new) }
+    ensures reply { IfOk result (IsReply (Promising compiled.now.value) state.now.modes
+        (option_map (λ g. g.pairs) goal.now)) }
+    ensures takes { OnOk result (TakesFor base_of covers (option_map (λ g.
+        g.pairs) goal.now) tables.old state.now.modes tables.new) }
     ensures covers { IfOk result (λ reply. reply ≢ Idle → AreCovering tables.new state.now.modes) }
     ensures tables { OnOk result (IfSome tables.new (AreTablesOf compiled.now.value)) }
     ensures err { OnErr result (tables.new ≡ tables.old) }

@@ -21,9 +21,11 @@ pub(crate) fn change(
     event: &Event,
 ) -> Result<(), AllocError>
     requires fits { Fits compiled.now (state_of standing.old) }
-    requires may_come { MayCome compiled.now.model standing.old.pending.pairs standing.old.mirrored event.now }
+    requires may_come { MayCome compiled.now.model standing.old.pending.pairs standing.old.mirrored
+        event.now }
     requires no_tick { IsTick event.now → ⊥ }
-    ensures ok { OnOk result (Changes compiled.now.model (IsSorted compiled.now.order) (state_of standing.old) event.now (state_of standing.new)) }
+    ensures ok { OnOk result (Changes compiled.now.model (IsSorted compiled.now.order)
+        (state_of standing.old) event.now (state_of standing.new)) }
     ensures err { OnErr result (standing.new ≡ standing.old) }
 {
     let _model = compiled.model();

@@ -11,7 +11,7 @@ ghost use Rattle.executive_loop.specs.Covering.{base_of, covers, AreCoveringAfte
 ghost use Rattle.executive_loop.specs.Parts.{IsExecutive, SeenAfter};
 
 use crate::events::change;
-use crate::standing::{Standing, nothing, start};
+use crate::standing::{Standing, start};
 use crate::tick::make_tick;
 use cca_base::{Compiled, Event, Goal, Seen, State, TickReport, VarSet};
 use consistency::{Mirror, Worlds};
@@ -19,6 +19,7 @@ use policy_tables::Tables;
 use std::alloc::{AllocError, Global};
 use std::marker::Model;
 use std::rc::Rc;
+use trace_laws::nothing_seen;
 
 /// An executive of a compiled model.
 #[derive(Drop)]
@@ -66,7 +67,13 @@ impl Model for Executive {
 impl Executive {
     /// An executive at the start. The error is out of memory, and the compiled model is gone then.
     pub fn open(alloc: Global, compiled: Compiled) -> Result<Executive, AllocError>
-        ensures { IfOk result (λ e. e ≡ record { compiled = compiled; state = start compiled.model 0; last_seen = []; tables = None }) }
+        ensures { IfOk result (λ e.
+            e ≡ record {
+              compiled = compiled;
+              state = start compiled.model 0;
+              last_seen = [];
+              tables = None;
+            }) }
     {
         let worlds = Worlds::of(alloc, compiled.model())?;
         let mirror = Mirror::new();
@@ -79,19 +86,26 @@ impl Executive {
             mirror,
             standing,
             tables: None,
-            last_seen: nothing(alloc),
+            last_seen: nothing_seen(alloc),
         })
     }
 
     /// Makes one event. A report comes exactly for a tick. The error is out of memory.
     pub fn event(&mut self, event: &Event) -> Result<Option<TickReport>, AllocError>
-        requires may_come { MayCome self.old.compiled.model self.old.state.pending self.old.state.mirrored event.now }
+        requires may_come { MayCome self.old.compiled.model self.old.state.pending
+            self.old.state.mirrored event.now }
         requires room { self.old.state.ticks + 1 < 2 ^ 64 }
-        ensures acts { IfOk result (λ report. Acts self.old.compiled (Promising self.old.compiled) self.old.state event.now self.new.state report) }
+        ensures acts { IfOk result (λ report.
+            Acts self.old.compiled (Promising self.old.compiled) self.old.state event.now
+            self.new.state report) }
         ensures report { IfOk result (λ report. IsSome report ↔ IsTick event.now) }
-        ensures tables { IfOk result (λ report. TablesAfter base_of covers self.old.state.goal self.old.tables event.now report self.new.tables) }
+        ensures tables { IfOk result (λ report.
+            TablesAfter base_of covers self.old.state.goal self.old.tables event.now report
+            self.new.tables) }
         ensures covers { IfOk result (AreCoveringAfter self.new.tables self.new.state.estimate) }
-        ensures seen { IfOk result (λ report. SeenAfter self.old.compiled.model self.old.state self.old.last_seen event.now report self.new.last_seen) }
+        ensures seen { IfOk result (λ report.
+            SeenAfter self.old.compiled.model self.old.state self.old.last_seen event.now report
+            self.new.last_seen) }
         ensures compiled { self.new.compiled ≡ self.old.compiled }
         ensures err { OnErr result (self.new ≡ self.old) }
     {
@@ -110,7 +124,7 @@ impl Executive {
         change(self.alloc, &self.compiled, &mut self.standing, event)?;
         if let Event::Reset = event {
             self.tables = None;
-            self.last_seen = nothing(self.alloc);
+            self.last_seen = nothing_seen(self.alloc);
         }
         Ok(None)
     }

@@ -25,8 +25,10 @@ pub(crate) fn observe(
     requires worlds { AreWorldsOf compiled.now.model worlds.now }
     requires mirror { IsMirror compiled.now.model mirror.old }
     requires fits { Fits compiled.now (state_of standing.now) }
-    ensures seen { IfOk result (λ seen. Observed compiled.now.model (state_of standing.now) seen.pairs) }
-    ensures values { IfOk result (λ seen. All (λ p. HasValue compiled.now.model p.item p.value) seen.pairs) }
+    ensures seen { IfOk result (λ seen.
+        Observed compiled.now.model (state_of standing.now) seen.pairs) }
+    ensures values { IfOk result (λ seen.
+        All (λ p. HasValue compiled.now.model p.item p.value) seen.pairs) }
     ensures mirror { IsMirror compiled.now.model mirror.new }
 {
     worlds.observed_by(

@@ -1,12 +1,13 @@
 //! Where an executive stands.
 
-ghost use Rattle.std.specs.Prelude.{◌≡◌, [], IfOk};
+ghost use Rattle.std.specs.Prelude.{◌≡◌, IfOk};
 ghost use Rattle.cca_base.specs.Trace.{start};
 ghost use Rattle.executive_loop.specs.Standing.{state_of};
 
-use cca_base::{Compiled, Goal, List, Seen, State, VarSet};
+use cca_base::{Compiled, Goal, Seen, State, VarSet};
 use std::alloc::{AllocError, Global};
 use successors::Plant;
+use trace_laws::nothing_seen;
 
 /// Where an executive stands.
 #[derive(Debug, Drop)]
@@ -25,15 +26,6 @@ pub(crate) struct Standing {
     pub ticks: u64,
 }
 
-/// No observation, which takes no memory.
-pub(crate) fn nothing(alloc: Global) -> Seen
-    ensures { result.pairs ≡ [] }
-{
-    Seen {
-        pairs: List::new(alloc),
-    }
-}
-
 /// The start, with so many ticks made. The error is out of memory.
 pub(crate) fn start(alloc: Global, compiled: &Compiled, ticks: u64) -> Result<Standing, AllocError>
     ensures { IfOk result (λ x. state_of x ≡ start compiled.now.model ticks) }
@@ -44,7 +36,7 @@ pub(crate) fn start(alloc: Global, compiled: &Compiled, ticks: u64) -> Result<St
         estimate,
         command: None,
         plant,
-        pending: nothing(alloc),
+        pending: nothing_seen(alloc),
         mirrored: VarSet::empty(),
         goal: None,
         holding: false,

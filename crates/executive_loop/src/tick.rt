@@ -17,7 +17,7 @@ ghost use Rattle.executive_loop.specs.Standing.{state_of};
 
 use crate::answer::{command_of, reply_in};
 use crate::observed::observe;
-use crate::standing::{Standing, nothing};
+use crate::standing::Standing;
 use cca_base::{Compiled, Seen, Shown, State, TickReport};
 use consistency::{Mirror, Worlds};
 use mode_estimator::{Estimate, estimate_by};
@@ -25,19 +25,22 @@ use policy_tables::Tables;
 use std::alloc::{AllocError, Global};
 use std::rc::Rc;
 use successors::Plant;
+use trace_laws::nothing_seen;
 
 /// Counts a tick, which drops what was pending.
 fn count(alloc: Global, standing: &mut Standing)
     requires { standing.old.ticks + 1 < 2 ^ 64 }
-    ensures { state_of standing.new ≡ record (state_of standing.old) { pending = []; ticks = standing.old.ticks + 1 } }
+    ensures { state_of standing.new
+        ≡ record (state_of standing.old) { pending = []; ticks = standing.old.ticks + 1 } }
 {
-    standing.pending = nothing(alloc);
+    standing.pending = nothing_seen(alloc);
     standing.ticks += 1;
 }
 
 /// Holds from now on, since nothing explains what is observed.
 fn hold(standing: &mut Standing)
-    ensures { state_of standing.new ≡ record (state_of standing.old) { command = None; holding = true } }
+    ensures { state_of standing.new
+        ≡ record (state_of standing.old) { command = None; holding = true } }
 {
     standing.command = None;
     standing.holding = true;
@@ -66,8 +69,12 @@ fn answer(
     requires tables { IfSome tables.old (AreTablesOf compiled.now.value) }
     requires state { IsState compiled.now.value.model state.modes }
     requires room { standing.old.ticks + 1 < 2 ^ 64 }
-    ensures answered { IfOk result (λ shown. IsAnswered compiled.now.value (state_of standing.old) cost state shown (state_of standing.new)) }
-    ensures takes { IfOk result (λ shown. TablesShown base_of covers (option_map (λ g. g.pairs) standing.old.goal) tables.old shown tables.new) }
+    ensures answered { IfOk result (λ shown.
+        IsAnswered compiled.now.value (state_of standing.old) cost state shown
+        (state_of standing.new)) }
+    ensures takes { IfOk result (λ shown.
+        TablesShown base_of covers (option_map (λ g.
+        g.pairs) standing.old.goal) tables.old shown tables.new) }
     ensures covers { IfOk result (λ shown. AreCoveringShown tables.new state.modes shown) }
     ensures tables { OnOk result (IfSome tables.new (AreTablesOf compiled.now.value)) }
     ensures err { OnErr result (standing.new ≡ standing.old) }
@@ -103,19 +110,25 @@ pub(crate) fn make_tick(
     requires tables { IfSome tables.old (AreTablesOf compiled.now.value) }
     requires room { standing.old.ticks + 1 < 2 ^ 64 }
     ensures number { IfOk result (λ report. report.tick ≡ standing.old.ticks + 1) }
-    ensures shows { IfOk result (λ report. TickShows compiled.now.value.model (Promising compiled.now.value) (state_of standing.old) report.shown (state_of standing.new)) }
-    ensures takes { IfOk result (λ report. TablesShown base_of covers (option_map (λ g. g.pairs) standing.old.goal) tables.old report.shown tables.new) }
-    ensures covers { IfOk result (λ report. AreCoveringShown tables.new standing.new.estimate.modes report.shown) }
+    ensures shows { IfOk result (λ report.
+        TickShows compiled.now.value.model (Promising compiled.now.value) (state_of standing.old)
+        report.shown (state_of standing.new)) }
+    ensures takes { IfOk result (λ report.
+        TablesShown base_of covers (option_map (λ g.
+        g.pairs) standing.old.goal) tables.old report.shown tables.new) }
+    ensures covers { IfOk result (λ report.
+        AreCoveringShown tables.new standing.new.estimate.modes report.shown) }
     ensures tables { OnOk result (IfSome tables.new (AreTablesOf compiled.now.value)) }
     ensures mirror { IsMirror compiled.now.value.model mirror.new }
-    ensures seen { IfOk result (λ report. SeenAt compiled.now.value.model (state_of standing.old) report.shown last_seen.new.pairs) }
+    ensures seen { IfOk result (λ report.
+        SeenAt compiled.now.value.model (state_of standing.old) report.shown last_seen.new.pairs) }
     ensures err { OnErr result (standing.new ≡ standing.old) }
     ensures err_tables { OnErr result (tables.new ≡ tables.old) }
     ensures err_seen { OnErr result (last_seen.new ≡ last_seen.old) }
 {
     if standing.holding {
         count(alloc, standing);
-        *last_seen = nothing(alloc);
+        *last_seen = nothing_seen(alloc);
         return Ok(TickReport {
             tick: standing.ticks,
             shown: Shown::Holding,

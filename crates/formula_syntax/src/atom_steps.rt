@@ -35,7 +35,9 @@ pub fn compared_step(
     differs: bool,
     token: &Token,
 ) -> Result<Option<FormulaParser>, AllocError>
-    ensures { IfOk result (λ r. option_map state_of r ≡ compared_step strict model.now (state_of machine) atom differs (lexeme_of token.now)) }
+    ensures { IfOk result (λ r.
+        option_map state_of r ≡ compared_step strict model.now (state_of machine) atom differs
+        (lexeme_of token.now)) }
 {
     if !is_name_word(token) {
         return Ok(None);
@@ -53,7 +55,8 @@ pub fn followed_step(
     token: &Token,
 ) -> Result<Option<FormulaParser>, AllocError>
     requires { is_lexeme comma (lexeme_of token.now) ≡ false }
-    ensures { IfOk result (λ r. option_map state_of r ≡ followed_step (state_of machine) atom (lexeme_of token.now)) }
+    ensures { IfOk result (λ r.
+        option_map state_of r ≡ followed_step (state_of machine) atom (lexeme_of token.now)) }
 {
     if is_lexeme(token, Kind::Symbol, b"}") {
         let next = factor_step(alloc, machine, among(atom))?;

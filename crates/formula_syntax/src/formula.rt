@@ -130,5 +130,6 @@ pub fn read_formula(alloc: Global, model: &Model, tokens: &[Token]) -> Result<Fo
 /// A text is read in one way: two formulas' texts that are spelled alike are read alike, and tokens have one answer.
 pub fn texts_are_read_one_way()
     ensures answers { AnswerOneWay }
-    ensures texts { (strict : Bool) (m : PlantModel) (s t : Whole) → spelling s ≡ spelling t → reading_of strict m s ≡ reading_of strict m t }
+    ensures texts { (strict : Bool) (m : PlantModel) (s t : Whole) → spelling s ≡ spelling t →
+        reading_of strict m s ≡ reading_of strict m t }
 {}

@@ -14,7 +14,8 @@ use text_base::{Kind, Token, is_lexeme, is_name_word};
 
 /// The place, where the token is this one.
 fn behind(token: &Token, kind: Kind, text: &[u8], place: Expected) -> Option<Expected>
-    ensures { result ≡ (if is_lexeme (kind, text.now) (lexeme_of token.now) then Some place else None) }
+    ensures { result ≡ (if is_lexeme (kind, text.now) (lexeme_of token.now) then Some place else
+        None) }
 {
     if is_lexeme(token, kind, text) {
         Some(place)

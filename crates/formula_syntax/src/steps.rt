@@ -22,7 +22,9 @@ fn operand_step(
 ) -> Result<Option<FormulaParser>, AllocError>
     requires few { machine.level.nots + 1 < 2 ^ 64 }
     requires no_name { is_name_word (lexeme_of token.now) ≡ false }
-    ensures { IfOk result (λ r. (m : PlantModel) → option_map state_of r ≡ operand_step m (state_of machine) (lexeme_of token.now)) }
+    ensures { IfOk result (λ r.
+        (m : PlantModel) → option_map state_of r
+        ≡ operand_step m (state_of machine) (lexeme_of token.now)) }
 {
     if is_lexeme(token, Kind::Word, b"not") {
         Ok(Some(not_step(machine)))
@@ -55,7 +57,8 @@ fn operator_step(
     token: &Token,
 ) -> Result<Option<FormulaParser>, AllocError>
     requires { is_lexeme (word (codes "and")) (lexeme_of token.now) ≡ false }
-    ensures { IfOk result (λ r. option_map state_of r ≡ operator_step (state_of machine) (lexeme_of token.now)) }
+    ensures { IfOk result (λ r.
+        option_map state_of r ≡ operator_step (state_of machine) (lexeme_of token.now)) }
 {
     if is_lexeme(token, Kind::Word, b"or") {
         or_step(alloc, machine)
@@ -81,7 +84,8 @@ pub fn step(
 ) -> Result<Option<FormulaParser>, AllocError>
     requires few { machine.level.nots + 1 < 2 ^ 64 }
     requires more { place_behind strict model.now machine.place (lexeme_of token.now) ≡ None }
-    ensures { IfOk result (λ r. option_map state_of r ≡ step strict model.now (state_of machine) (lexeme_of token.now)) }
+    ensures { IfOk result (λ r.
+        option_map state_of r ≡ step strict model.now (state_of machine) (lexeme_of token.now)) }
 {
     let place = machine.place;
     match place {

@@ -18,7 +18,7 @@ use prime_implicants::Primes;
 use std::alloc::{AllocError, Global};
 
 /// The prime implicants that the move has with all parts as its guard, in cube order. None, of which nothing is claimed,
-/// where a part, or the parts up to one, have more than `MAX_WAYS`. The error is want of memory.
+/// where a part, or the parts up to one, have more than `MAX_WAYS`. The error is out of memory.
 pub(crate) fn conjunction_implicants(
     alloc: Global,
     model: &Model,
@@ -29,8 +29,11 @@ pub(crate) fn conjunction_implicants(
     requires worlds { HasWorlds model.now }
     requires rules { AreRulesOf model.now rules.now }
     requires source { HasMode model.now the_move.now.component the_move.now.source }
-    requires parts { All (λ part. IsTrue (is_within (length model.now.components) (length model.now.variables) part)) parts.now }
-    ensures ways { IfOk result (λ r. IfSome r (AreWays model.now (with_guard the_move.now (all_of parts.now)))) }
+    requires parts { All (λ part.
+        IsTrue (is_within (length model.now.components) (length model.now.variables) part))
+        parts.now }
+    ensures ways { IfOk result (λ r.
+        IfSome r (AreWays model.now (with_guard the_move.now (all_of parts.now)))) }
     ensures few { IfOk result (λ r. IfSome r (λ cubes. length cubes ≤ MAX_WAYS)) }
 {
     let mut cubes = List::new(alloc);
@@ -56,9 +59,11 @@ fn with_part(
     requires worlds { HasWorlds model.now }
     requires rules { AreRulesOf model.now rules.now }
     requires source { HasMode model.now the_move.now.component the_move.now.source }
-    requires part { IsTrue (is_within (length model.now.components) (length model.now.variables) part.now) }
+    requires part { IsTrue (is_within (length model.now.components) (length model.now.variables)
+        part.now) }
     requires cubes { All IsRising cubes.now }
-    ensures ways { IfOk result (λ r. IfSome r (AddsPart model.now the_move.now part.now cubes.now)) }
+    ensures ways { IfOk result (λ r.
+        IfSome r (AddsPart model.now the_move.now part.now cubes.now)) }
     ensures few { IfOk result (λ r. IfSome r (λ all. length all ≤ MAX_WAYS)) }
 {
     match guard_implicants(alloc, model, rules, the_move, part)? {

@@ -35,7 +35,8 @@ fn is_covered(cubes: &[Cube], cube: &Cube) -> bool
 }
 
 fn drop_covered(cubes: &mut Vec<Cube>, cube: &Cube)
-    ensures { cubes.new.items ≡ filter (λ other. not (is_subsequence cube.now other)) cubes.old.items }
+    ensures { cubes.new.items
+        ≡ filter (λ other. not (is_subsequence cube.now other)) cubes.old.items }
 {
     cubes.retain(|other| !is_part(cube, other));
 }
@@ -64,7 +65,8 @@ fn without_first<'a>(pair: &Pair, rest: &'a [Pair]) -> &'a [Pair]
 fn place_of(cubes: &[Cube], cube: &Cube) -> usize
     ensures within { result ≤ length cubes.now }
     ensures before { All (λ other. IsBeforeCube cube.now other → ⊥) (take result cubes.now) }
-    ensures after { result < length cubes.now → IsBeforeCube cube.now (slice_index_or cubes.now result []) }
+    ensures after { result < length cubes.now →
+        IsBeforeCube cube.now (slice_index_or cubes.now result []) }
 {
     for (place, other) in cubes.iter().enumerate() {
         if order_of(cube, other) == Ordering::Less {

@@ -7,7 +7,7 @@ use cca_base::List;
 use clause_form::{Clauses, given};
 use std::alloc::{AllocError, Global};
 
-/// What the clauses say of the other subjects once one has a value. The error is want of memory.
+/// What the clauses say of the other subjects once one has a value. The error is out of memory.
 pub fn with_value(
     alloc: Global,
     clauses: Clauses,

@@ -30,7 +30,8 @@ fn asked_of(
 ) -> Result<Clauses, AllocError>
     requires worlds { HasWorlds model.now }
     requires rules { AreRulesOf model.now rules.now }
-    requires guard { IsTrue (is_within (length model.now.components) (length model.now.variables) guard.now) }
+    requires guard { IsTrue (is_within (length model.now.components) (length model.now.variables)
+        guard.now) }
     ensures { IfOk result (AreAskedOf model.now guard.now) }
 {
     let denied = denied_clauses(alloc, model, guard)?;
@@ -40,7 +41,7 @@ fn asked_of(
 }
 
 /// All prime implicants that the move has with this guard, in cube order; or `More`, exactly where there are more than
-/// `MAX_WAYS`. The error is want of memory.
+/// `MAX_WAYS`. The error is out of memory.
 pub(crate) fn guard_implicants(
     alloc: Global,
     model: &Model,
@@ -51,10 +52,13 @@ pub(crate) fn guard_implicants(
     requires worlds { HasWorlds model.now }
     requires rules { AreRulesOf model.now rules.now }
     requires source { HasMode model.now the_move.now.component the_move.now.source }
-    requires guard { IsTrue (is_within (length model.now.components) (length model.now.variables) guard.now) }
-    ensures every { IfOk result (λ r. IfEvery r (AreWays model.now (with_guard the_move.now guard.now))) }
+    requires guard { IsTrue (is_within (length model.now.components) (length model.now.variables)
+        guard.now) }
+    ensures every { IfOk result (λ r.
+        IfEvery r (AreWays model.now (with_guard the_move.now guard.now))) }
     ensures few { IfOk result (λ r. IfEvery r (λ cubes. length cubes ≤ MAX_WAYS)) }
-    ensures more { IfOk result (λ r. IsMore r ↔ HasManyWays model.now (with_guard the_move.now guard.now)) }
+    ensures more { IfOk result (λ r.
+        IsMore r ↔ HasManyWays model.now (with_guard the_move.now guard.now)) }
 {
     let asked = asked_of(alloc, model, rules, guard)?;
     let fixed = with_value(alloc, asked, the_move.component, the_move.source)?;

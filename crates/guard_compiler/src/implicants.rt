@@ -19,7 +19,7 @@ use prime_implicants::Primes;
 use std::alloc::{AllocError, Global};
 
 /// All prime implicants of the move, in cube order; or `More`, exactly where there are more than `MAX_WAYS`. A conjunction that
-/// names a variable is taken part by part, if that stays small. The error is want of memory.
+/// names a variable is taken part by part, if that stays small. The error is out of memory.
 fn implicants_of(
     alloc: Global,
     model: &Model,
@@ -29,7 +29,8 @@ fn implicants_of(
     requires worlds { HasWorlds model.now }
     requires rules { AreRulesOf model.now rules.now }
     requires source { HasMode model.now the_move.now.component the_move.now.source }
-    requires guard { IsTrue (is_within (length model.now.components) (length model.now.variables) the_move.now.guard) }
+    requires guard { IsTrue (is_within (length model.now.components) (length model.now.variables)
+        the_move.now.guard) }
     ensures every { IfOk result (λ r. IfEvery r (AreWays model.now the_move.now)) }
     ensures few { IfOk result (λ r. IfEvery r (λ cubes. length cubes ≤ MAX_WAYS)) }
     ensures more { IfOk result (λ r. IsMore r ↔ HasManyWays model.now the_move.now) }
@@ -53,7 +54,7 @@ fn implicants_of(
 }
 
 /// Exactly the prime implicants of a move, in cube order, by the clauses of the model's rules, for a model whose states all
-/// have a world. The move is refused where it has more than `MAX_WAYS`; the other error is want of memory.
+/// have a world. The move is refused where it has more than `MAX_WAYS`; the other error is out of memory.
 pub fn ways_of(
     alloc: Global,
     model: &Model,
@@ -67,7 +68,8 @@ pub fn ways_of(
         AreWays model.now move cubes)) }
     ensures few { IfOk result (λ cubes. length cubes ≤ MAX_WAYS) }
     ensures refused { IfErr result (IsStop model.now move_number) }
-    ensures many { AtMove model.now move_number (λ move. HasManyWays model.now move → IsErr result) }
+    ensures many { AtMove model.now move_number (λ move.
+        HasManyWays model.now move → IsErr result) }
 {
     let the_move = model.moves().get(move_number as usize);
     match implicants_of(alloc, model, rules, the_move)? {
@@ -80,7 +82,7 @@ pub fn ways_of(
 }
 
 /// Exactly the prime implicants of a move, in cube order, for a model whose states all have a world. The move is refused
-/// where it has more than `MAX_WAYS`; the other error is want of memory.
+/// where it has more than `MAX_WAYS`; the other error is out of memory.
 pub fn ways(alloc: Global, model: &Model, move_number: u16) -> Result<List<Cube>, Stop>
     requires worlds { HasWorlds model.now }
     requires number { move_number < length model.now.moves }
@@ -88,7 +90,8 @@ pub fn ways(alloc: Global, model: &Model, move_number: u16) -> Result<List<Cube>
         AreWays model.now move cubes)) }
     ensures few { IfOk result (λ cubes. length cubes ≤ MAX_WAYS) }
     ensures refused { IfErr result (IsStop model.now move_number) }
-    ensures many { AtMove model.now move_number (λ move. HasManyWays model.now move → IsErr result) }
+    ensures many { AtMove model.now move_number (λ move.
+        HasManyWays model.now move → IsErr result) }
 {
     let rules = rules_of(alloc, model)?;
     ways_of(alloc, model, &rules, move_number)

@@ -40,7 +40,8 @@ fn marks_of(
     requires rules { AreRulesBelow subjects rules.now }
     requires guard { AllBelow subjects guard.now }
     ensures full { IfOk result (λ v. length v.items ≡ subjects) }
-    ensures relevant { IfOk result (λ v. IsRelevantSet components rules.now guard.now (is_set v.items)) }
+    ensures relevant { IfOk result (λ v.
+        IsRelevantSet components rules.now guard.now (is_set v.items)) }
 {
     let mut marks = guard_marks(alloc, components, subjects, guard)?;
     'rounds: while spread(rules, components, marks.as_mut_slice()) {}
@@ -55,7 +56,8 @@ fn add_marked(
     clauses: &mut List<Clause>,
 ) -> Result<(), AllocError>
     requires { AreRulesBelow (length marks.now) rules.now }
-    ensures { OnOk result (clauses.new ≡ clauses.old ++ clauses_in (filter (bears (is_set marks.now)) rules.now)) }
+    ensures { OnOk result (clauses.new
+        ≡ clauses.old ++ clauses_in (filter (bears (is_set marks.now)) rules.now)) }
 {
     for rule in rules {
         if bears(rule, marks) {
@@ -66,7 +68,7 @@ fn add_marked(
 }
 
 /// The guard's clauses, and behind them the rules' clauses that bear on some variables; these have every variable of both.
-/// The variables are the subjects from `components` on. The error is want of memory.
+/// The variables are the subjects from `components` on. The error is out of memory.
 pub(crate) fn with_relevant(
     alloc: Global,
     components: u16,
@@ -76,7 +78,8 @@ pub(crate) fn with_relevant(
     requires rules { AreRulesBelow (length guard.sizes) rules.now }
     requires guard { AllBelow (length guard.sizes) guard.clauses }
     ensures sizes { IfOk result (λ r. r.sizes ≡ guard.sizes) }
-    ensures relevant { IfOk result (λ r. IsWithRelevant components rules.now guard.clauses r.clauses) }
+    ensures relevant { IfOk result (λ r.
+        IsWithRelevant components rules.now guard.clauses r.clauses) }
 {
     let Clauses { sizes, mut clauses } = guard;
     let marks = marks_of(alloc, components, sizes.len(), rules, clauses.as_slice())?;

@@ -34,8 +34,8 @@ fn push_left(alloc: Global, left: &[Clause], rules: &mut List<RuleClause>) -> Re
     Ok(())
 }
 
-/// Clauses that are true exactly where these are. Those that name a variable become its own where, whatever values the others
-/// have, some value of it makes them all true: first among all clauses, and then among those that are left. Variables that
+/// Clauses that are true exactly where these are. A variable owns the clauses that name it if, for any values of the others, some
+/// value of it makes them all true: first among all clauses, and then among those that are left. Variables that
 /// few clauses name are tried first, and after a round that moved some the next one goes the other way.
 fn shared_out(
     alloc: Global,
@@ -64,7 +64,7 @@ fn shared_out(
 }
 
 /// Clauses that are all true exactly where every rule of the model is. Some may have an owner, a variable: where those
-/// without an owner are true, the owners can be given values with which all are. The error is want of memory.
+/// without an owner are true, the owners can be given values with which all are. The error is out of memory.
 pub fn rules_of(alloc: Global, model: &Model) -> Result<List<RuleClause>, AllocError>
     ensures { IfOk result (AreRulesOf model.now) }
 {

@@ -8,7 +8,7 @@ ghost use Rattle.guard_compiler.specs.Cover.{IsLeastOver, IsOver};
 use cca_base::{Cube, Pair};
 use std::alloc::{AllocError, Global};
 
-/// The least cube over the two, or None where no cube is over both. The error is want of memory.
+/// The least cube over the two, or None where no cube is over both. The error is out of memory.
 pub(crate) fn union_of(
     alloc: Global,
     first: &Cube,

@@ -13,7 +13,7 @@ use cca_base::{Cube, List};
 use std::alloc::{AllocError, Global};
 
 /// Exactly the least cubes that have a cube of each list as a part, in cube order. None, of which nothing is claimed, where
-/// there were more than `most` on the way. The error is want of memory.
+/// there were more than `most` on the way. The error is out of memory.
 pub(crate) fn least_unions(
     alloc: Global,
     firsts: &[Cube],

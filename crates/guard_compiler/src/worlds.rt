@@ -24,7 +24,7 @@ fn unowned_of(alloc: Global, rules: &[RuleClause]) -> Result<List<Clause>, Alloc
 }
 
 /// Clauses over the model's components that are all true of a state exactly where the state has a world. `rules` is what
-/// `rules_of` answers for the model. The error is want of memory.
+/// `rules_of` answers for the model. The error is out of memory.
 pub fn worlds_of(
     alloc: Global,
     model: &Model,

@@ -13,10 +13,6 @@ pub append_known-nil : (o : Option (List ℕ)) → append_known o [] ≡ o
 append_known-nil None = refl
 append_known-nil (Some x) = ap (λ (l : List ℕ). Some l) (append-nil x)
 
-pub less_none : (o : Option ℕ) → o ≡ less_space o 0
-less_none None = refl
-less_none (Some s) = let e : s ≡ s - 0 = omega arith in ap (λ (n : ℕ). Some n) e
-
 pub less_twice : (o : Option ℕ) (m n : ℕ) → less_space (less_space o m) n ≡ less_space o (m + n)
 less_twice None m n = refl
 less_twice (Some x) m n = let k : (x - m) - n ≡ x - (m + n) = omega arith in ap (λ (i : ℕ). Some i) k

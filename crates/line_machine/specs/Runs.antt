@@ -37,6 +37,7 @@ abbrev pub TailByCode : {S : Type 0} → Ghosts S → Option ℕ → S → ℕ �
 TailByCode m (Some code) s n t text = (t ≡ Stops Refused) × (text ≡ m.refusal s n code)
 TailByCode m None s n t text = (t ≡ GoesOn s) × (text ≡ [])
 
+-- what these bytes lead to, by where the whole lines led; once the program has ended they aren't looked at
 abbrev pub TailTransition : {S : Type 0} → Ghosts S → Next S → ℕ → List ℕ → Next S → List ℕ → Type 0
 TailTransition m s n [] t text = (t ≡ s) × (text ≡ [])
 TailTransition m (Stops e) n (b ∷ l) t text = (t ≡ Stops e) × (text ≡ [])

@@ -32,7 +32,7 @@ pub enum Found {
 }
 
 /// Where the first LF stands.
-fn lf_place(bytes: &[u8]) -> Option<usize>
+pub(crate) fn lf_place(bytes: &[u8]) -> Option<usize>
     ensures place { result ≡ position (λ b. b == 10) bytes.now }
     ensures within { IfSome result (λ k. k < length bytes.now) }
 {
@@ -142,8 +142,10 @@ impl LineBuffer {
         ensures fills { Fills (K.written sink.now) self.old self.new (I.left source.old)
             (I.left source.new) (I.calls source.old) (I.calls source.new) result }
         ensures end { IfOk result (λ n. n ≡ 0 → IsAtEnd (I.left source.new)) }
-        ensures later { I.faults source.old ≤ I.faults source.new }
-        ensures fault { IsErrOf result FillStop.Fault → Rose (I.faults source.old) (I.faults source.new) }
+        ensures quiet { ¬ (IsErrOf result FillStop.Fault) →
+            I.faults source.new ≡ I.faults source.old }
+        ensures fault { IsErrOf result FillStop.Fault →
+            Rose (I.faults source.old) (I.faults source.new) }
     {
         self.compact();
         if self.bytes.reserve(TAKE).is_err() {
@@ -171,8 +173,10 @@ impl LineBuffer {
             (I.left source.old) (I.left source.new) (I.calls source.old) (I.calls source.new) }
         ensures found { IfOk result (λ found. IsFound found limit self.new (I.left source.new)) }
         ensures waits { OnErr result (IsShort limit self.new) }
-        ensures later { I.faults source.old ≤ I.faults source.new }
-        ensures fault { IsErrOf result FillStop.Fault → Rose (I.faults source.old) (I.faults source.new) }
+        ensures quiet { ¬ (IsErrOf result FillStop.Fault) →
+            I.faults source.new ≡ I.faults source.old }
+        ensures fault { IsErrOf result FillStop.Fault →
+            Rose (I.faults source.old) (I.faults source.new) }
     {
         'asks: loop {
             match self.first_line() {

@@ -18,7 +18,8 @@ use titan_wire::Sink;
 /// The most bytes of the line behind so many lines, and the code that it has with more.
 #[tactic(auto, using(crate::proofs::LengthCodes::long_code, crate::proofs::LengthCodes::short_code, crate::proofs::LengthCodes::many_code))]
 fn next_limit<M: Machine>(machine: &M, count: u64) -> (usize, u8)
-    ensures long { (len : ℕ) → result.0 < len → length_code (M.limit_of machine.now) (count + 1) len ≡
+    ensures long { (len : ℕ) → result.0 < len →
+        length_code (M.limit_of machine.now) (count + 1) len ≡
         Some result.1 }
     ensures short { (len : ℕ) → 0 < len → len ≤ result.0 →
         length_code (M.limit_of machine.now) (count + 1) len ≡ None }
@@ -43,6 +44,10 @@ fn drive_lines<M: Machine, S, K: Sink, I: Intake<S, K>>(
         (K.written sink.old) (K.written sink.new) (I.calls source.old) (I.calls source.new) result }
     ensures read { IsErrOf result Cut.ReadFault → Rose (I.faults source.old) (I.faults source.new) }
     ensures write { IsErrOf result Cut.WriteFault → Rose (K.faults sink.old) (K.faults sink.new) }
+    ensures quiet_read { ¬ (IsErrOf result Cut.ReadFault) →
+        I.faults source.new ≡ I.faults source.old }
+    ensures quiet_write { ¬ (IsErrOf result Cut.WriteFault) →
+        K.faults sink.new ≡ K.faults sink.old }
 {
     let mut buffer = LineBuffer::new(alloc);
     let mut count: u64 = 0;
@@ -106,9 +111,13 @@ pub fn drive<M: Machine, S, K: Sink, I: Intake<S, K>>(
     ensures ends { IfSome (I.left source.old) (λ input. (e : End) (text : List ℕ) →
         IsText M.Machine machine.old input e text → IfOk result (λ f. f ≡ e)) }
 
-    // Each fault has its cause.
+    // Each fault has its cause, and none is passed over.
     ensures read { IsErrOf result Cut.ReadFault → Rose (I.faults source.old) (I.faults source.new) }
     ensures write { IsErrOf result Cut.WriteFault → Rose (K.faults sink.old) (K.faults sink.new) }
+    ensures quiet_read { ¬ (IsErrOf result Cut.ReadFault) →
+        I.faults source.new ≡ I.faults source.old }
+    ensures quiet_write { ¬ (IsErrOf result Cut.WriteFault) →
+        K.faults sink.new ≡ K.faults sink.old }
 
     // Where no fault rose, it comes to the end, or memory ran out.
     ensures complete { ¬ (Rose (I.faults source.old) (I.faults source.new)) →

@@ -26,6 +26,7 @@ pub fn sure_text_laws<M: Machine>(_of: PhantomData<M>)
         IsText M.Machine s a e x → IsText M.Machine s a f y → (e ≡ f) × (x ≡ y) }
 
     // A machine that prints only where it ends says nothing of bytes that don't decide the end.
-    ensures quiet { (s t : M) (a x : List ℕ) → IsQuiet M.Machine → IsSure M.Machine s a (GoesOn t) x →
+    ensures quiet { (s t : M) (a x : List ℕ) → IsQuiet M.Machine →
+        IsSure M.Machine s a (GoesOn t) x →
         x ≡ [] }
 {}

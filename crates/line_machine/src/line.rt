@@ -38,7 +38,7 @@ pub fn refuse<M: Machine, K: Sink>(
         (K.written sink.old) (K.written sink.new) (K.space sink.old) (K.space sink.new)) }
     ensures cut { IfErr result (λ c. SentCut c (λ x. x ≡ M.refusal machine.now number code)
         (K.written sink.old) (K.written sink.new)) }
-    ensures later { K.faults sink.old ≤ K.faults sink.new }
+    ensures quiet { ¬ (IsErrOf result Cut.WriteFault) → K.faults sink.new ≡ K.faults sink.old }
     ensures fault { IsErrOf result Cut.WriteFault → Rose (K.faults sink.old) (K.faults sink.new) }
 {
     match machine.refuse(alloc, number, code) {
@@ -64,7 +64,7 @@ pub fn take_line<M: Machine, K: Sink>(
     ensures turn { IfOk result (λ end. end ≡ None → M.awaits machine.new (number + 1)) }
     ensures cut { IfErr result (λ c. SentCut c (MayPrint M.Machine machine.old number line.now)
         (K.written sink.old) (K.written sink.new)) }
-    ensures later { K.faults sink.old ≤ K.faults sink.new }
+    ensures quiet { ¬ (IsErrOf result Cut.WriteFault) → K.faults sink.new ≡ K.faults sink.old }
     ensures fault { IsErrOf result Cut.WriteFault → Rose (K.faults sink.old) (K.faults sink.new) }
 {
     match length_code(machine.limit(), number, line.len()) {
@@ -94,9 +94,10 @@ pub fn finish<M: Machine, K: Sink>(
         HasRoom (K.space sink.old) (length text) }
     ensures ok { IfOk result (λ e. Sent (M.closes machine.old count e) (K.written sink.old)
         (K.written sink.new) (K.space sink.old) (K.space sink.new)) }
-    ensures cut { IfErr result (λ c. SentCut c (λ text. (e : End) × M.closes machine.old count e text)
+    ensures cut { IfErr result (λ c.
+        SentCut c (λ text. (e : End) × M.closes machine.old count e text)
         (K.written sink.old) (K.written sink.new)) }
-    ensures later { K.faults sink.old ≤ K.faults sink.new }
+    ensures quiet { ¬ (IsErrOf result Cut.WriteFault) → K.faults sink.new ≡ K.faults sink.old }
     ensures fault { IsErrOf result Cut.WriteFault → Rose (K.faults sink.old) (K.faults sink.new) }
 {
     match machine.close(alloc, count) {
@@ -125,7 +126,7 @@ pub fn take_last<M: Machine, K: Sink>(
     ensures cut { IfErr result (λ c. c ≢ Cut.ReadFault) }
     ensures front { OnErr result (SentFront (MayEnd M.Machine machine.old count tail.now)
         (K.written sink.old) (K.written sink.new)) }
-    ensures later { K.faults sink.old ≤ K.faults sink.new }
+    ensures quiet { ¬ (IsErrOf result Cut.WriteFault) → K.faults sink.new ≡ K.faults sink.old }
     ensures fault { IsErrOf result Cut.WriteFault → Rose (K.faults sink.old) (K.faults sink.new) }
 {
     if tail.is_empty() {

@@ -64,7 +64,8 @@ pub trait Machine {
         requires few { number ≤ MAX_LINES }
         requires short { length line.now ≤ limit_of self.old }
         requires turn { awaits self.old number }
-        ensures steps { IfOk result (λ said. steps self.old number line.now (next_of self.new said.end)
+        ensures steps { IfOk result (λ said.
+            steps self.old number line.now (next_of self.new said.end)
             said.text.items) }
         ensures turn { IfOk result (λ said. said.end ≡ None → awaits self.new (number + 1)) };
 

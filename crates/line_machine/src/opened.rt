@@ -19,13 +19,20 @@ pub fn drive_opened<M: Machine + Drop, S, K: Sink, I: Intake<S, K>>(
     source: &mut S,
     sink: &mut K,
 ) -> Result<End, Cut>
-    requires room { IfOk opened (λ m. HasRoomFor M.Machine m (I.left source.old) (K.space sink.old)) }
+    requires room { IfOk opened (λ m.
+        HasRoomFor M.Machine m (I.left source.old) (K.space sink.old)) }
     requires first { IfOk opened (λ m. M.awaits m 1) }
-    ensures driven { (first : M) → IfOk opened (λ m. m ≡ first) → IsDriven M.Machine first (I.left source.old) (I.left source.new)
+    ensures driven { (first : M) → IfOk opened (λ m. m ≡ first) →
+        IsDriven M.Machine first (I.left source.old) (I.left source.new)
         (K.written sink.old) (K.written sink.new) (I.calls source.old) (I.calls source.new) result }
     ensures read { IsErrOf result Cut.ReadFault → Rose (I.faults source.old) (I.faults source.new) }
     ensures write { IsErrOf result Cut.WriteFault → Rose (K.faults sink.old) (K.faults sink.new) }
-    ensures complete { ¬ (Rose (I.faults source.old) (I.faults source.new)) → ¬ (Rose (K.faults sink.old) (K.faults sink.new)) → IfErr result (λ c. c ≡ Cut.Memory) }
+    ensures quiet_read { ¬ (IsErrOf result Cut.ReadFault) →
+        I.faults source.new ≡ I.faults source.old }
+    ensures quiet_write { ¬ (IsErrOf result Cut.WriteFault) →
+        K.faults sink.new ≡ K.faults sink.old }
+    ensures complete { ¬ (Rose (I.faults source.old) (I.faults source.new)) →
+        ¬ (Rose (K.faults sink.old) (K.faults sink.new)) → IfErr result (λ c. c ≡ Cut.Memory) }
 {
     match opened {
         Ok(mut machine) => drive::<M, S, K, I>(alloc, &mut machine, source, sink),

@@ -1,8 +1,10 @@
 //! Line-buffered output: a text goes out line by line, each line with its LF as one piece.
 ghost use Rattle.std.specs.Prelude.{◌≡◌, ◌+◌, ◌<◌, ◌≤◌, ◌++◌, length, IfErr, OnOk, OnErr};
 ghost use Rattle.titan_wire.specs.Wire.{Rose, HasRoom};
+ghost use Rattle.line_machine.specs.Lines.{IsOneLine};
 ghost use Rattle.line_machine.specs.Sent.{Sent, SentFront};
 
+use crate::buffer::lf_place;
 use titan_wire::{PutEnd, Sink, put_all};
 
 /// Why a program stopped short of its end.
@@ -18,12 +20,12 @@ fn split_piece(bytes: &[u8]) -> (&[u8], &[u8])
     requires { 0 < length bytes.now }
     ensures parts { result.0.now ++ result.1.now ≡ bytes.now }
     ensures shorter { length result.1.now < length bytes.now }
+    ensures line { IsOneLine result.0.now result.1.now }
 {
-    let len = match bytes.iter().position(|b| *b == b'\n') {
-        Some(len) => len + 1,
-        None => bytes.len(),
-    };
-    (&bytes[..len], &bytes[len..])
+    match lf_place(bytes) {
+        Some(len) => (&bytes[..len + 1], &bytes[len + 1..]),
+        None => (bytes, &[]),
+    }
 }
 
 /// Sends a text, each line with its LF as one piece.
@@ -32,8 +34,9 @@ pub fn send<K: Sink>(sink: &mut K, text: &[u8]) -> Result<(), Cut>
     ensures sent { OnOk result (Sent (λ x. x ≡ text.now) (K.written sink.old) (K.written sink.new)
         (K.space sink.old) (K.space sink.new)) }
     ensures cut { IfErr result (λ c. c ≡ Cut.WriteFault) }
-    ensures front { OnErr result (SentFront (λ x. x ≡ text.now) (K.written sink.old) (K.written sink.new)) }
-    ensures later { K.faults sink.old ≤ K.faults sink.new }
+    ensures front { OnErr result (SentFront (λ x.
+        x ≡ text.now) (K.written sink.old) (K.written sink.new)) }
+    ensures quiet { OnOk result (K.faults sink.new ≡ K.faults sink.old) }
     ensures fault { OnErr result (Rose (K.faults sink.old) (K.faults sink.new)) }
 {
     let mut rest = text;

@@ -13,7 +13,7 @@ use Rattle.migrate_form.specs.Migrated.{SaysMigrated}
 use Rattle.migrate_form.proofs.MigrateEnds.{migrate_fixed}
 use Rattle.migrate_form.proofs.MigrationsTold.{migrations_are_told}
 
-of_script : (b : CompiledModel) (n : ℕ) (ls : List (List ℕ)) (e : End) (text : List ℕ) → SaysMigrated b n ls e text → EndsAsDocument b n ls e
+pub of_script : (b : CompiledModel) (n : ℕ) (ls : List (List ℕ)) (e : End) (text : List ℕ) → SaysMigrated b n ls e text → EndsAsDocument b n ls e
 of_script b n ls e text (r, says, same) = (r, says, ap (λ (a : Answer). a.end) same ∙ ending_so Words b.model (counts_of []) r.ending)
 
 pub migrate_agrees : FormAgrees migrate_meaning

@@ -14,13 +14,13 @@ use Rattle.line_machine.specs.declared.machine.End.{End}
 use Rattle.line_machine.specs.declared.machine.End.TheVariants.{Ended, Refused}
 use Rattle.line_machine.proofs.JoinedLines.{lines_clean}
 use Rattle.model_form.specs.Acceptance.{Acceptance, AcceptedAs, RefusedFor, IsAcceptanceOf}
-use Rattle.model_form.specs.Answers.{Answer, Saying, answer, AnswersByAcceptance, AnswersByEnd, IsAnswer}
+use Rattle.model_form.specs.Answers.{Answer, Saying, answer, refused_answer, AnswersByAcceptance, AnswersByEnd, IsAnswer}
 use Rattle.model_form.specs.FormStates.{nothing_read}
 use Rattle.model_form.specs.ModelTexts.{ModelText, Scripted, Stopped, EndsModel}
 use Rattle.model_form.specs.OneStep.{acceptance_is_one}
 use Rattle.model_form.proofs.OneModelText.{texts_are_one}
 use Rattle.model_form.proofs.PrintedLimits.{printed_within}
-use Rattle.run_form.specs.Document.{Document, DocumentEnd, Complete, RefusedAt, SaysScript}
+use Rattle.run_form.specs.Document.{Document, DocumentEnd, Complete, RefusedAt, SaysScript, SaysByAcceptance, IsDocument}
 use Rattle.run_form.specs.Notations.{is_json}
 use Rattle.run_form.specs.Printed.{ending, printed, with_text, SaysRun, IsRunOf}
 use Rattle.run_form.specs.Summaries.{counts_of}
@@ -28,14 +28,17 @@ use Rattle.run_form.specs.TickTexts.{TicksText}
 use Rattle.run_form.specs.declared.counts.Counts.{Counts}
 use Rattle.run_form.specs.declared.notation.Notation.{Notation}
 use Rattle.run_form.specs.declared.notation.Notation.TheVariants.{Words}
-use Rattle.run_form.proofs.DocumentsAreOne.{script_one}
+use Rattle.run_form.proofs.DocumentEnds.{end_of, the_document}
+use Rattle.run_form.proofs.DocumentsAreOne.{script_one, documents_are_one}
+use Rattle.run_form.proofs.RunDocuments.{run_document}
 use Rattle.run_form.proofs.ScriptRuns.{script_model}
 use Rattle.version_laws.specs.Laws.{at_version}
 use Rattle.version_laws.specs.Traces.{compiled_at}
 use Rattle.version_laws.proofs.Traces.{compiled_alike, ticks_at}
-use Rattle.migrate_form.specs.MigrateLaws.{document_at, IsMigrated, DocumentsMigrate}
+use Rattle.migrate_form.specs.MigrateLaws.{document_at, IsMigrationOf, IsMigrated, DocumentsMigrate}
 use Rattle.migrate_form.specs.Migrated.{says_something, lines_read, migrated_lines, migrated_model, SaysMigrated}
 use Rattle.migrate_form.proofs.EventsAlike.{script_at}
+use Rattle.migrate_form.proofs.MigrateAgrees.{of_script}
 use Rattle.migrate_form.proofs.MigratedTexts.{text_ends, no_later, place, kept_says, kept_again, rest_all}
 use Rattle.migrate_form.proofs.TicksAlike.{texts_at}
 
@@ -174,5 +177,29 @@ by_end : (input : List ℕ) (end : ModelText) (text : List ℕ) → EndsModel in
 by_end input (Scripted m n ls) text reads (v, is, h) = by_acceptance input v m n ls text is reads h
 by_end input (Stopped m line r) text reads h = never_refused h.0
 
+-- ---- an input that says a document has a migration, which ends as a run does
+
+migration_by : (input : List ℕ) (v : Acceptance) (m : PlantModel) (n : ℕ) (ls : List (List ℕ)) (r : Document) → EndsModel input (Scripted m n ls) → IsAcceptanceOf m v → SaysByAcceptance v m n ls r → (a : Answer) × IsMigrationOf input a
+migration_by input (AcceptedAs b) m n ls r reads is says = (
+  with_text (migrated_model b.model ++ migrated_lines (lines_read n r.ending ls)) (ending Words b.model (counts_of []) r.ending),
+  (Scripted m n ls, reads, (AcceptedAs b, is, (r, subst (λ (k : PlantModel). SaysScript k [] 0 n ls r) (sym is.1) says, refl))),
+)
+migration_by input (RefusedFor rf) m n ls r reads is says = (refused_answer false m n rf, (Scripted m n ls, reads, (RefusedFor rf, is, (refl, refl))))
+
+some_migration : (input : List ℕ) (r : Document) → IsDocument input r → (a : Answer) × IsMigrationOf input a
+some_migration input r (Scripted m n ls, reads, (v, is, says)) = migration_by input v m n ls r reads is says
+some_migration input r (Stopped m line rf, reads, says) = (refused_answer false m line rf, (Stopped m line rf, reads, (refl, refl)))
+
+same_end : (notation : Notation) (input : List ℕ) (a c : Answer) → IsMigrationOf input a → IsRunOf notation input c → a.end ≡ c.end
+same_end notation input a c (end, reads, h) (other, reads', k) =
+    let d = the_document false SaysMigrated of_script end a.end a.text h in
+    let f = the_document (is_json notation) (SaysRun notation) (run_document notation) other c.end c.text k in
+    let one : d.document ≡ f.document = documents_are_one input d.document f.document (end, reads, d.says) (other, reads', f.says) in
+    d.ends ∙ ap (λ (x : Document). end_of x.ending) one ∙ sym f.ends
+
 pub documents_migrate : DocumentsMigrate
-documents_migrate input text (end, reads, h) = by_end input end text reads h
+documents_migrate = record {
+  some = some_migration;
+  ends = same_end;
+  ended = λ input text (end, reads, h). by_end input end text reads h;
+}

@@ -34,6 +34,8 @@ pub record IsMigrated (input text : List ℕ) : Type 0 where
   pub runs : (notation : Notation) (a : Answer) → IsRunOf notation input a ↔ IsRunOf notation text a
   pub again : IsMigrationOf text (answer Ended text)
 
--- a text that `migrate` prints of an input of which nothing is refused
-abbrev pub DocumentsMigrate : Type 0
-DocumentsMigrate = (input text : List ℕ) → IsMigrationOf input (answer Ended text) → IsMigrated input text
+-- an input that says a document has a migration, which ends as a run of it ends; where that is at the input's end, it is the document in version 2
+pub record DocumentsMigrate : Type 0 where
+  pub some : (input : List ℕ) (r : Document) → IsDocument input r → (a : Answer) × IsMigrationOf input a
+  pub ends : (notation : Notation) (input : List ℕ) (a c : Answer) → IsMigrationOf input a → IsRunOf notation input c → a.end ≡ c.end
+  pub ended : (input text : List ℕ) → IsMigrationOf input (answer Ended text) → IsMigrated input text

@@ -2,7 +2,6 @@
 //! a document that is read whole is that document in version 2: a run says the same of both.
 #![tactic(auto)]
 
-mod follow;
 mod laws;
 mod migrate;
 mod script;

@@ -19,7 +19,7 @@ pub struct Migrate;
 pub type MigrateMachine = WithModel<Migrate, ScriptInSecond>;
 
 /// The model's text, and the line `script`.
-fn document_head(alloc: Global, model: &Model) -> Result<Vec<u8>, AllocError>
+fn model_and_script(alloc: Global, model: &Model) -> Result<Vec<u8>, AllocError>
     ensures { IfOk result (λ text. text.items ≡ printed_model model.now ++ codes "script" ++ 10 ∷ []) }
 {
     let mut text = print_model(alloc, model)?.into_vec();
@@ -50,7 +50,7 @@ impl ModelForm<ScriptInSecond> for Migrate {
         _number: u64,
     ) -> Result<Opening<ScriptInSecond>, AllocError> {
         let model = compiled.into_model().to_second();
-        let text = document_head(alloc, &model)?;
+        let text = model_and_script(alloc, &model)?;
         Ok(Opening {
             text,
             opened: Opened::Lines(ScriptInSecond::open(alloc, model, names)),

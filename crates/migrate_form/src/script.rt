@@ -1,16 +1,18 @@
 //! The script behind an accepted model: its events' lines are printed as they stand.
 
-ghost use Rattle.std.specs.Prelude.{◌≡◌, ◌++◌, ◌∷◌, [], IfOk};
+ghost use Rattle.std.specs.Prelude.{◌≡◌, ◌++◌, ◌∷◌, [], IfOk, OnOk, OnErr};
+ghost use Rattle.cca_base.specs.Trace.{MayCome};
 ghost use Rattle.formula_syntax.specs.Lookups.{NamesFit};
+ghost use Rattle.trace_laws.specs.Events.{PendingAfter, mirrored_after};
 ghost use Rattle.migrate_form.specs.MigrateMachine.{script_first};
 
-use crate::follow::{follow, nothing_seen};
-use cca_base::{Model, Name, Refusal, Seen, Subject, VarSet};
+use cca_base::{Event, Model, Name, Refusal, Seen, Subject, VarSet};
 use indexmap::IndexMap;
 use line_machine::{End, Machine, Said};
 use model_form::{MAX_LINE, nothing, refusal_of, refuse_stop};
 use script_reader::read_named_event;
 use std::alloc::{AllocError, Global};
+use trace_laws::{known_after, nothing_seen};
 
 /// A model of version 2, its names, and what bears on which events may come next.
 #[derive(Drop)]
@@ -59,6 +61,30 @@ impl ScriptInSecond {
             mirrored: VarSet::empty(),
         }
     }
+
+    /// Follows an event. The error is out of memory, and then the script is as it was.
+    fn follow(&mut self, alloc: Global, event: &Event) -> Result<(), AllocError>
+        requires { MayCome self.old.model self.old.pending self.old.mirrored event.now }
+        ensures ok { OnOk result ((after : _) × PendingAfter self.old.pending event.now after
+            × (self.new ≡ record {
+              model = self.old.model;
+              pending = after;
+              mirrored =
+                  mirrored_after self.old.mirrored event.now;
+            })) }
+        ensures err { OnErr result (self.new ≡ self.old) }
+    {
+        let (pending, mirrored) = known_after(
+            alloc,
+            &self.model,
+            &self.pending,
+            self.mirrored,
+            event,
+        )?;
+        self.pending = pending;
+        self.mirrored = mirrored;
+        Ok(())
+    }
 }
 
 // By the clauses of the trait a line gives `MigrateSteps`, and the end of the input `MigrateCloses` (specs/MigrateMachine.antt).
@@ -104,13 +130,7 @@ impl Machine for ScriptInSecond {
         ) {
             Ok(Some(event)) => {
                 let text = whole_line(alloc, line)?;
-                follow(
-                    alloc,
-                    &self.model,
-                    &mut self.pending,
-                    &mut self.mirrored,
-                    &event,
-                )?;
+                self.follow(alloc, &event)?;
                 Ok(Said { text, end: None })
             }
             Ok(None) => Ok(nothing(alloc)),

@@ -60,7 +60,8 @@ fn at_script<F: ModelForm<B>, B: Machine + Drop>(
     requires few { number ≤ MAX_LINES }
     requires complete { IsComplete model }
     requires fit { NamesFit names model }
-    ensures begins { IfOk result (λ o. AtScript F.ModelForm B.Machine form.now model number (next_by o.opened) o.text.items) }
+    ensures begins { IfOk result (λ o.
+        AtScript F.ModelForm B.Machine form.now model number (next_by o.opened) o.text.items) }
     ensures turn { IfOk result (λ o. AwaitsBy B.Machine o.opened (number + 1)) }
 {
     match accept(alloc, model) {

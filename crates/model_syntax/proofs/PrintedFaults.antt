@@ -1,10 +1,8 @@
 -- A move of a well-formed model has no fault behind the moves before it.
-use Rattle.std.proofs.Common.{◌≡◌, ◌≢◌, ℕ, ◌<◌, Bool, true, false, not, ◌&&◌, ◌||◌, List, [], ◌∷◌, ◌++◌, length, All, Contains, get_or, refl, sym, ap, ◌∙◌, arith, eqb, length-append}
+use Rattle.std.proofs.Common.{◌≡◌, ◌≢◌, ℕ, Bool, true, false, not, ◌&&◌, ◌||◌, List, [], ◌∷◌, ◌++◌, get_or, refl, ap, eqb}
 use Rattle.std.specs.List.{list_any}
-use Rattle.std.proofs.Math.Seq.{get_or-append_seam}
-use Rattle.std.proofs.lemmas.Bool.{eqb-true, eq-eqb, or_parts, not-true, both_ways}
-use Rattle.std.proofs.lemmas.List.{get_or_default, get_or_append_left}
-use Rattle.std.proofs.lemmas.List.Folds.{list_any-append, list_any_none}
+use Rattle.std.proofs.lemmas.Bool.{eqb-true, eq-eqb, not-true, both_ways}
+use Rattle.std.proofs.lemmas.List.Folds.{list_any_none}
 use Rattle.list_laws.proofs.Tests.{either}
 use Rattle.cca_base.specs.declared.model.Move.{Move}
 use Rattle.cca_base.specs.Model.{CommandsFit}
@@ -16,9 +14,6 @@ no_and true true h = absurd (h refl refl)
 no_and true false h = refl
 no_and false b h = refl
 
-any_front : {X : Type 0} (p : X → Bool) (xs ys : List X) → list_any p (xs ++ ys) ≡ false → list_any p xs ≡ false
-any_front p xs ys h = (or_parts (list_any p xs) (list_any p ys) (sym (list_any-append p xs ys) ∙ h)).0
-
 any_at : {X : Type 0} (p : X → Bool) (xs : List X) (y : X) (ys : List X) → p y ≡ true → list_any p (xs ++ y ∷ ys) ≡ true
 any_at p [] y ys h = ap (λ b. b || list_any p ys) h
 any_at p (x ∷ xs) y ys h = go (p x) (any_at p xs y ys h)
@@ -26,15 +21,6 @@ any_at p (x ∷ xs) y ys h = go (p x) (any_at p xs y ys h)
     go : (b : Bool) → list_any p (xs ++ y ∷ ys) ≡ true → (b || list_any p (xs ++ y ∷ ys)) ≡ true
     go true e = refl
     go false e = e
-
--- each of the first elements is in the list
-front_in : {X : Type 0} (xs ys : List X) → All (Contains (xs ++ ys)) xs
-front_in xs ys k d lt =
-    let within : k < length (xs ++ ys) = let a = length-append xs ys in omega (arith, a, lt) in
-    (k, within, get_or_append_left xs ys (get_or xs k d) k lt ∙ get_or_default xs k (get_or xs k d) d lt)
-
-seam_in : {X : Type 0} (xs : List X) (y : X) (ys : List X) → Contains (xs ++ y ∷ ys) y
-seam_in xs y ys = (length xs, let a = length-append xs (y ∷ ys) in omega (arith, a), get_or-append_seam xs y ys y)
 
 module _ (front : List Move) (x : Move) (rest : List Move) (commands : CommandsFit (front ++ x ∷ rest)) where
   abbrev moves : List Move

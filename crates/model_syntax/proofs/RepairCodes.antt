@@ -13,9 +13,6 @@ use Rattle.cca_base.proofs.Growth.{ordinary_fits}
 use Rattle.model_syntax.specs.Codes.{leads_to, leads_unmarked, leaves_unmarked, mends_elsewhere, is_move_into_broken, is_repair_into_broken, is_into_broken, is_unmarked_exit, mends_twice, is_repair_cycle, stands_in_chain}
 use Rattle.model_syntax.proofs.ChainTests.{to_chain, chains_are_tested}
 
-any_none : {X : Type 0} (p : X → Bool) (xs : List X) → ((y : X) → Contains xs y → p y ≡ true → ⊥) → list_any p xs ≡ false
-any_none p xs none = false_from_ne_true (list_any p xs) (λ e. let found = Any-from_list_any p xs e in none found.1 (found.0, found.2, found.3) found.4)
-
 pub any_some : {X : Type 0} (p : X → Bool) (xs : List X) (y : X) → Contains xs y → p y ≡ true → list_any p xs ≡ true
 any_some p xs y among pass = list_any-from_Any p xs (among.0, y, among.1, among.2, pass)
 

@@ -96,15 +96,19 @@ name_at names k = option_map_or (λ name. name) (slice_get names k) []
 abbrev pub version_digit : ℕ → List ℕ
 version_digit version = if version == 2 then codes "2" else codes "1"
 
+-- the line of the version
 abbrev pub header_said : ℕ → List Lexeme
 header_said version = word (codes "titan") ∷ number (version_digit version) ∷ []
 
+-- the line of a component
 abbrev pub component_said : Component → List Lexeme
 component_said c = word (codes "component") ∷ word c.name ∷ symbol (codes "=") ∷ name_list_spelled c.modes ++ word (codes "start") ∷ word (name_at c.modes c.start) ∷ []
 
+-- the line of a variable
 abbrev pub variable_said : Variable → List Lexeme
 variable_said v = word (codes "var") ∷ word v.name ∷ symbol (codes "=") ∷ name_list_spelled v.values ++ sensed_spelled v.sensed
 
+-- the line of a rule
 abbrev pub rule_said : PlantModel → Formula → List Lexeme
 rule_said m f = word (codes "rule") ∷ formula_said m f
 
@@ -113,10 +117,12 @@ abbrev pub ends_said : PlantModel → ℕ → ℕ → ℕ → List Lexeme → Li
 ends_said m c a b rest =
     word (name_of m (subjects.Component c)) ∷ word (name_at (choices_of m (subjects.Component c)) a) ∷ symbol (codes "->") ∷ word (name_at (choices_of m (subjects.Component c)) b) ∷ rest
 
+-- the line of a move or a repair
 abbrev pub move_said : PlantModel → Move → List Lexeme
 move_said m x =
     word (move_word x.repair) ∷ ends_said m x.component x.source x.target (word (codes "by") ∷ word (name_at m.commands x.command) ∷ word (codes "when") ∷ formula_said m x.guard)
 
+-- the line of a failure
 abbrev pub failure_said : PlantModel → Failure → List Lexeme
 failure_said m x = word (codes "fail") ∷ ends_said m x.component x.source x.target (word (codes "cost") ∷ number (decimal x.cost) ∷ [])
 

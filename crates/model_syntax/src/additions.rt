@@ -61,8 +61,11 @@ pub fn add_component(
 ) -> Result<(), AllocError>
     requires fit { NamesFit names.old model.old }
     requires words { list_all is_bare_name (name.now ∷ map (λ w. w.now) modes.now) ≡ true }
-    requires code { component_code model.old name.now (map (λ w. w.now) modes.now) start.now ≡ None }
-    ensures ok { OnOk result (model.new ≡ with_component model.old (new_component name.now (map (λ w. w.now) modes.now) start.now)) }
+    requires code { component_code model.old name.now (map (λ w.
+        w.now) modes.now) start.now ≡ None }
+    ensures ok { OnOk result (model.new
+        ≡ with_component model.old (new_component name.now (map (λ w.
+        w.now) modes.now) start.now)) }
     ensures err { OnErr result (model.new ≡ model.old) }
     ensures fit { NamesFit names.new model.new }
 {
@@ -93,7 +96,8 @@ pub fn add_variable(
     requires words { list_all is_bare_name (name.now ∷ map (λ w. w.now) values.now) ≡ true }
     requires some { 0 < length values.now }
     requires code { variable_code model.old name.now (map (λ w. w.now) values.now) ≡ None }
-    ensures ok { OnOk result (model.new ≡ with_variable model.old (new_variable name.now (map (λ w. w.now) values.now) sensed)) }
+    ensures ok { OnOk result (model.new
+        ≡ with_variable model.old (new_variable name.now (map (λ w. w.now) values.now) sensed)) }
     ensures err { OnErr result (model.new ≡ model.old) }
     ensures fit { NamesFit names.new model.new }
 {

@@ -105,7 +105,11 @@ fn mends_twice(moves: &[Move], x: &Move) -> bool
 
 /// The least code of a move between modes that are known, and whose guard is sound.
 pub fn move_code(model: &Model, x: &Move, command: &[u8]) -> Option<u8>
-    ensures code { result ≡ least ((limit_code, is_long command.now || nat_le MAX_MOVES (length model.now.moves)) ∷ move_faults model.now x.now) }
+    ensures code { result ≡ least ((
+      limit_code,
+      is_long command.now || nat_le MAX_MOVES
+          (length model.now.moves),
+    ) ∷ move_faults model.now x.now) }
     ensures well_formed { WellFormed model.now }
 {
     let moves = model.moves().as_slice();

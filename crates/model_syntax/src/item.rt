@@ -51,14 +51,16 @@ pub enum Item<'a, 'b> {
 
 /// The item, where nothing follows.
 fn ended<'a, 'b>(item: Item<'a, 'b>, tokens: &[Token]) -> Option<Item<'a, 'b>>
-    ensures { option_map shown_item result ≡ ended (shown_item item.entry) (map lexeme_of tokens.now) }
+    ensures { option_map shown_item result
+        ≡ ended (shown_item item.entry) (map lexeme_of tokens.now) }
 {
     if tokens.is_empty() { Some(item) } else { None }
 }
 
 /// The digits at the front of the tokens, and what stands behind them.
 fn number_at<'a, 'b>(tokens: &'b [Token<'a>]) -> Option<(&'a [u8], &'b [Token<'a>])>
-    ensures { option_map (λ r. (r.0.now, map lexeme_of r.1.now)) result ≡ number_at (map lexeme_of tokens.now) }
+    ensures { option_map (λ r. (r.0.now, map lexeme_of r.1.now)) result
+        ≡ number_at (map lexeme_of tokens.now) }
 {
     match tokens {
         [first, rest @ ..] => {
@@ -74,7 +76,8 @@ fn number_at<'a, 'b>(tokens: &'b [Token<'a>]) -> Option<(&'a [u8], &'b [Token<'a
 /// The ends of a move at the front of the tokens, and what stands behind them.
 #[tactic(auto, unfolding(crate::specs::Items::ends_at))]
 fn ends_at<'a, 'b>(tokens: &'b [Token<'a>]) -> Option<(Ends<'a>, &'b [Token<'a>])>
-    ensures { option_map (λ r. (shown_ends r.0, map lexeme_of r.1.now)) result ≡ ends_at (map lexeme_of tokens.now) }
+    ensures { option_map (λ r. (shown_ends r.0, map lexeme_of r.1.now)) result
+        ≡ ends_at (map lexeme_of tokens.now) }
 {
     let (name, rest) = name_word_at(tokens)?;
     let (source, rest) = name_word_at(rest)?;
@@ -90,7 +93,8 @@ fn ends_at<'a, 'b>(tokens: &'b [Token<'a>]) -> Option<(Ends<'a>, &'b [Token<'a>]
 
 /// The line of a version, where the number of it stands alone.
 fn header_of<'a, 'b>(second: bool, digits: &[u8], tokens: &'b [Token<'a>]) -> Option<Item<'a, 'b>>
-    ensures { option_map shown_item result ≡ header_of second digits.now (map lexeme_of tokens.now) }
+    ensures { option_map shown_item result
+        ≡ header_of second digits.now (map lexeme_of tokens.now) }
 {
     let rest = next_is(Kind::Number, digits, tokens)?;
     ended(Item::Header(second), rest)
@@ -111,7 +115,8 @@ fn component_at<'a, 'b>(
     alloc: Global,
     tokens: &'b [Token<'a>],
 ) -> Result<Option<Item<'a, 'b>>, AllocError>
-    ensures { IfOk result (λ read. option_map shown_item read ≡ component_at (map lexeme_of tokens.now)) }
+    ensures { IfOk result (λ read.
+        option_map shown_item read ≡ component_at (map lexeme_of tokens.now)) }
 {
     let Some((name, rest)) = name_word_at(tokens) else {
         return Ok(None);
@@ -137,7 +142,8 @@ fn sensed_at<'a, 'b>(
     values: Vec<&'a [u8]>,
     tokens: &[Token],
 ) -> Option<Item<'a, 'b>>
-    ensures { option_map shown_item result ≡ sensed_at name.now (map (λ w. w.now) values.entry.items) (map lexeme_of tokens.now) }
+    ensures { option_map shown_item result
+        ≡ sensed_at name.now (map (λ w. w.now) values.entry.items) (map lexeme_of tokens.now) }
 {
     match tokens {
         [] => Some(Item::Variable {
@@ -165,7 +171,8 @@ fn variable_at<'a, 'b>(
     alloc: Global,
     tokens: &'b [Token<'a>],
 ) -> Result<Option<Item<'a, 'b>>, AllocError>
-    ensures { IfOk result (λ read. option_map shown_item read ≡ variable_at (map lexeme_of tokens.now)) }
+    ensures { IfOk result (λ read.
+        option_map shown_item read ≡ variable_at (map lexeme_of tokens.now)) }
 {
     let Some((name, rest)) = name_word_at(tokens) else {
         return Ok(None);
@@ -210,7 +217,8 @@ pub fn item_of<'a, 'b>(
     alloc: Global,
     tokens: &'b [Token<'a>],
 ) -> Result<Option<Item<'a, 'b>>, AllocError>
-    ensures { IfOk result (λ read. option_map shown_item read ≡ item_of (map lexeme_of tokens.now)) }
+    ensures { IfOk result (λ read.
+        option_map shown_item read ≡ item_of (map lexeme_of tokens.now)) }
 {
     match tokens {
         [] => Ok(None),
@@ -241,5 +249,6 @@ pub fn item_of<'a, 'b>(
 /// The grammar beside the reading: what an item spells is read as that item, and what is read as an item is its spelling.
 pub fn lines_are_spelled()
     ensures read { (i : SpelledItem) → IsSpelled i → item_of (line_spelled i) ≡ Some i }
-    ensures spelled { (ls : List Lexeme) (i : SpelledItem) → item_of ls ≡ Some i → (ls ≡ line_spelled i) × IsSpelled i }
+    ensures spelled { (ls : List Lexeme) (i : SpelledItem) → item_of ls ≡ Some i →
+        (ls ≡ line_spelled i) × IsSpelled i }
 {}

@@ -29,7 +29,8 @@ pub fn item_line(
     requires complete { IsComplete model.old }
     requires few { length model.old.commands ≤ length model.old.moves }
     requires bare { HasBareNames (shown_item item) }
-    ensures next { AnswersItem result model.old model.new (IsNextOfItem model.old (shown_item item.entry)) }
+    ensures next { AnswersItem result model.old model.new
+        (IsNextOfItem model.old (shown_item item.entry)) }
     ensures names { NamesFit names.new model.new }
     ensures fit { NumbersFit numbers.new model.new.commands }
     ensures complete { IsComplete model.new }

@@ -30,7 +30,8 @@ pub fn component_line(
 ) -> Result<(), Stop>
     requires fit { NamesFit names.old model.old }
     requires words { list_all is_bare_name (name.now ∷ map (λ w. w.now) modes.now) ≡ true }
-    ensures next { AnswersModel result model.old model.new (λ next. next ≡ component_next model.old name.now (map (λ w. w.now) modes.now) start.now) }
+    ensures next { AnswersModel result model.old model.new (λ next.
+        next ≡ component_next model.old name.now (map (λ w. w.now) modes.now) start.now) }
     ensures fit { NamesFit names.new model.new }
     ensures commands { model.new.commands ≡ model.old.commands }
     ensures moves { model.new.moves ≡ model.old.moves }
@@ -56,7 +57,8 @@ pub fn variable_line(
     requires fit { NamesFit names.old model.old }
     requires words { list_all is_bare_name (name.now ∷ map (λ w. w.now) values.now) ≡ true }
     requires some { 0 < length values.now }
-    ensures next { AnswersModel result model.old model.new (λ next. next ≡ variable_next model.old name.now (map (λ w. w.now) values.now) sensed) }
+    ensures next { AnswersModel result model.old model.new (λ next.
+        next ≡ variable_next model.old name.now (map (λ w. w.now) values.now) sensed) }
     ensures fit { NamesFit names.new model.new }
     ensures commands { model.new.commands ≡ model.old.commands }
     ensures moves { model.new.moves ≡ model.old.moves }
@@ -78,7 +80,8 @@ pub fn rule_line(
     tokens: &[Token],
 ) -> Result<(), Stop>
     requires fit { NamesFit names.now model.old }
-    ensures next { AnswersModel result model.old model.new (IsNextOfText (map lexeme_of tokens.now) (rule_next model.old)) }
+    ensures next { AnswersModel result model.old model.new
+        (IsNextOfText (map lexeme_of tokens.now) (rule_next model.old)) }
     ensures fit { NamesFit names.now model.new }
     ensures commands { model.new.commands ≡ model.old.commands }
     ensures moves { model.new.moves ≡ model.old.moves }
@@ -113,7 +116,8 @@ fn is_cost(cost: u128) -> bool
 
 /// Whether a failure may not have the cost, or the model takes no more failures.
 fn failure_passes(model: &Model, cost: u128) -> bool
-    ensures value { result ≡ (not (is_cost cost) || nat_le MAX_FAILURES (length model.now.failures)) }
+    ensures value { result ≡ (not (is_cost cost) || nat_le MAX_FAILURES
+        (length model.now.failures)) }
     ensures well_formed { WellFormed model.now }
 {
     let full = model.failures().len() >= MAX_FAILURES;
@@ -128,7 +132,8 @@ pub fn failure_line(
     cost: &[u8],
 ) -> Result<(), Stop>
     requires fit { NamesFit names.now model.old }
-    ensures next { AnswersModel result model.old model.new (IsNextOfNumber cost.now (failure_next model.old (shown_ends ends.entry))) }
+    ensures next { AnswersModel result model.old model.new
+        (IsNextOfNumber cost.now (failure_next model.old (shown_ends ends.entry))) }
     ensures fit { NamesFit names.now model.new }
     ensures commands { model.new.commands ≡ model.old.commands }
     ensures moves { model.new.moves ≡ model.old.moves }

@@ -63,7 +63,7 @@ impl ModelReader {
         &self.model
     }
 
-    /// Reads one line, without its end. After a refusal or want of memory the reader is as before.
+    /// Reads one line, without its end. After a refusal, or out of memory, the reader is as before.
     pub fn line(&mut self, text: &[u8]) -> Result<LineEnd, Stop>
         ensures { AnswersLine result self.old self.new (LineLeads self.old text.now) }
     {
@@ -76,7 +76,8 @@ impl ModelReader {
 
     fn tokens_line(&mut self, tokens: &[Token]) -> Result<LineEnd, Stop>
         requires { AllByRecursion IsOfItsKind (map token_view tokens.now) }
-        ensures { AnswersLine result self.old self.new (LeadsByTokens self.old (Ok (map token_view tokens.now))) }
+        ensures { AnswersLine result self.old self.new
+            (LeadsByTokens self.old (Ok (map token_view tokens.now))) }
     {
         tokens_line(
             self.alloc,

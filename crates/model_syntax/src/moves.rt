@@ -79,7 +79,11 @@ fn add_with_command(
     requires complete { IsComplete model.old }
     requires number { x.command ≡ command_number model.old command.now }
     requires bare { is_bare_name command.now ≡ true }
-    requires code { least ((limit_code, is_long command.now || nat_le MAX_MOVES (length model.old.moves)) ∷ move_faults model.old x) ≡ None }
+    requires code { least ((
+      limit_code,
+      is_long command.now || nat_le MAX_MOVES
+          (length model.old.moves),
+    ) ∷ move_faults model.old x) ≡ None }
     requires free { place_of model.old.commands command.now ≡ None }
     ensures ok { OnOk result (model.new ≡ with_move (with_command model.old command.now) x) }
     ensures err { OnErr result (model.new ≡ model.old) }
@@ -116,7 +120,11 @@ fn add_declared(
     requires complete { IsComplete model.old }
     requires number { x.command ≡ command_number model.old command.now }
     requires bare { is_bare_name command.now ≡ true }
-    requires code { least ((limit_code, is_long command.now || nat_le MAX_MOVES (length model.old.moves)) ∷ move_faults model.old x) ≡ None }
+    requires code { least ((
+      limit_code,
+      is_long command.now || nat_le MAX_MOVES
+          (length model.old.moves),
+    ) ∷ move_faults model.old x) ≡ None }
     requires few { length model.old.commands ≤ length model.old.moves }
     ensures ok { OnOk result (model.new ≡ with_move (with_named model.old command.now) x) }
     ensures err { OnErr result (model.new ≡ model.old) }
@@ -147,7 +155,8 @@ fn take_move(
     requires number { x.command ≡ command_number model.old command.now }
     requires bare { is_bare_name command.now ≡ true }
     requires few { length model.old.commands ≤ length model.old.moves }
-    ensures next { AnswersModel result model.old model.new (λ next. next ≡ taken_move model.old x command.now) }
+    ensures next { AnswersModel result model.old model.new (λ next.
+        next ≡ taken_move model.old x command.now) }
     ensures fit { NumbersFit numbers.new model.new.commands }
     ensures complete { IsComplete model.new }
     ensures few { length model.new.commands ≤ length model.new.moves }
@@ -179,7 +188,9 @@ pub fn move_line(
     requires complete { IsComplete model.old }
     requires few { length model.old.commands ≤ length model.old.moves }
     requires bare { is_bare_name command.now ≡ true }
-    ensures next { AnswersModel result model.old model.new (IsNextOfText (map lexeme_of guard.now) (move_next model.old repair (shown_ends ends.entry) command.now)) }
+    ensures next { AnswersModel result model.old model.new
+        (IsNextOfText (map lexeme_of guard.now) (move_next model.old repair (shown_ends ends.entry)
+        command.now)) }
     ensures names { NamesFit names.now model.new }
     ensures fit { NumbersFit numbers.new model.new.commands }
     ensures complete { IsComplete model.new }

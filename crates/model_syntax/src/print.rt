@@ -84,7 +84,8 @@ fn ends(
     source: u8,
     target: u8,
 ) -> Result<(), AllocError>
-    ensures { OnOk result (out.new ≡ with_tokens out.old (ends_said model.now component source target [])) }
+    ensures { OnOk result (out.new
+        ≡ with_tokens out.old (ends_said model.now component source target [])) }
 {
     let subject = Subject::Component(component);
     let modes = choices_of(model, subject);
@@ -139,7 +140,8 @@ fn variables(out: &mut Printer, model: &Model) -> Result<(), AllocError>
 }
 
 fn rules(alloc: Global, out: &mut Printer, model: &Model) -> Result<(), AllocError>
-    ensures { OnOk result (out.new ≡ with_lines out.old (map (rule_said model.now) model.now.rules)) }
+    ensures { OnOk result (out.new
+        ≡ with_lines out.old (map (rule_said model.now) model.now.rules)) }
 {
     for x in model.rules().as_slice() {
         rule(alloc, out, model, x)?;
@@ -148,7 +150,8 @@ fn rules(alloc: Global, out: &mut Printer, model: &Model) -> Result<(), AllocErr
 }
 
 fn moves(alloc: Global, out: &mut Printer, model: &Model) -> Result<(), AllocError>
-    ensures { OnOk result (out.new ≡ with_lines out.old (map (move_said model.now) model.now.moves)) }
+    ensures { OnOk result (out.new
+        ≡ with_lines out.old (map (move_said model.now) model.now.moves)) }
 {
     for x in model.moves().as_slice() {
         moved(alloc, out, model, x)?;
@@ -157,7 +160,8 @@ fn moves(alloc: Global, out: &mut Printer, model: &Model) -> Result<(), AllocErr
 }
 
 fn failures(alloc: Global, out: &mut Printer, model: &Model) -> Result<(), AllocError>
-    ensures { OnOk result (out.new ≡ with_lines out.old (map (failure_said model.now) model.now.failures)) }
+    ensures { OnOk result (out.new
+        ≡ with_lines out.old (map (failure_said model.now) model.now.failures)) }
 {
     for x in model.failures().as_slice() {
         failure(alloc, out, model, x)?;
@@ -167,7 +171,7 @@ fn failures(alloc: Global, out: &mut Printer, model: &Model) -> Result<(), Alloc
 
 /// The model's text, one line per item, each with its LF. First comes `titan` and the version, then the components, the variables, the
 /// rules, the moves and repairs in their order, and the failures. A space stands between two tokens that are both words or numbers, and
-/// parentheses stand where a formula needs them. The error is want of memory.
+/// parentheses stand where a formula needs them. The error is out of memory.
 pub fn print_model(alloc: Global, model: &Model) -> Result<List<u8>, AllocError>
     ensures { IfOk result (λ text. text ≡ printed_model model.now) }
 {

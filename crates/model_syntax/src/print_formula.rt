@@ -37,7 +37,9 @@ fn comparison(
     sign: &[u8],
     value: &Name,
 ) -> Result<(), AllocError>
-    ensures { OnOk result (out.new ≡ with_tokens out.old (word (name_of model.now subject) ∷ symbol sign.now ∷ word value.now ∷ [])) }
+    ensures { OnOk result (out.new
+        ≡ with_tokens out.old (word (name_of model.now subject) ∷ symbol sign.now ∷ word value.now
+        ∷ [])) }
 {
     out.word(name_of(model, subject))?;
     out.symbol(sign)?;
@@ -54,7 +56,9 @@ fn among(
     subject: Subject,
     set: ValueSet,
 ) -> Result<(), AllocError>
-    ensures { OnOk result (out.new ≡ with_tokens out.old (among_said (name_of model.now subject) (names_in 0 (choices_of model.now subject) set)).tokens) }
+    ensures { OnOk result (out.new
+        ≡ with_tokens out.old (among_said (name_of model.now subject)
+        (names_in 0 (choices_of model.now subject) set)).tokens) }
 {
     let chosen = names_in(alloc, choices_of(model, subject), set)?;
     match chosen.as_slice() {
@@ -106,7 +110,8 @@ fn part(
     part: &Formula,
     allowed: u8,
 ) -> Result<(), AllocError>
-    ensures { OnOk result (out.new ≡ with_tokens out.old (part_said allowed (said model.now part.now))) }
+    ensures { OnOk result (out.new
+        ≡ with_tokens out.old (part_said allowed (said model.now part.now))) }
 {
     if precedence(part) <= allowed {
         formula(alloc, out, model, part)?;

@@ -27,7 +27,9 @@ fn opening_line(
     begun: &mut bool,
     item: Item,
 ) -> Result<LineEnd, Stop>
-    ensures value { AnswersLine result (record { model = model.old; begun = begun.old }) (record { model = model.new; begun = begun.new }) (λ o. o ≡ opening model.old (Some (shown_item item.entry))) }
+    ensures value { AnswersLine result (record { model = model.old; begun = begun.old })
+        (record { model = model.new; begun = begun.new }) (λ o.
+        o ≡ opening model.old (Some (shown_item item.entry))) }
     ensures kept { (model.new ≡ model.old) ⊎ (model.new ≡ in_second model.old) }
 {
     match item {
@@ -58,7 +60,9 @@ fn form_line(
     requires complete { IsComplete model.old }
     requires few { length model.old.commands ≤ length model.old.moves }
     requires bare { HasBareNames (shown_item item) }
-    ensures next { AnswersLine result (record { model = model.old; begun = begun.old }) (record { model = model.new; begun = begun.new }) (LeadsByForm begun.old model.old (Some (shown_item item.entry))) }
+    ensures next { AnswersLine result (record { model = model.old; begun = begun.old })
+        (record { model = model.new; begun = begun.new })
+        (LeadsByForm begun.old model.old (Some (shown_item item.entry))) }
     ensures names { NamesFit names.new model.new }
     ensures fit { NumbersFit numbers.new model.new.commands }
     ensures complete { IsComplete model.new }
@@ -85,7 +89,10 @@ pub fn tokens_line(
     requires complete { IsComplete model.old }
     requires few { length model.old.commands ≤ length model.old.moves }
     requires kinds { AllByRecursion IsOfItsKind (map token_view tokens.now) }
-    ensures next { AnswersLine result (record { model = model.old; begun = begun.old }) (record { model = model.new; begun = begun.new }) (LeadsByTokens (record { model = model.old; begun = begun.old }) (Ok (map token_view tokens.now))) }
+    ensures next { AnswersLine result (record { model = model.old; begun = begun.old })
+        (record { model = model.new; begun = begun.new })
+        (LeadsByTokens (record { model = model.old; begun = begun.old })
+        (Ok (map token_view tokens.now))) }
     ensures names { NamesFit names.new model.new }
     ensures fit { NumbersFit numbers.new model.new.commands }
     ensures complete { IsComplete model.new }

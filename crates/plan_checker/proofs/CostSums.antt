@@ -123,9 +123,6 @@ pub record IsSumTo (m : PlantModel) (s nominal s2 : List ℕ) (count total : ℕ
   pub sums : total ≡ sum parts
   pub cheap : total ≤ count * MAX_COST
 
-pub sum_none : (m : PlantModel) (s nominal s2 : List ℕ) → IsSumTo m s nominal s2 0 0
-sum_none m s nominal s2 = record { parts = []; are = no_parts m s nominal s2; sums = refl; cheap = omega arith }
-
 pub sum_more : (m : PlantModel) → WellFormed m → (s nominal s2 : List ℕ) (count total cost : ℕ) → IsSumTo m s nominal s2 count total
     → ChangeCosts m count (slice_index s count) (slice_index nominal count) (slice_index s2 count) cost → IsSumTo m s nominal s2 (count + 1) (total + cost)
 sum_more m good s nominal s2 count total cost h more = record {
@@ -134,9 +131,6 @@ sum_more m good s nominal s2 count total cost h more = record {
   sums = omega (arith, total_more m s nominal s2 h.parts cost, h.sums);
   cheap = omega (arith, h.cheap, change_cheap m good count (slice_index s count) (slice_index nominal count) (slice_index s2 count) cost more);
 }
-
-pub sum_whole : (m : PlantModel) (s nominal s2 : List ℕ) (count total : ℕ) → count ≡ length s2 → IsSumTo m s nominal s2 count total → IsTotal m s nominal s2 (Some total)
-sum_whole m s nominal s2 count total e h = (h.parts, subst (λ n. AreParts m s nominal s2 n h.parts) e h.are, h.sums)
 
 -- what holds of three numbers holds of equal ones
 pub along : (P : ℕ → ℕ → ℕ → Type 0) (a b d x y z : ℕ) → a ≡ x → b ≡ y → d ≡ z → P x y z → P a b d

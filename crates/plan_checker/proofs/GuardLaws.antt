@@ -1,5 +1,5 @@
 -- A guard follows from the pairs that a move may lean on in whatever order they stand, and holds in a state where it follows from the state's pairs.
-use Rattle.std.proofs.Common.{◌≡◌, ◌≢◌, ◌⊎◌, ◌↔◌, ◌<◌, ◌≤◌, ◌+◌, ℕ, Bool, true, false, not, List, [], ◌∷◌, ◌++◌, length, slice_get, Some, All, Contains, IsTrue, refl, sym, ap, subst, ◌∙◌, inl, inr, arith}
+use Rattle.std.proofs.Common.{◌≡◌, ◌⊎◌, ◌↔◌, ◌<◌, ◌≤◌, ◌+◌, ℕ, Bool, true, false, not, List, [], ◌∷◌, ◌++◌, length, slice_get, Some, All, Contains, IsTrue, refl, sym, ap, subst, ◌∙◌, inl, inr, arith}
 use Rattle.std.proofs.lemmas.Bool.{both_ways, cases_eq, not-true, not_from_false}
 use Rattle.std.proofs.lemmas.List.{length-map}
 use Rattle.std.proofs.lemmas.List.Elements.{All-contains, Contains-append_left, Contains-push, Contains-push_cases}
@@ -9,17 +9,15 @@ use Rattle.cca_base.specs.declared.cube.Pair.{Pair}
 use Rattle.cca_base.specs.declared.formula.Formula.{Formula}
 use Rattle.cca_base.specs.declared.model.Move.{Move}
 use Rattle.cca_base.specs.PlantModel.{PlantModel}
-use Rattle.cca_base.specs.Cube.{Lacks}
 use Rattle.cca_base.specs.Formula.{is_within}
 use Rattle.cca_base.specs.Implicants.{source_pair}
 use Rattle.cca_base.specs.Model.{WellFormed, IsMove, HasMode, is_broken, mode_counts, value_counts}
 use Rattle.cca_base.specs.Repairs.{pairs_of, sound_pairs}
 use Rattle.cca_base.specs.State.{IsState, Extends, Follows, Holds}
 use Rattle.cca_base.specs.Steps.{support}
-use Rattle.cca_base.proofs.Members.{all_from, contains_cases, contains_here, contains_there, contains_none, to_filter, from_filter, in_pairs, stands_in}
+use Rattle.cca_base.proofs.Members.{all_from, contains_cases, contains_here, contains_there, to_filter, from_filter, in_pairs, stands_in}
 use Rattle.cca_base.proofs.StateLaws.{same_state}
 use Rattle.cca_base.proofs.Within.{fits_within}
-use Rattle.consistency.specs.Found.{Counters}
 use Rattle.consistency.proofs.StatePairs.{extends_own}
 use Rattle.plan_checker.specs.Steps.{AreSupport}
 
@@ -29,10 +27,6 @@ guard_within m good move among =
     let of : IsMove m move = All-contains (IsMove m) m.moves move good.moves among in
     subst (λ n. is_within n (length m.variables) move.guard ≡ true) (length-map m.components (λ c. length c.modes))
     (subst (λ n. is_within (length (mode_counts m)) n move.guard ≡ true) (length-map m.variables (λ v. length v.values)) (fits_within (mode_counts m) (value_counts m) move.guard of.guard.fits))
-
--- where a counterexample was found, the formula does not follow
-pub countered : (m : PlantModel) (pairs : List Pair) (f : Formula) (s w : List ℕ) → Counters m pairs f s w → Follows m pairs f → ⊥
-countered m pairs f s w counter follows = both_ways _ counter.is_false (follows s counter.state counter.extends w counter.world)
 
 -- what follows from some pairs follows from others, where the states that hold these hold those
 pub follows_along : (m : PlantModel) (a b : List Pair) (f : Formula) → ((t : List ℕ) → Extends t b → Extends t a) → Follows m a f → Follows m b f
@@ -97,10 +91,6 @@ abbrev pub AreSupportTo : PlantModel → List ℕ → ℕ → ℕ → List Pair 
 AreSupportTo m s own count pairs = (p : Pair) → Contains pairs p ↔ ((p.item < count) × (slice_get s p.item ≡ Some p.value) × IsLeanedOn m own p)
 
 module _ (m : PlantModel) (s : List ℕ) (own count : ℕ) (pairs : List Pair) (are : AreSupportTo m s own count pairs) where
-  -- none of them is of the next component
-  pub next_new : Lacks count pairs
-  next_new = all_from (λ p. p.item ≢ count) pairs (λ p among same. omega (arith, ((are p).0 among).0, same))
-
   pub support_more : (q : Pair) → q.item ≡ count → slice_get s count ≡ Some q.value → IsLeanedOn m own q → AreSupportTo m s own (count + 1) (pairs ++ q ∷ [])
   support_more q at stands leaned p = (
     λ among. elim (Contains-push_cases pairs q p among) [
@@ -128,9 +118,6 @@ module _ (m : PlantModel) (s : List ℕ) (own count : ℕ) (pairs : List Pair) (
       | inr apart ↦ (are p).1 (omega (arith, h.0, apart), h.1, h.2)
     ],
   )
-
-pub support_none : (m : PlantModel) (s : List ℕ) (own : ℕ) → AreSupportTo m s own 0 []
-support_none m s own p = ((λ among. absurd (contains_none p among)), (λ h. absurd (omega (arith, h.0))))
 
 pub support_whole : (m : PlantModel) (s : List ℕ) (own count : ℕ) (pairs : List Pair) → length s ≤ count → AreSupportTo m s own count pairs → AreSupport m s own pairs
 support_whole m s own count pairs full are p = (

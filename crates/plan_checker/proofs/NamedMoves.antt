@@ -10,20 +10,14 @@ use Rattle.cca_base.specs.Steps.{support, Step}
 use Rattle.cca_base.specs.Successors.{IsCommanded, Nominal}
 use Rattle.cca_base.proofs.NominalLaws.{moved}
 use Rattle.reach_laws.proofs.Commands.{one_named}
-use Rattle.plan_checker.specs.Steps.{IsNamed, NoneNamed, NoStep}
+use Rattle.plan_checker.specs.Steps.{IsNamed, NoStep}
 
 module _ (m : PlantModel) (s : List ℕ) (k : ℕ) where
   pub step_of : (move : Move) → IsNamed m s k move → Follows m (support m s move) move.guard → Step m s k (slice_set s move.component move.target)
   step_of move h follows = record { move = move; of_model = h.of_model; command = h.command; source = h.source; guard = follows; gives = refl }
 
-  pub no_move : NoneNamed m s k → NoStep m s k
-  no_move none next step = none step.move (record { of_model = step.of_model; command = step.command; source = step.source })
-
   commanded_named : (move : Move) → IsCommanded m s (Some k) move → IsNamed m s k move
   commanded_named move h = record { of_model = h.of_model; command = sym (same_Some k move.command h.command); source = h.source }
-
-  pub not_commanded : NoneNamed m s k → Nominal m s (Some k) s
-  not_commanded none = inr ((λ move h. none move (commanded_named move h)), refl)
 
   pub commanded : (move : Move) → IsNamed m s k move → Holds m s move.guard → Nominal m s (Some k) (slice_set s move.component move.target)
   commanded move h holds = inl (move, record { of_model = h.of_model; command = ap Some (sym h.command); source = h.source; guard = holds }, refl)

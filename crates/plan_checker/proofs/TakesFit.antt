@@ -1,5 +1,5 @@
 -- What a checker keeps fits its model after a yes.
-use Rattle.std.proofs.Common.{◌<◌, ℕ, List, length, refl, sym, ap, subst}
+use Rattle.std.proofs.Common.{◌<◌, ℕ, List, length, refl, sym, subst}
 use Rattle.std.specs.Prelude.{IfSome}
 use Rattle.std.proofs.lemmas.List.Elements.{All-nil, All-contains}
 use Rattle.cca_base.specs.declared.cube.Pair.{Pair}
@@ -17,8 +17,7 @@ use Rattle.cca_base.proofs.NominalLaws.{nominal_is_free}
 use Rattle.plan_checker.specs.Checked.{Takes}
 use Rattle.plan_checker.specs.Reasons.{Printed, OnEstimate, OnCommand, OnSend, IsVerdict}
 use Rattle.plan_checker.specs.declared.verdict.Verdict.TheVariants.{Yes}
-use Rattle.plan_checker.specs.Standing.{FitsModel, KeepsPending}
-use Rattle.plan_checker.proofs.EventsFit.{nothing_pending}
+use Rattle.plan_checker.specs.Standing.{FitsModel}
 
 module _ (m : PlantModel) (good : WellFormed m) where
   -- a command that is a step is one of the model's
@@ -54,12 +53,6 @@ module _ (m : PlantModel) (good : WellFormed m) where
     mirrored = h.mirrored;
     goal = h.goal;
   })
-
--- nothing is pending after what is shown was taken
-pub takes_keep : (m : PlantModel) (x : ExecutiveState) (shown : Shown) (y : ExecutiveState) → Takes m x shown y → KeepsPending y
-takes_keep m x (Estimated cost state reply) y takes = nothing_pending y (ap (λ (z : ExecutiveState). z.pending) takes.after)
-takes_keep m x Unexplained y e = nothing_pending y (ap (λ (z : ExecutiveState). z.pending) e)
-takes_keep m x Holding y e = nothing_pending y (ap (λ (z : ExecutiveState). z.pending) e)
 
 -- a printed estimate that has a cost is a state
 is_state : (m : PlantModel) (x : ExecutiveState) (shown : Shown) → OnEstimate shown (λ cost s reply. Costs m x.estimate x.command s cost) → OnEstimate shown (λ cost s reply. IsState m s)

@@ -96,15 +96,22 @@ impl Checker {
     ) -> Result<Verdict, AllocError>
         requires worlds { HasWorlds model.now }
         requires fits { FitsModel model.now self.old }
-        ensures verdict { IfOk result (IsVerdict model.now self.old (printed report.now world.entry route.entry)) }
-        ensures takes { IfOk result (λ verdict. TakesAtYes model.now self.old report.now.shown verdict self.new) }
+        ensures verdict { IfOk result (IsVerdict model.now self.old
+            (printed report.now world.entry route.entry)) }
+        ensures takes { IfOk result (λ verdict.
+            TakesAtYes model.now self.old report.now.shown verdict self.new) }
         ensures fits { FitsModel model.now self.new }
         ensures err { OnErr result (self.new ≡ self.old) }
 
         // What a yes shows, by rules and guards alone.
-        ensures successor { IfOk result (λ verdict. OnYes verdict (ShowsSuccessor model.now self.old (printed report.now world.entry route.entry))) }
-        ensures reply { IfOk result (λ verdict. OnYes verdict (ShowsReply self.old (printed report.now world.entry route.entry))) }
-        ensures safety { IfOk result (λ verdict. OnYes verdict (ShowsSafety model.now self.old (printed report.now world.entry route.entry))) }
+        ensures successor { IfOk result (λ verdict.
+            OnYes verdict (ShowsSuccessor model.now self.old
+            (printed report.now world.entry route.entry))) }
+        ensures reply { IfOk result (λ verdict.
+            OnYes verdict (ShowsReply self.old (printed report.now world.entry route.entry))) }
+        ensures safety { IfOk result (λ verdict.
+            OnYes verdict (ShowsSafety model.now self.old
+            (printed report.now world.entry route.entry))) }
     {
         let _moves = model.moves();
         let worlds = Worlds::of(self.alloc, model)?;

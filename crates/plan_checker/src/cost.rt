@@ -31,7 +31,8 @@ fn with_failure(
     from: u8,
     to: u8,
 ) -> Option<u32>
-    ensures { (fs : List Failure) → IsLeastCost fs component from to least → IsLeastCost (fs ++ failure.now ∷ []) component from to result }
+    ensures { (fs : List Failure) → IsLeastCost fs component from to least →
+        IsLeastCost (fs ++ failure.now ∷ []) component from to result }
 {
     if failure.component != component {
         return least;
@@ -97,7 +98,8 @@ pub(crate) fn has_cost(
 ) -> Result<bool, AllocError>
     requires of { AreWorldsOf model.now worlds.now }
     requires last { IsState model.now last.now.modes }
-    ensures { IfOk result (λ b. IsTrue b ↔ Costs model.now last.now.modes command state.now.modes cost) }
+    ensures { IfOk result (λ b.
+        IsTrue b ↔ Costs model.now last.now.modes command state.now.modes cost) }
 {
     let _moves = model.moves();
     if !is_state(model, state) {

@@ -20,9 +20,11 @@ pub(crate) fn change(
 ) -> Result<(), AllocError>
     requires fits { FitsModel model.now (state_of standing.old) }
     requires pending { KeepsPending (state_of standing.old) }
-    requires may_come { MayCome model.now standing.old.pending.pairs standing.old.mirrored event.now }
+    requires may_come { MayCome model.now standing.old.pending.pairs standing.old.mirrored
+        event.now }
     requires no_tick { IsTick event.now → ⊥ }
-    ensures ok { OnOk result (Changes model.now AsGiven (state_of standing.old) event.now (state_of standing.new)) }
+    ensures ok { OnOk result (Changes model.now AsGiven (state_of standing.old) event.now
+        (state_of standing.new)) }
     ensures err { OnErr result (standing.new ≡ standing.old) }
 {
     let _moves = model.moves();

@@ -24,7 +24,8 @@ fn follows(
 ) -> Result<bool, AllocError>
     requires of { AreWorldsOf model.now worlds.now }
     requires modes { All (λ p. HasMode model.now p.item p.value) modes.now }
-    requires formula { IsTrue (is_within (length model.now.components) (length model.now.variables) formula.now) }
+    requires formula { IsTrue (is_within (length model.now.components) (length model.now.variables)
+        formula.now) }
     ensures { IfOk result (λ b. IsTrue b ↔ Follows model.now modes.now formula.now) }
 {
     if is_sure(formula, modes.as_slice(), true) {
@@ -38,7 +39,8 @@ fn follows(
 
 /// Whether a move of the component may lean on the mode: it is the component's own, or isn't broken.
 fn is_leaned_on(model: &Model, component: u16, item: u16, value: u8) -> bool
-    ensures { IsTrue result ↔ ((item ≡ component) ⊎ (is_broken model.now.moves item value ≡ false)) }
+    ensures { IsTrue result ↔ ((item ≡ component)
+        ⊎ (is_broken model.now.moves item value ≡ false)) }
 {
     item == component || !model.broken(item, value)
 }
@@ -74,7 +76,8 @@ pub(crate) fn guard_follows(
     requires of { AreWorldsOf model.now worlds.now }
     requires state { IsState model.now state.now.modes }
     requires named { IsNamed model.now state.now.modes step.now.command step.now }
-    ensures { IfOk result (λ b. IsTrue b ↔ Follows model.now (support model.now state.now.modes step.now) step.now.guard) }
+    ensures { IfOk result (λ b.
+        IsTrue b ↔ Follows model.now (support model.now state.now.modes step.now) step.now.guard) }
 {
     let _moves = model.moves();
     let modes = support_of(alloc, model, state, step.component)?;

@@ -34,7 +34,9 @@ fn has_its_cost(
 ) -> Result<bool, AllocError>
     requires of { AreWorldsOf model.now worlds.now }
     requires fits { FitsModel model.now (state_of standing.now) }
-    ensures { IfOk result (λ b. IsTrue b ↔ HasItsCost model.now (state_of standing.now) (printed report.now world.entry route.entry)) }
+    ensures { IfOk result (λ b.
+        IsTrue b ↔ HasItsCost model.now (state_of standing.now)
+        (printed report.now world.entry route.entry)) }
 {
     let Shown::Estimated { cost, state, .. } = &report.shown else {
         return Ok(true);
@@ -66,8 +68,12 @@ fn has_its_world(
     requires pending { KeepsPending (state_of standing.now) }
     requires lines { HasItsLines (state_of standing.now) (printed report.now world route) }
     requires cost { HasItsCost model.now (state_of standing.now) (printed report.now world route) }
-    ensures world { IfOk result (λ b. IsTrue b ↔ HasItsWorld model.now (state_of standing.now) (printed report.now world.entry route.entry)) }
-    ensures seen { IfOk result (λ b. IsTrue b → OnEstimate report.now.shown (λ cost s reply. SomeAreSeen model.now (state_of standing.now))) }
+    ensures world { IfOk result (λ b.
+        IsTrue b ↔ HasItsWorld model.now (state_of standing.now)
+        (printed report.now world.entry route.entry)) }
+    ensures seen { IfOk result (λ b.
+        IsTrue b → OnEstimate report.now.shown (λ cost s reply.
+        SomeAreSeen model.now (state_of standing.now))) }
 {
     let Shown::Estimated { state, .. } = &report.shown else {
         return Ok(true);
@@ -89,7 +95,8 @@ fn check_send(
     requires of { AreWorldsOf model.now worlds.now }
     requires lines { HasItsLines (state_of standing.now) (printed report.now world route) }
     requires cost { HasItsCost model.now (state_of standing.now) (printed report.now world route) }
-    ensures { IfOk result (IsSendVerdict model.now (state_of standing.now) (printed report.now world.entry route.entry)) }
+    ensures { IfOk result (IsSendVerdict model.now (state_of standing.now)
+        (printed report.now world.entry route.entry)) }
 {
     let Shown::Estimated { state, reply, .. } = &report.shown else {
         return Ok(Verdict::Yes);
@@ -110,7 +117,8 @@ fn is_written(end: &PlanEnd) -> bool
 
 /// Whether the plan and the way back are written out, where there is a route.
 fn is_written_out(route: Option<&Route>) -> bool
-    ensures { IsTrue result ↔ IfSome (option_copied route.entry) (λ r. IsWritten r.plan × IsWritten r.back) }
+    ensures { IsTrue result ↔ IfSome (option_copied route.entry) (λ r.
+        IsWritten r.plan × IsWritten r.back) }
 {
     match route {
         Some(route) => is_written(&route.plan) && is_written(&route.back),
@@ -125,7 +133,8 @@ fn check_answer(
     world: Option<&World>,
     route: Option<&Route>,
 ) -> Verdict
-    ensures { IsAnswerVerdict (state_of standing.now) (printed report.now world.entry route.entry) result }
+    ensures { IsAnswerVerdict (state_of standing.now) (printed report.now world.entry route.entry)
+        result }
 {
     if !answers_goal(standing, &report.shown) {
         return Verdict::No(ANSWER);
@@ -150,8 +159,11 @@ pub(crate) fn judge(
     requires all { HasWorlds model.now }
     requires fits { FitsModel model.now (state_of standing.now) }
     requires pending { KeepsPending (state_of standing.now) }
-    ensures verdict { IfOk result (IsVerdict model.now (state_of standing.now) (printed report.now world.entry route.entry)) }
-    ensures seen { IfOk result (λ v. OnYes v (OnEstimate report.now.shown (λ cost s reply. SomeAreSeen model.now (state_of standing.now)))) }
+    ensures verdict { IfOk result (IsVerdict model.now (state_of standing.now)
+        (printed report.now world.entry route.entry)) }
+    ensures seen { IfOk result (λ v.
+        OnYes v (OnEstimate report.now.shown (λ cost s reply.
+        SomeAreSeen model.now (state_of standing.now)))) }
 {
     if !has_its_lines(standing, report, world, route) {
         return Ok(Verdict::No(LINE));

@@ -9,7 +9,8 @@ use cca_base::{Formula, Pair, Subject, ValueSet};
 
 /// The mode that is known of the component, if one is.
 fn known_mode(pairs: &[Pair], component: u16) -> Option<u8>
-    ensures { IfSome result (λ mode. Contains pairs.now (record { item = component; value = mode })) }
+    ensures { IfSome result (λ mode.
+        Contains pairs.now (record { item = component; value = mode })) }
 {
     for pair in pairs {
         if pair.item == component {
@@ -21,7 +22,8 @@ fn known_mode(pairs: &[Pair], component: u16) -> Option<u8>
 
 /// Whether the subject's mode is known and lets it have one of the values, or none of them, as is wanted.
 fn is_sure_of(pairs: &[Pair], subject: Subject, values: ValueSet, want: bool) -> bool
-    ensures { IsTrue result → (s w : List ℕ) → Extends s pairs.now → has values (subject_value subject s w) ≡ want }
+    ensures { IsTrue result → (s w : List ℕ) → Extends s pairs.now →
+        has values (subject_value subject s w) ≡ want }
 {
     match subject {
         Subject::Component(c) => match known_mode(pairs, c) {

@@ -43,7 +43,8 @@ pub(crate) fn has_its_lines(
     world: Option<&World>,
     route: Option<&Route>,
 ) -> bool
-    ensures { IsTrue result ↔ HasItsLines (state_of standing.now) (printed report.now world.entry route.entry) }
+    ensures { IsTrue result ↔ HasItsLines (state_of standing.now)
+        (printed report.now world.entry route.entry) }
 {
     let reply = reply_of(&report.shown);
     report.tick > 0

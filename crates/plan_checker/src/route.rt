@@ -50,7 +50,8 @@ fn leads_home(
 ) -> Result<bool, AllocError>
     requires of { AreWorldsOf model.now worlds.now }
     requires there { IsState model.now there.modes }
-    ensures { IfOk result (λ b. IsTrue b ↔ OnCommands back.now (LeadsHome model.now home.now.modes there.modes)) }
+    ensures { IfOk result (λ b.
+        IsTrue b ↔ OnCommands back.now (LeadsHome model.now home.now.modes there.modes)) }
 {
     let _moves = model.moves();
     let PlanEnd::Plan(commands) = back else {

@@ -21,7 +21,9 @@ pub(crate) fn run(
 ) -> Result<bool, AllocError>
     requires of { AreWorldsOf model.now worlds.now }
     requires state { IsState model.now state.old.modes }
-    ensures runs { IfOk result (λ made. MatchBool made (Run model.now state.old.modes commands.now state.new.modes) (NoRun model.now state.old.modes commands.now)) }
+    ensures runs { IfOk result (λ made.
+        MatchBool made (Run model.now state.old.modes commands.now state.new.modes)
+        (NoRun model.now state.old.modes commands.now)) }
     ensures state { IsState model.now state.new.modes }
 {
     let _moves = model.moves();

@@ -1,12 +1,13 @@
 //! What a checker keeps from event to event.
 
-ghost use Rattle.std.specs.Prelude.{◌≡◌, [], IfOk};
+ghost use Rattle.std.specs.Prelude.{◌≡◌, IfOk};
 ghost use Rattle.cca_base.specs.State.{start_modes};
 ghost use Rattle.cca_base.specs.Trace.{start};
 ghost use Rattle.plan_checker.specs.Standing.{state_of};
 
 use cca_base::{List, Model, Pair, Seen, State, VarSet};
 use std::alloc::{AllocError, Global};
+use trace_laws::nothing_seen;
 
 /// What was printed last, and what the events so far have left.
 #[derive(Debug, Drop)]
@@ -25,15 +26,6 @@ pub(crate) struct Standing {
     pub holding: bool,
     /// How many ticks were checked.
     pub ticks: u64,
-}
-
-/// No observation, which takes no memory.
-pub(crate) fn nothing(alloc: Global) -> Seen
-    ensures { result.pairs ≡ [] }
-{
-    Seen {
-        pairs: List::new(alloc),
-    }
 }
 
 /// The modes in which the components start. The error is out of memory.
@@ -57,7 +49,7 @@ pub(crate) fn start(alloc: Global, model: &Model, ticks: u64) -> Result<Standing
         estimate,
         command: None,
         plant,
-        pending: nothing(alloc),
+        pending: nothing_seen(alloc),
         mirrored: VarSet::empty(),
         goal: None,
         holding: false,

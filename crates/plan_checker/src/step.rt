@@ -16,7 +16,8 @@ use std::alloc::{AllocError, Global};
 /// Whether the command names the move from its component's mode.
 fn is_named(state: &State, command: u16, step: &Move) -> bool
     requires { step.now.component < length state.now.modes }
-    ensures { IsTrue result ↔ ((step.now.command ≡ command) × (slice_get state.now.modes step.now.component ≡ Some step.now.source)) }
+    ensures { IsTrue result ↔ ((step.now.command ≡ command)
+        × (slice_get state.now.modes step.now.component ≡ Some step.now.source)) }
 {
     step.command == command && *state.modes.get(step.component as usize) == step.source
 }
@@ -46,7 +47,9 @@ pub(crate) fn make_step(
 ) -> Result<bool, AllocError>
     requires of { AreWorldsOf model.now worlds.now }
     requires state { IsState model.now state.old.modes }
-    ensures step { IfOk result (λ made. MatchBool made (Step model.now state.old.modes command state.new.modes) (NoStep model.now state.old.modes command)) }
+    ensures step { IfOk result (λ made.
+        MatchBool made (Step model.now state.old.modes command state.new.modes)
+        (NoStep model.now state.old.modes command)) }
     ensures state { IsState model.now state.new.modes }
 {
     let Some(step) = named(model, state, command) else {

@@ -8,18 +8,20 @@ ghost use Rattle.plan_checker.specs.Reasons.{OnEstimate};
 ghost use Rattle.plan_checker.specs.Standing.{state_of};
 
 use crate::lines::command_of;
-use crate::standing::{Standing, nothing};
+use crate::standing::Standing;
 use crate::step::make_nominal;
 use cca_base::{Model, Reply, Shown, State, TickReport};
 use consistency::Worlds;
 use std::alloc::{AllocError, Global};
+use trace_laws::nothing_seen;
 
 /// Counts the tick, which drops what was pending, and keeps its command as the last one.
 fn count(alloc: Global, standing: &mut Standing, command: Option<u16>, tick: u64)
-    ensures { state_of standing.new ≡ record (state_of standing.old) { command = command; pending = []; ticks = tick } }
+    ensures { state_of standing.new
+        ≡ record (state_of standing.old) { command = command; pending = []; ticks = tick } }
 {
     standing.command = command;
-    standing.pending = nothing(alloc);
+    standing.pending = nothing_seen(alloc);
     standing.ticks = tick;
 }
 
@@ -36,7 +38,8 @@ fn take_estimate(
     requires of { AreWorldsOf model.now worlds.now }
     requires plant { IsState model.now standing.old.plant.modes }
     requires next { tick ≡ standing.old.ticks + 1 }
-    ensures takes { OnOk result (TakesEstimate model.now (state_of standing.old) state.now.modes reply (state_of standing.new)) }
+    ensures takes { OnOk result (TakesEstimate model.now (state_of standing.old) state.now.modes
+        reply (state_of standing.new)) }
     ensures err { OnErr result (standing.new ≡ standing.old) }
 {
     let estimate = state.copy(alloc)?;
@@ -58,7 +61,8 @@ pub(crate) fn take(
     requires of { AreWorldsOf model.now worlds.now }
     requires plant { IsState model.now standing.old.plant.modes }
     requires next { report.now.tick ≡ standing.old.ticks + 1 }
-    ensures takes { OnOk result (Takes model.now (state_of standing.old) report.now.shown (state_of standing.new)) }
+    ensures takes { OnOk result (Takes model.now (state_of standing.old) report.now.shown
+        (state_of standing.new)) }
     ensures err { OnErr result (standing.new ≡ standing.old) }
 {
     match &report.shown {

@@ -7,11 +7,12 @@ ghost use Rattle.plan_checker.specs.Reasons.{ExplainsTick};
 ghost use Rattle.plan_checker.specs.Standing.{state_of, FitsModel, KeepsPending};
 ghost use Rattle.plan_checker.specs.Worlds.{AreSeen, SomeAreSeen};
 
-use crate::standing::{Standing, nothing};
+use crate::standing::Standing;
 use crate::states::{is_world, stand_in};
 use cca_base::{Model, Seen, State, World};
 use consistency::Worlds;
 use std::alloc::{AllocError, Global};
+use trace_laws::nothing_seen;
 
 /// What the tick observes; nothing while holding. The error is out of memory.
 fn observed(
@@ -27,7 +28,7 @@ fn observed(
     ensures { IfOk result (λ seen. AreSeen model.now (state_of standing.now) seen.pairs) }
 {
     if standing.holding {
-        return Ok(nothing(alloc));
+        return Ok(nothing_seen(alloc));
     }
     worlds.observed(
         alloc,
@@ -52,7 +53,9 @@ pub(crate) fn explains_tick(
     requires fits { FitsModel model.now (state_of standing.now) }
     requires pending { KeepsPending (state_of standing.now) }
     requires state { IsState model.now state.now.modes }
-    ensures explains { IfOk result (λ b. IsTrue b ↔ ExplainsTick model.now (state_of standing.now) state.now.modes world.now.values) }
+    ensures explains { IfOk result (λ b.
+        IsTrue b ↔ ExplainsTick model.now (state_of standing.now) state.now.modes
+        world.now.values) }
     ensures seen { IfOk result (λ b. IsTrue b → SomeAreSeen model.now (state_of standing.now)) }
 {
     if !is_world(model, state, world) {

@@ -12,7 +12,8 @@ use std::alloc::{AllocError, Global};
 fn mode_back(tables: &Tables, to: &State, component: u16) -> Option<u8>
     requires covers { CoversState tables.now.classes to.now.modes }
     requires within { component < length tables.now.classes.compiled.model.components }
-    ensures { MatchOption result (GoesNowhere tables.now.classes to.now.modes component) (GoesOnlyTo tables.now.classes to.now.modes component) }
+    ensures { MatchOption result (GoesNowhere tables.now.classes to.now.modes component)
+        (GoesOnlyTo tables.now.classes to.now.modes component) }
 {
     let classes = tables.classes();
     let mode = *to.modes.get(component as usize);
@@ -33,7 +34,8 @@ fn mode_back(tables: &Tables, to: &State, component: u16) -> Option<u8>
 #[tactic(auto, using(crate::proofs::GoingBack::taken_whole))]
 pub(crate) fn back_goal(alloc: Global, tables: &Tables, to: &State) -> Result<Goal, AllocError>
     requires { CoversState tables.now.classes to.now.modes }
-    ensures { IfOk result (λ g. AreBackPairs tables.now.classes to.now.modes tables.now.classes.compiled.order g.pairs) }
+    ensures { IfOk result (λ g.
+        AreBackPairs tables.now.classes to.now.modes tables.now.classes.compiled.order g.pairs) }
 {
     let order = tables.classes().compiled().order();
     let mut pairs = List::new(alloc);

@@ -25,8 +25,10 @@ pub fn route_of(
     requires covers { CoversState tables.now.classes state.now.modes }
     requires goal { IsGoal tables.now.classes.compiled goal.now.pairs }
     requires reached { AreReached tables.now.classes.compiled.model state.now.modes goal.now.pairs }
-    ensures route { IfOk result (IsRoute tables.now.classes.compiled state.now.modes goal.now.pairs) }
-    ensures there_and_back { IfOk result (IsThereAndBack tables.now state.now.modes goal.now.pairs) }
+    ensures route { IfOk result (IsRoute tables.now.classes.compiled state.now.modes
+        goal.now.pairs) }
+    ensures there_and_back { IfOk result (IsThereAndBack tables.now state.now.modes
+        goal.now.pairs) }
 {
     let _classes = tables.classes();
     match walk::<Brand>(alloc, tables, state, goal, Blank::new(1))? {

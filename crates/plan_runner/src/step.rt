@@ -10,7 +10,8 @@ use cca_base::{Model, Pair, State};
 fn target_of(model: &Model, state: &State, command: u16) -> Pair
     requires state { IsState model.now state.now.modes }
     requires step { (next : List ℕ) × Step model.now state.now.modes command next }
-    ensures { (next : List ℕ) × (step : Step model.now state.now.modes command next) × (result ≡ record { item = step.move.component; value = step.move.target }) }
+    ensures { (next : List ℕ) × (step : Step model.now state.now.modes command next)
+        × (result ≡ record { item = step.move.component; value = step.move.target }) }
 {
     let moves = model.moves().as_slice();
     for m in moves {

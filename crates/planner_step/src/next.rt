@@ -29,9 +29,11 @@ fn answer_by_rule<L: Ledger>(
 ) -> Answer
     requires covers { CoversState tables.now.classes state.now.modes }
     requires goal { IsGoal tables.now.classes.compiled goal.now.pairs }
-    ensures rule { IsAnswer (member_of tables.now) (cells_of tables.now) state.now.modes goal.now.pairs (reply_of result) }
+    ensures rule { IsAnswer (member_of tables.now) (cells_of tables.now) state.now.modes
+        goal.now.pairs (reply_of result) }
     ensures counts { steps.old ≤ steps.new }
-    ensures steps { steps.new ≤ steps.old + 2 * length tables.now.classes.compiled.model.components }
+    ensures steps { steps.new ≤ steps.old + 2 * length
+        tables.now.classes.compiled.model.components }
 {
     let _classes = tables.classes();
     let pairs = goal.pairs.as_slice();
@@ -62,12 +64,15 @@ pub fn next_command<L: Ledger>(
         ↔ IsFirstUnreached tables.now.classes.compiled.model state.now.modes goal.now.pairs p }
     ensures reached { (is_unreachable (Some (reply_of result)) ≡ false)
         ↔ AreReached tables.now.classes.compiled.model state.now.modes goal.now.pairs }
-    ensures promises { Promising tables.now.classes.compiled state.now.modes goal.now.pairs (reply_of result) }
+    ensures promises { Promising tables.now.classes.compiled state.now.modes goal.now.pairs
+        (reply_of result) }
     ensures plan { AreReached tables.now.classes.compiled.model state.now.modes goal.now.pairs
         → (ks last : List ℕ) × IsPlanTo tables.now state.now.modes goal.now.pairs ks last }
-    ensures rule { IsAnswer (member_of tables.now) (cells_of tables.now) state.now.modes goal.now.pairs (reply_of result) }
+    ensures rule { IsAnswer (member_of tables.now) (cells_of tables.now) state.now.modes
+        goal.now.pairs (reply_of result) }
     ensures counts { steps.old ≤ steps.new }
-    ensures steps { steps.new ≤ steps.old + 2 * length tables.now.classes.compiled.model.components }
+    ensures steps { steps.new ≤ steps.old + 2 * length
+        tables.now.classes.compiled.model.components }
 {
     let _classes = tables.classes();
     answer_by_rule(tables, state, goal, steps)

@@ -47,7 +47,8 @@ pub(crate) fn command_toward<L: Ledger>(
 ) -> u16
     requires covers { CoversState tables.now.classes state.now.modes }
     requires wanted { IsWantedPair tables.now state.now.modes pair }
-    ensures { (n : ℕ) × Finds (cells_of tables.now) state.now.modes pair.item pair.value result n × (steps.new ≡ steps.old + n) }
+    ensures { (n : ℕ) × Finds (cells_of tables.now) state.now.modes pair.item pair.value result n
+        × (steps.new ≡ steps.old + n) }
 {
     let _classes = tables.classes();
     let mut at = pair;

@@ -67,8 +67,10 @@ pub(crate) fn cubes_of(
     numbers: &[u16],
 ) -> Result<List<Cube>, AllocError>
     requires rows { length rows.now ≡ length compiled.now.model.components }
-    requires opens { (k : ℕ) → k < length numbers.now → IsOpenAt compiled.now.model (in_row rows.now) (slice_index numbers.now k) }
-    ensures { IfOk result (λ l. AreCubesTo compiled.now (in_row rows.now) numbers.now l (length numbers.now)) }
+    requires opens { (k : ℕ) → k < length numbers.now →
+        IsOpenAt compiled.now.model (in_row rows.now) (slice_index numbers.now k) }
+    ensures { IfOk result (λ l.
+        AreCubesTo compiled.now (in_row rows.now) numbers.now l (length numbers.now)) }
 {
     let mut cubes = List::new(alloc);
     for k in 0..numbers.len() {

@@ -27,9 +27,11 @@ fn cell(
     requires from { HasMode classes.now.compiled.model leaving.now.component leaving.now.mode }
     requires to { HasMode classes.now.compiled.model leaving.now.component to }
     requires stands { MayStand classes.now leaving.now.component leaving.now.mode }
-    requires paths { ArePaths classes.now.compiled.model (in_row classes.now.rows) leaving.now.component paths.now }
+    requires paths { ArePaths classes.now.compiled.model (in_row classes.now.rows)
+        leaving.now.component paths.now }
     requires leaving { IsLeavingOf classes.now.compiled (in_row classes.now.rows) leaving.now }
-    ensures { IfOk result (IsCell classes.now.compiled (in_row classes.now.rows) leaving.now.component leaving.now.mode to) }
+    ensures { IfOk result (IsCell classes.now.compiled (in_row classes.now.rows)
+        leaving.now.component leaving.now.mode to) }
 {
     if leaving.mode == to {
         return Ok(Cell::Stay);
@@ -65,10 +67,12 @@ fn fill_row(
     requires within { leaving.now.component < length classes.now.compiled.model.components }
     requires from { HasMode classes.now.compiled.model leaving.now.component leaving.now.mode }
     requires stands { MayStand classes.now leaving.now.component leaving.now.mode }
-    requires paths { ArePaths classes.now.compiled.model (in_row classes.now.rows) leaving.now.component paths.now }
+    requires paths { ArePaths classes.now.compiled.model (in_row classes.now.rows)
+        leaving.now.component paths.now }
     requires leaving { IsLeavingOf classes.now.compiled (in_row classes.now.rows) leaving.now }
     requires rows { AreRightRows classes.now leaving.now.component leaving.now.mode cells.old }
-    ensures { OnOk result (AreRightRows classes.now leaving.now.component (leaving.now.mode + 1) cells.new) }
+    ensures { OnOk result (AreRightRows classes.now leaving.now.component (leaving.now.mode + 1)
+        cells.new) }
 {
     let components = classes.compiled().model().components();
     for to in 0..components.get(leaving.component as usize).modes.len() {

@@ -35,7 +35,8 @@ fn numbers_leaving(
 ) -> Result<List<u16>, AllocError>
     requires within { (n : ℕ) × AreMovesWithin model.now n numbers.now }
     requires rising { AllPairs (λ u v. u < v) numbers.now }
-    ensures { IfOk result (AreExactly (λ i. IsAmong numbers.now (length numbers.now) i × LeavesMode model.now from i)) }
+    ensures { IfOk result (AreExactly (λ i.
+        IsAmong numbers.now (length numbers.now) i × LeavesMode model.now from i)) }
 {
     let moves = model.moves();
     let mut leaving = List::new(alloc);

@@ -8,7 +8,8 @@ use cca_base::{List, Model, ValueSet};
 
 /// The first level at which the one mode leads to the other.
 pub(crate) fn distance(levels: &List<List<ValueSet>>, from: u8, to: u8) -> Option<usize>
-    requires { (k : ℕ) (level : List ℕ) → slice_get levels.now k ≡ Some level → from < length level }
+    requires { (k : ℕ) (level : List ℕ) → slice_get levels.now k ≡ Some level →
+        from < length level }
     ensures { MatchOption result (IsNoLevel levels.now from to) (IsFirstLevel levels.now from to) }
 {
     for left in 0..levels.len() {

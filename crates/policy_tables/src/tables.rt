@@ -45,7 +45,7 @@ impl std::marker::Model for Tables {
 }
 
 impl Tables {
-    /// The tables of classes, which are gone where memory is wanting. That is the error.
+    /// The tables of classes. Fails only when out of memory; `classes` is then dropped.
     pub fn of(alloc: Global, classes: Classes) -> Result<Tables, AllocError>
         ensures { IfOk result (λ t. t.classes ≡ classes) }
     {
@@ -69,10 +69,13 @@ impl Tables {
     pub fn look_up<L: Ledger>(&self, c: u16, from: u8, to: u8, steps: &mut Steps<L>) -> &Cell
         requires from { HasMode self.now.classes.compiled.model c from }
         requires to { HasMode self.now.classes.compiled.model c to }
-        requires stands { Stands self.now.classes.compiled.model self.now.classes.base (in_row self.now.classes.rows) c from }
-        ensures cell { IsCell self.now.classes.compiled (in_row self.now.classes.rows) c from to result.now }
+        requires stands { Stands self.now.classes.compiled.model self.now.classes.base
+            (in_row self.now.classes.rows) c from }
+        ensures cell { IsCell self.now.classes.compiled (in_row self.now.classes.rows) c from to
+            result.now }
         ensures chosen { IsChoiceFrom self.now.classes c from to result.now }
-        ensures place { result.now ≡ cell_at self.now.classes.compiled.model self.now.cells c from to }
+        ensures place { result.now
+            ≡ cell_at self.now.classes.compiled.model self.now.cells c from to }
         ensures steps { steps.new ≡ steps.old + 1 }
     {
         steps.tick(); // one place is read
@@ -87,7 +90,9 @@ impl Tables {
     pub fn reaches<L: Ledger>(&self, c: u16, to: u8, state: &State, steps: &mut Steps<L>) -> bool
         requires within { c < length self.now.classes.compiled.model.components }
         requires covers { CoversState self.now.classes state.now.modes }
-        ensures value { IsTrue result ↔ ((slice_get state.now.modes c ≡ Some to) ⊎ (in_row self.now.classes.rows c to ≡ true)) }
+        ensures value { IsTrue result
+            ↔ ((slice_get state.now.modes c ≡ Some to)
+            ⊎ (in_row self.now.classes.rows c to ≡ true)) }
         ensures steps { steps.new ≡ steps.old + 1 }
     {
         steps.tick();

@@ -102,7 +102,8 @@ fn choose(
     requires at { at ≤ length partial.old }
     requires within { IsWithin sizes.now partial.old }
     requires wide { length row.now ≡ length partial.old }
-    requires free { (i : ℕ) → at ≤ i → i < length partial.old → slice_index_or partial.old i None ≡ None }
+    requires free { (i : ℕ) → at ≤ i → i < length partial.old →
+        slice_index_or partial.old i None ≡ None }
     requires unfalsified { all_unfalsified partial.old rows.now ≡ true }
     ensures same { OnOk result (partial.new ≡ partial.old) }
     ensures sound { OnOk result ((t : Key → Bool) → all_keys t found.old.keys ≡ true
@@ -143,7 +144,8 @@ fn choose_after(
     requires subject { x < length partial.old }
     requires within { IsWithin sizes.now partial.old }
     requires wide { length row.now ≡ length partial.old }
-    requires free { (i : ℕ) → x + 1 ≤ i → i < length partial.old → slice_index_or partial.old i None ≡ None }
+    requires free { (i : ℕ) → x + 1 ≤ i → i < length partial.old →
+        slice_index_or partial.old i None ≡ None }
     requires others { all_unfalsified partial.old (filter (is_zero x) rows.now) ≡ true }
     ensures same { OnOk result (partial.new ≡ partial.old) }
     ensures sound { OnOk result ((t : Key → Bool) → all_keys t found.old.keys ≡ true
@@ -152,7 +154,8 @@ fn choose_after(
     ensures grown { OnOk result ((t : Key → Bool) → all_keys t found.new.keys ≡ true
         → all_keys t found.old.keys ≡ true) }
     ensures found { OnOk result (btree_set_len found.new ≤ most → (p : Partial)
-        → IsFoundable sizes.now rows.now p → AgreesTo (x + 1) partial.old p → IsChoiceFrom (x + 1) row.now p
+        → IsFoundable sizes.now rows.now p → AgreesTo (x + 1) partial.old p →
+        IsChoiceFrom (x + 1) row.now p
         → (t : Key → Bool) → all_keys t found.new.keys ≡ true → t (key_of p) ≡ true) }
 {
     if !are_named_unfalsified(partial, rows, x) {

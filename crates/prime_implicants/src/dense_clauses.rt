@@ -12,7 +12,8 @@ use std::alloc::{AllocError, Global};
 pub fn insert_minimal(rows: &mut Vec<DenseClause>, row: DenseClause) -> Result<(), AllocError>
     requires { list_all (is_wide (length row)) rows.old.items ≡ true }
     ensures unfalsified { OnOk result ((q : Partial)
-        → all_unfalsified q rows.new.items ≡ (all_unfalsified q rows.old.items && row_unfalsified q row)) }
+        → all_unfalsified q rows.new.items
+        ≡ (all_unfalsified q rows.old.items && row_unfalsified q row)) }
     ensures same { OnOk result ((p : Sets → Bool) → list_all p (row ∷ rows.old.items) ≡ true
         → list_all p rows.new.items ≡ true) }
 {
@@ -46,7 +47,8 @@ pub fn add_all(
     requires rows { list_all (is_wide n) rows.old.items ≡ true }
     requires more { list_all (is_wide n) more.now ≡ true }
     ensures unfalsified { OnOk result ((q : Partial)
-        → all_unfalsified q rows.new.items ≡ (all_unfalsified q rows.old.items && all_unfalsified q more.now)) }
+        → all_unfalsified q rows.new.items
+        ≡ (all_unfalsified q rows.old.items && all_unfalsified q more.now)) }
     ensures same { OnOk result ((p : Sets → Bool) → list_all p rows.old.items ≡ true
         → list_all p more.now ≡ true → list_all p rows.new.items ≡ true) }
 {

@@ -13,7 +13,7 @@ use clause_form::Clauses;
 use std::alloc::{AllocError, Global};
 
 /// All minimal cubes over the clauses' subjects that no values meeting all clauses extend, in cube order; or `More`,
-/// exactly where there are more than `most`, without making them all. The error is want of memory.
+/// exactly where there are more than `most`, without making them all. The error is out of memory.
 pub fn primes(alloc: Global, clauses: &Clauses, most: u32) -> Result<Primes, AllocError>
     requires { AreClauses clauses.now }
     ensures every { IfOk result (λ r. IfEvery r (AreAllPrimes clauses.now most)) }

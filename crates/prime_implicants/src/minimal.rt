@@ -17,11 +17,13 @@ pub fn add_minimal(
     found: &mut Found,
 ) -> Result<(), AllocError>
     ensures sound { OnOk result ((t : Key → Bool) → all_keys t found.old.keys ≡ true
-        → (all_below (length partial.now) (is_needed rows.now partial.now) ≡ true → t (key_of partial.now) ≡ true)
+        → (all_below (length partial.now) (is_needed rows.now partial.now) ≡ true →
+        t (key_of partial.now) ≡ true)
         → all_keys t found.new.keys ≡ true) }
     ensures grown { OnOk result ((t : Key → Bool) → all_keys t found.new.keys ≡ true
         → all_keys t found.old.keys ≡ true) }
-    ensures found { OnOk result (all_below (length partial.now) (is_needed rows.now partial.now) ≡ true
+    ensures found { OnOk result (all_below (length partial.now) (is_needed rows.now partial.now)
+        ≡ true
         → (t : Key → Bool) → all_keys t found.new.keys ≡ true → t (key_of partial.now) ≡ true) }
 {
     if is_minimal(rows, partial) {
@@ -39,7 +41,8 @@ fn is_minimal(rows: &[DenseClause], partial: &[Option<u8>]) -> bool
 
 // Whether each row that is false names each subject that has a value.
 fn name_all(rows: &[DenseClause], partial: &[Option<u8>]) -> bool
-    ensures { result ≡ list_all (λ row. row_unfalsified partial.now row || names_all partial.now row) rows.now }
+    ensures { result ≡ list_all (λ row.
+        row_unfalsified partial.now row || names_all partial.now row) rows.now }
 {
     rows.iter().all(|row| is_unfalsified(partial, row) || names_all(partial, row))
 }

@@ -63,7 +63,8 @@ fn or_literal(row: &mut DenseClause, literal: &Literal)
     requires { literal.now.subject < length row.old }
     ensures wide { length row.new ≡ length row.old }
     ensures unfalsified { (xs : Values) → length xs ≡ length row.old
-        → row_unfalsified (given xs) row.new ≡ (row_unfalsified (given xs) row.old || is_true xs literal.now) }
+        → row_unfalsified (given xs) row.new
+        ≡ (row_unfalsified (given xs) row.old || is_true xs literal.now) }
     ensures zero { (y : ℕ) → MAX_ROWS ≤ y → is_zero y row.old ≡ true → is_zero y row.new ≡ true }
 {
     let subject = literal.subject as usize;

@@ -9,7 +9,7 @@ use Rattle.cca_base.specs.PlantModel.{PlantModel}
 use Rattle.cca_base.specs.Model.{WellFormed, IsComponent, mode_counts}
 use Rattle.cca_base.specs.declared.limits.TheConstants.{MAX_CHOICES}
 use Rattle.std.proofs.lemmas.List.Elements.{All-contains}
-use Rattle.reach_laws.specs.Classes.{Stands, Covers}
+use Rattle.reach_laws.specs.Classes.{Stands}
 
 pub mode_count : (components : List Component) (c : ℕ) (x : Component) → slice_get components c ≡ Some x → slice_index (map (λ z. length z.modes) components) c ≡ length x.modes
 mode_count [] c x h = absurd (none-some x h)
@@ -26,27 +26,6 @@ below_next P n each last k lt = elim (cases_lt k n) [
 module _ (p : ClassParts) (is : IsClasses p) (s : List ℕ) (c row mode : ℕ) (at_row : slice_get p.rows c ≡ Some row) (at_mode : slice_get s c ≡ Some mode) where
   row_within : c < length p.compiled.model.components
   row_within = omega (arith, slice_get_within p.rows c row at_row, is.rows_full)
-
-  in_row_is : in_row p.rows c mode ≡ has row mode
-  in_row_is = ap (λ r. has r mode) (get_or_from_slice_get p.rows c row 0 at_row)
-
-  here_is : slice_index s c ≡ mode
-  here_is = get_or_from_slice_get s c mode 0 at_mode
-
-  pub inside_here : has row mode ≡ true → Stands p.compiled.model p.base (in_row p.rows) c (slice_index s c)
-  inside_here h = inl (subst (λ y. in_row p.rows c y ≡ true) (sym here_is) (in_row_is ∙ h))
-
-  pub chain_here : (chain : ℕ) → slice_get p.chains c ≡ Some chain → has chain mode ≡ true → Stands p.compiled.model p.base (in_row p.rows) c (slice_index s c)
-  chain_here chain at_chain h =
-      inr ((is.chains c (slice_index s c) row_within).0
-      (ap (λ r. has r (slice_index s c)) (get_or_from_slice_get p.chains c chain 0 at_chain) ∙ (ap (has chain) here_is ∙ h)))
-
-  pub not_covered : (chain : ℕ) → slice_get p.chains c ≡ Some chain → has row mode ≡ false → has chain mode ≡ false → Covers p.compiled.model p.base (in_row p.rows) s → ⊥
-  not_covered chain at_chain outside off covers =
-      elim (subst (Stands p.compiled.model p.base (in_row p.rows) c) here_is (covers c row_within)) [
-        | inl inside ↦ both_ways (has row mode) outside (sym in_row_is ∙ inside)
-        | inr on ↦ both_ways (has chain mode) off (sym (ap (λ r. has r mode) (get_or_from_slice_get p.chains c chain 0 at_chain)) ∙ (is.chains c mode row_within).1 on)
-      ]
 
 -- a component has no more modes than it may have
 pub modes_few : (m : PlantModel) → WellFormed m → (c : ℕ) → c < length m.components → slice_index (mode_counts m) c ≤ MAX_CHOICES

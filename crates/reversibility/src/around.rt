@@ -30,8 +30,10 @@ fn leads(model: &Model, numbers: &[u16], from: u8, to: u8) -> bool
 fn home_of(model: &Model, numbers: &[u16], component: u16, mode: u8) -> Option<u8>
     requires { (n : ℕ) × AreMovesWithin model.now n numbers.now }
     ensures { MatchOption result
-        ((a : ℕ) → IsHomeBy model.now.moves (MoveLeads model.now numbers.now (length numbers.now)) component mode a → ⊥)
-        (IsHomeBy model.now.moves (MoveLeads model.now numbers.now (length numbers.now)) component mode) }
+        ((a : ℕ) → IsHomeBy model.now.moves (MoveLeads model.now numbers.now (length numbers.now))
+        component mode a → ⊥)
+        (IsHomeBy model.now.moves (MoveLeads model.now numbers.now (length numbers.now)) component
+        mode) }
 {
     let _moves = model.moves();
     let mut at = mode;

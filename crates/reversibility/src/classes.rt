@@ -63,7 +63,9 @@ fn open_chains(
     requires rows { length rows.now ≡ length compiled.now.model.components }
     requires base { IsState compiled.now.model base.now.modes }
     ensures full { IfOk result (λ chains. length chains ≡ length rows.now) }
-    ensures each { IfOk result (λ chains. AreOpenChains compiled.now.model base.now.modes (in_row rows.now) chains (length rows.now)) }
+    ensures each { IfOk result (λ chains.
+        AreOpenChains compiled.now.model base.now.modes (in_row rows.now) chains
+        (length rows.now)) }
 {
     let _model = compiled.model();
     let mut chains = List::new(alloc);
@@ -74,7 +76,7 @@ fn open_chains(
 }
 
 impl Classes {
-    /// The classes around a state. The error is want of memory.
+    /// The classes around a state. The error is out of memory.
     pub fn of(alloc: Global, compiled: &Rc<Compiled>, state: &State) -> Result<Classes, AllocError>
         requires { IsState compiled.now.value.model state.now.modes }
         ensures compiled { IfOk result (λ c. c.compiled ≡ compiled.now.value) }
@@ -138,7 +140,8 @@ impl Classes {
     /// Whether the component may stand in the mode where the classes cover a state.
     pub fn stands(&self, component: u16, mode: u8) -> bool
         requires { component < length self.now.compiled.model.components }
-        ensures value { IsTrue result ↔ Stands self.now.compiled.model self.now.base (in_row self.now.rows) component mode }
+        ensures value { IsTrue result
+            ↔ Stands self.now.compiled.model self.now.base (in_row self.now.rows) component mode }
         ensures mode { IsTrue result ↔ StandsAt self.now component mode }
         ensures classes { IsClasses self.now }
     {
@@ -158,7 +161,8 @@ impl Classes {
     /// Whether each component of the state stands in its class or in a broken mode of its open chain.
     pub fn covers(&self, state: &State) -> bool
         requires { IsState self.now.compiled.model state.now.modes }
-        ensures value { IsTrue result ↔ Covers self.now.compiled.model self.now.base (in_row self.now.rows) state.now.modes }
+        ensures value { IsTrue result
+            ↔ Covers self.now.compiled.model self.now.base (in_row self.now.rows) state.now.modes }
         ensures modes { IsTrue result ↔ StandsByChain self.now state.now.modes }
         ensures allowed { IsTrue result → AllowsInside self.now state.now.modes }
         ensures mended { IsTrue result → MendsInside self.now state.now.modes }

@@ -33,7 +33,8 @@ fn expand(
     level: &[ValueSet],
 ) -> Result<List<ValueSet>, AllocError>
     requires { AreMovesWithin model.now (length level.now) numbers.now }
-    ensures { IfOk result (IsExpanded (MoveLeads model.now numbers.now (length numbers.now)) level.now) }
+    ensures { IfOk result (IsExpanded (MoveLeads model.now numbers.now (length numbers.now))
+        level.now) }
 {
     let moves = model.moves();
     let mut next = List::of(Vec::from_slice(alloc, level)?);
@@ -54,8 +55,10 @@ pub(crate) fn levels(
 ) -> Result<List<List<ValueSet>>, AllocError>
     requires few { modes ≤ MAX_CHOICES }
     requires within { AreMovesWithin model.now modes numbers.now }
-    ensures levels { IfOk result (AreLevels (MoveLeads model.now numbers.now (length numbers.now)) modes) }
-    ensures enough { IfOk result (AreEnough (MoveLeads model.now numbers.now (length numbers.now)) modes) }
+    ensures levels { IfOk result (AreLevels (MoveLeads model.now numbers.now (length numbers.now))
+        modes) }
+    ensures enough { IfOk result (AreEnough (MoveLeads model.now numbers.now (length numbers.now))
+        modes) }
     ensures some { IfOk result (λ l. 0 < length l) }
     ensures short { IfOk result (λ l. length l ≤ modes + 1) }
 {

@@ -18,7 +18,7 @@ pub struct Paths {
     pub levels: List<List<ValueSet>>,
 }
 
-/// The paths of a component where these are the classes. The error is want of memory.
+/// The paths of a component where these are the classes. The error is out of memory.
 pub fn paths_of(
     alloc: Global,
     compiled: &Compiled,

@@ -30,7 +30,8 @@ pub(crate) fn take(
     requires within { i < length compiled.now.order }
     requires done { AreDone compiled.now.model base.now.modes taken.old.rows taken.old.mendable
         (drop (length compiled.now.order - i) compiled.now.order) }
-    ensures { OnOk result (AreDone compiled.now.model base.now.modes taken.new.rows taken.new.mendable
+    ensures { OnOk result (AreDone compiled.now.model base.now.modes taken.new.rows
+        taken.new.mendable
         (drop (length compiled.now.order - (i + 1)) compiled.now.order)) }
 {
     let order = compiled.order();

@@ -17,8 +17,10 @@ pub enum Finding {
     Ended(Status),
     /// A tick's line didn't go out right behind that tick.
     OutOfTurn,
-    /// The text in version 2 isn't migrated to itself.
+    /// The text isn't migrated to version 2, or what it is migrated to isn't migrated to itself.
     NotMigrated,
+    /// The text in version 2 runs otherwise.
+    RunsOtherwise,
     /// The text differs from this byte on, counted from 0.
     Differs(usize),
 }
@@ -31,10 +33,8 @@ impl fmt::Display for Finding {
             Finding::NoFile => write!(f, "has a file that can't be read"),
             Finding::Ended(status) => write!(f, "ends with status {}", status.number()),
             Finding::OutOfTurn => write!(f, "prints a tick out of turn"),
-            Finding::NotMigrated => write!(
-                f,
-                "has a text in version 2 that is migrated to another"
-            ),
+            Finding::NotMigrated => write!(f, "isn't migrated, or not to itself"),
+            Finding::RunsOtherwise => write!(f, "runs otherwise in version 2"),
             Finding::Differs(at) => write!(f, "differs at byte {at}"),
         }
     }

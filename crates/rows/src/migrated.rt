@@ -1,19 +1,19 @@
-//! A row over its text in version 2.
+//! A row of a run over its text in version 2.
 use crate::finding::{Finding, compared};
 use crate::run::{Ends, run};
 use std::alloc::{AllocError, Global};
 use titan_top::Status;
 
-/// Whether the words read a document whole and nothing behind it, so that they can be asked of its text in version 2.
-fn read_a_document(words: &str) -> bool {
+/// Whether the words ask for a run.
+fn ask_for_a_run(words: &str) -> bool {
     match words.split_whitespace().next() {
-        Some(word) => word == "run" || word == "migrate",
+        Some(word) => word == "run",
         None => false,
     }
 }
 
-/// How a row comes out over its text in version 2, if its words read a document: it has to print what is wanted of the row, and to be migrated
-/// to itself.
+/// How a row comes out over its text in version 2, if its words ask for a run: it has to print what is wanted of the row, and
+/// to be migrated to itself.
 pub fn migrated(
     alloc: Global,
     words: &str,
@@ -21,17 +21,23 @@ pub fn migrated(
     ends: Ends,
     wanted: &[u8],
 ) -> Result<Finding, AllocError> {
-    if !read_a_document(words) {
+    if !ask_for_a_run(words) {
         return Ok(Finding::Right);
     }
     // No printed line is longer than the line that was read, but for the LF that the last one may lack.
     let room = input.len().saturating_add(1);
     let wide = Ends { room, ..ends };
     let (first, text) = run(alloc, "migrate", input, wide)?;
+    if first != Status::Ended || !text.starts_with(b"titan 2\n") {
+        return Ok(Finding::NotMigrated);
+    }
     let (second, same) = run(alloc, "migrate", &text, wide)?;
-    if first != Status::Ended || compared(second, &same, Status::Ended, &text) != Finding::Right {
+    if compared(second, &same, Status::Ended, &text) != Finding::Right {
         return Ok(Finding::NotMigrated);
     }
     let (ended, printed) = run(alloc, words, &text, ends)?;
-    Ok(compared(ended, &printed, Status::Ended, wanted))
+    if compared(ended, &printed, Status::Ended, wanted) != Finding::Right {
+        return Ok(Finding::RunsOtherwise);
+    }
+    Ok(Finding::Right)
 }

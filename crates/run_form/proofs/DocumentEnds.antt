@@ -34,10 +34,10 @@ EndsAsDocument b n ls e = (r : Document) × SaysScript b.model [] 0 n ls r × (e
 
 module _ (json : Bool) (Says : Saying) (of_script : (b : CompiledModel) (n : ℕ) (ls : List (List ℕ)) (e : End) (text : List ℕ) → Says b n ls e text → EndsAsDocument b n ls e) where
   -- the document of what is printed
-  record IsDocumentOf (end : ModelText) (e : End) : Type 0 where
-    document : Document
-    says : SaysByEnd end document
-    ends : e ≡ end_of document.ending
+  pub record IsDocumentOf (end : ModelText) (e : End) : Type 0 where
+    pub document : Document
+    pub says : SaysByEnd end document
+    pub ends : e ≡ end_of document.ending
 
   behind_document : (v : Acceptance) (m : PlantModel) (n : ℕ) (ls : List (List ℕ)) (e : End) (text : List ℕ) → IsAcceptanceOf m v → AnswersByAcceptance json Says v m n ls e text → IsDocumentOf (Scripted m n ls) e
   behind_document (AcceptedAs b) m n ls e text is h =
@@ -45,7 +45,7 @@ module _ (json : Bool) (Says : Saying) (of_script : (b : CompiledModel) (n : ℕ
       record { document = r; says = (AcceptedAs b, is, subst (λ (k : PlantModel). SaysScript k [] 0 n ls r) is.1 says); ends = same }
   behind_document (RefusedFor rf) m n ls e text is h = record { document = refused_at m n rf; says = (RefusedFor rf, is, refl); ends = h.0 }
 
-  the_document : (end : ModelText) (e : End) (text : List ℕ) → AnswersByEnd json Says end e text → IsDocumentOf end e
+  pub the_document : (end : ModelText) (e : End) (text : List ℕ) → AnswersByEnd json Says end e text → IsDocumentOf end e
   the_document (Scripted m n ls) e text (v, is, h) = behind_document v m n ls e text is h
   the_document (Stopped m line r) e text h = record { document = refused_at m line r; says = refl; ends = h.0 }
 

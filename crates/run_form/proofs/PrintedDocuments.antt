@@ -4,10 +4,9 @@ use Rattle.cca_base.specs.declared.events.Event.{Event}
 use Rattle.cca_base.specs.declared.events.Refusal.{Refusal}
 use Rattle.cca_base.specs.declared.events.TickReport.{TickReport}
 use Rattle.cca_base.specs.PlantModel.{PlantModel}
-use Rattle.line_machine.specs.declared.machine.End.TheVariants.{Ended}
-use Rattle.model_form.specs.Answers.{Answer, answer, refused_answer}
+use Rattle.model_form.specs.Answers.{Answer, refused_answer}
 use Rattle.run_form.specs.Document.{Document, DocumentEnd, Complete, RefusedAt, refused_at, with_event}
-use Rattle.run_form.specs.Notations.{is_json, closing}
+use Rattle.run_form.specs.Notations.{is_json}
 use Rattle.run_form.specs.Printed.{ending, with_text, printed}
 use Rattle.run_form.specs.Summaries.{counts_of}
 use Rattle.run_form.specs.declared.counts.Counts.{Counts}
@@ -16,10 +15,6 @@ use Rattle.run_form.specs.declared.notation.Notation.{Notation}
 -- what is printed where the ticks have these counts
 abbrev pub printed_with : Notation → Document → Counts → List ℕ → Answer
 printed_with notation r counts text = with_text text (ending notation r.model counts r.ending)
-
--- a script that says nothing
-pub printed_complete : (notation : Notation) (m : PlantModel) (counts : Counts) → printed_with notation (record { model = m; events = []; ending = Complete }) counts [] ≡ answer Ended (closing notation counts)
-printed_complete notation m counts = refl
 
 -- a line that is refused before the first event
 pub printed_refused : (notation : Notation) (m : PlantModel) (counts : Counts) (line : ℕ) (r : Refusal) → printed_with notation (refused_at m line r) counts [] ≡ refused_answer (is_json notation) m line r

@@ -56,8 +56,11 @@ fn read(
     line: &[u8],
 ) -> Result<Option<Event>, Stop>
     requires fit { NamesFit names.now executive.now.compiled.model }
-    ensures answer { AnswersAs result (event_line executive.now.compiled.model executive.now.state.pending executive.now.state.mirrored line.now) }
-    ensures may_come { IfOk result (λ event. IfSome event (MayCome executive.now.compiled.model executive.now.state.pending executive.now.state.mirrored)) }
+    ensures answer { AnswersAs result (event_line executive.now.compiled.model
+        executive.now.state.pending executive.now.state.mirrored line.now) }
+    ensures may_come { IfOk result (λ event.
+        IfSome event (MayCome executive.now.compiled.model executive.now.state.pending
+        executive.now.state.mirrored)) }
     ensures compiled { IsCompiled executive.now.compiled }
 {
     let model = executive.compiled().model();
@@ -79,10 +82,13 @@ fn make(
     counts: &mut Counts,
     event: &Event,
 ) -> Result<Vec<u8>, AllocError>
-    requires may_come { MayCome executive.old.compiled.model executive.old.state.pending executive.old.state.mirrored event.now }
+    requires may_come { MayCome executive.old.compiled.model executive.old.state.pending
+        executive.old.state.mirrored event.now }
     requires room { executive.old.state.ticks + 1 < 2 ^ 64 }
     requires few { AreFewer (2 ^ 64 - 1) counts.old }
-    ensures acts { IfOk result (λ text. (report : _) × Acts executive.old.compiled (Promising executive.old.compiled) executive.old.state event.now executive.new.state report
+    ensures acts { IfOk result (λ text.
+        (report : _) × Acts executive.old.compiled (Promising executive.old.compiled)
+        executive.old.state event.now executive.new.state report
         × EventText notation executive.old.compiled executive.old.state report text.items
         × (counts.new ≡ added counts.old (counts_of (option_to_list report)))) }
     ensures compiled { executive.new.compiled ≡ executive.old.compiled }
@@ -108,7 +114,13 @@ impl Script {
         names: IndexMap<Name, Subject>,
     ) -> Result<Script, AllocError>
         requires { NamesFit names compiled.model }
-        ensures { IfOk result (λ s. s ≡ record { notation = notation; compiled = compiled; state = start compiled.model 0; counts = counts_of [] }) }
+        ensures { IfOk result (λ s.
+            s ≡ record {
+              notation = notation;
+              compiled = compiled;
+              state = start compiled.model 0;
+              counts = counts_of [];
+            }) }
     {
         let executive = Executive::open(alloc, compiled)?;
         Ok(Script {

@@ -25,7 +25,8 @@ fn goal_event(
     mirrored: VarSet,
 ) -> Result<Event, Stop>
     requires fit { IfSome names (λ n. NamesFit n.now model.now) }
-    ensures { AnswersAs result (event_of model.now pending.now.pairs mirrored (Goal (map shown_pair named.now))) }
+    ensures { AnswersAs result (event_of model.now pending.now.pairs mirrored
+        (Goal (map shown_pair named.now))) }
 {
     let Some(pairs) = each_pair(alloc, model, names, Naming::Modes, named)? else {
         return Err(Stop::refused(NAME_UNKNOWN));
@@ -46,7 +47,8 @@ fn observe_event(
     mirrored: VarSet,
 ) -> Result<Event, Stop>
     requires fit { IfSome names (λ n. NamesFit n.now model.now) }
-    ensures { AnswersAs result (event_of model.now pending.now.pairs mirrored (Observe (map shown_pair named.now))) }
+    ensures { AnswersAs result (event_of model.now pending.now.pairs mirrored
+        (Observe (map shown_pair named.now))) }
 {
     let Some(pairs) = each_pair(alloc, model, names, Naming::Values, named)? else {
         return Err(Stop::refused(NAME_UNKNOWN));
@@ -66,7 +68,8 @@ fn fault_event(
     mirrored: VarSet,
 ) -> Result<Event, Stop>
     requires fit { IfSome names (λ n. NamesFit n.now model.now) }
-    ensures { AnswersAs result (event_of model.now pending.now.pairs mirrored (Fault (shown_pair named.now))) }
+    ensures { AnswersAs result (event_of model.now pending.now.pairs mirrored
+        (Fault (shown_pair named.now))) }
 {
     match stands_for(model, names, Naming::Modes, named) {
         Some(pair) => Ok(Event::Fault(pair)),
@@ -104,7 +107,8 @@ pub fn event_of(
     mirrored: VarSet,
 ) -> Result<Event, Stop>
     requires fit { IfSome names (λ n. NamesFit n.now model.now) }
-    ensures { AnswersAs result (event_of model.now pending.now.pairs mirrored (shown_item item.now)) }
+    ensures { AnswersAs result (event_of model.now pending.now.pairs mirrored
+        (shown_item item.now)) }
 {
     match item {
         Item::Goal(pairs) => goal_event(alloc, model, names, pairs, pending, mirrored),

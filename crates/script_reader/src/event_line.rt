@@ -25,7 +25,8 @@ fn item_event(
     mirrored: VarSet,
 ) -> Result<Option<Event>, Stop>
     requires fit { IfSome names (λ n. NamesFit n.now model.now) }
-    ensures { AnswersAs result (as_event (event_of model.now pending.now.pairs mirrored (shown_item item.now))) }
+    ensures { AnswersAs result (as_event (event_of model.now pending.now.pairs mirrored
+        (shown_item item.now))) }
 {
     let event = event_of(alloc, model, names, item, pending, mirrored)?;
     Ok(Some(event))
@@ -41,7 +42,8 @@ fn tokens_event(
     mirrored: VarSet,
 ) -> Result<Option<Event>, Stop>
     requires fit { IfSome names (λ n. NamesFit n.now model.now) }
-    ensures { AnswersAs result (by_tokens (event_of model.now pending.now.pairs mirrored) (Ok (map token_view tokens.now))) }
+    ensures { AnswersAs result (by_tokens (event_of model.now pending.now.pairs mirrored)
+        (Ok (map token_view tokens.now))) }
 {
     if tokens.is_empty() {
         return Ok(None);
@@ -84,7 +86,8 @@ pub fn read_event(
     mirrored: VarSet,
 ) -> Result<Option<Event>, Stop>
     ensures answer { AnswersAs result (event_line model.now pending.now.pairs mirrored line.now) }
-    ensures may_come { IfOk result (λ event. IfSome event (MayCome model.now pending.now.pairs mirrored)) }
+    ensures may_come { IfOk result (λ event.
+        IfSome event (MayCome model.now pending.now.pairs mirrored)) }
 {
     line_event(alloc, line, model, None, pending, mirrored)
 }
@@ -101,7 +104,8 @@ pub fn read_named_event(
 ) -> Result<Option<Event>, Stop>
     requires fit { NamesFit names.now model.now }
     ensures answer { AnswersAs result (event_line model.now pending.now.pairs mirrored line.now) }
-    ensures may_come { IfOk result (λ event. IfSome event (MayCome model.now pending.now.pairs mirrored)) }
+    ensures may_come { IfOk result (λ event.
+        IfSome event (MayCome model.now pending.now.pairs mirrored)) }
 {
     line_event(alloc, line, model, Some(names), pending, mirrored)
 }

@@ -23,14 +23,16 @@ pub enum Item<'a> {
 
 /// The item, where nothing follows.
 fn ended<'a>(item: Item<'a>, tokens: &[Token]) -> Option<Item<'a>>
-    ensures { option_map shown_item result ≡ ended (shown_item item.entry) (map lexeme_of tokens.now) }
+    ensures { option_map shown_item result
+        ≡ ended (shown_item item.entry) (map lexeme_of tokens.now) }
 {
     if tokens.is_empty() { Some(item) } else { None }
 }
 
 #[tactic(auto, unfolding(crate::specs::Items::goal_at))]
 fn goal_at<'a>(alloc: Global, tokens: &[Token<'a>]) -> Result<Option<Item<'a>>, AllocError>
-    ensures { IfOk result (λ read. option_map shown_item read ≡ goal_at (map lexeme_of tokens.now)) }
+    ensures { IfOk result (λ read.
+        option_map shown_item read ≡ goal_at (map lexeme_of tokens.now)) }
 {
     let Some((pairs, rest)) = pairs_at(alloc, tokens)? else {
         return Ok(None);
@@ -40,7 +42,8 @@ fn goal_at<'a>(alloc: Global, tokens: &[Token<'a>]) -> Result<Option<Item<'a>>, 
 
 #[tactic(auto, unfolding(crate::specs::Items::observe_at))]
 fn observe_at<'a>(alloc: Global, tokens: &[Token<'a>]) -> Result<Option<Item<'a>>, AllocError>
-    ensures { IfOk result (λ read. option_map shown_item read ≡ observe_at (map lexeme_of tokens.now)) }
+    ensures { IfOk result (λ read.
+        option_map shown_item read ≡ observe_at (map lexeme_of tokens.now)) }
 {
     let Some((pairs, rest)) = pairs_at(alloc, tokens)? else {
         return Ok(None);
@@ -66,7 +69,8 @@ fn mirror_at<'a>(tokens: &[Token<'a>]) -> Option<Item<'a>>
 
 /// What a line with these tokens says, if it has a form.
 pub fn item_of<'a>(alloc: Global, tokens: &[Token<'a>]) -> Result<Option<Item<'a>>, AllocError>
-    ensures { IfOk result (λ read. option_map shown_item read ≡ item_of (map lexeme_of tokens.now)) }
+    ensures { IfOk result (λ read.
+        option_map shown_item read ≡ item_of (map lexeme_of tokens.now)) }
 {
     match tokens {
         [] => Ok(None),

@@ -14,15 +14,19 @@ ghost use Rattle.script_reader.specs.Laws.{Spells, IsMalformed, IsLeastCode, App
 /// The grammar beside the reading: what an item spells is read as that item, and what is read as an item is its spelling.
 pub fn lines_are_spelled()
     ensures read { (i : Item) → IsSpelled i → item_of (spelling i) ≡ Some i }
-    ensures spelled { (ls : List Lexeme) (i : Item) → item_of ls ≡ Some i → (ls ≡ spelling i) × IsSpelled i }
+    ensures spelled { (ls : List Lexeme) (i : Item) → item_of ls ≡ Some i → (ls ≡ spelling i)
+        × IsSpelled i }
 {}
 
 /// A line without tokens says nothing, one that spells an item says what the item does, and each other line is malformed.
 pub fn lines_say_items()
-    ensures nothing { (m : PlantModel) (pending : List Pair) (mirrored : ℕ) (line : List ℕ) → (event_line m pending mirrored line ≡ Ok None) ↔ (tokens_of line ≡ Ok []) }
-    ensures item { (m : PlantModel) (pending : List Pair) (mirrored : ℕ) (line : List ℕ) (i : Item) → Spells line i
+    ensures nothing { (m : PlantModel) (pending : List Pair) (mirrored : ℕ) (line : List ℕ) →
+        (event_line m pending mirrored line ≡ Ok None) ↔ (tokens_of line ≡ Ok []) }
+    ensures item { (m : PlantModel) (pending : List Pair) (mirrored : ℕ) (line : List ℕ) (i : Item)
+        → Spells line i
         → event_line m pending mirrored line ≡ as_event (event_of m pending mirrored i) }
-    ensures malformed { (m : PlantModel) (pending : List Pair) (mirrored : ℕ) (line : List ℕ) → (event_line m pending mirrored line ≡ Err MALFORMED) ↔ IsMalformed line }
+    ensures malformed { (m : PlantModel) (pending : List Pair) (mirrored : ℕ) (line : List ℕ) →
+        (event_line m pending mirrored line ≡ Err MALFORMED) ↔ IsMalformed line }
 {}
 
 /// What an item is refused with is the least code that applies to it by the table of codes, and where none
@@ -31,5 +35,6 @@ pub fn least_codes_are_answered()
     ensures refused { (m : PlantModel) (pending : List Pair) (mirrored : ℕ) (i : Item) (code : ℕ)
         → (event_of m pending mirrored i ≡ Err code) ↔ IsLeastCode m pending mirrored i code }
     ensures taken { (m : PlantModel) (pending : List Pair) (mirrored : ℕ) (i : Item) (e : Event)
-        → (event_of m pending mirrored i ≡ Ok e) ↔ (IsNamed m i e × ((code : ℕ) → Applies m pending mirrored i code → ⊥)) }
+        → (event_of m pending mirrored i ≡ Ok e)
+        ↔ (IsNamed m i e × ((code : ℕ) → Applies m pending mirrored i code → ⊥)) }
 {}

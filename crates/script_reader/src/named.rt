@@ -79,7 +79,8 @@ pub fn each_pair(
     named: &[NamedPair],
 ) -> Result<Option<List<Pair>>, AllocError>
     requires fit { IfSome names (λ n. NamesFit n.now model.now) }
-    ensures { IfOk result (λ pairs. pairs ≡ each_pair (stands_for naming model.now) (map shown_pair named.now)) }
+    ensures { IfOk result (λ pairs.
+        pairs ≡ each_pair (stands_for naming model.now) (map shown_pair named.now)) }
 {
     let mut pairs = List::new(alloc);
     for one in named {

@@ -59,7 +59,8 @@ impl Plant {
     pub fn fault(&mut self, pair: Pair)
         requires { pair.item < length self.old }
         ensures sets { self.new ≡ slice_set self.old pair.item pair.value }
-        ensures fits { (m : PlantModel) → IsState m self.old → HasMode m pair.item pair.value → IsState m self.new }
+        ensures fits { (m : PlantModel) → IsState m self.old → HasMode m pair.item pair.value →
+            IsState m self.new }
     {
         self.state.modes.set(pair.item as usize, pair.value);
     }

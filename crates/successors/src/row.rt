@@ -25,7 +25,8 @@ fn lesser(known: Option<u32>, cost: u32) -> u32
 fn note_cost(costs: &mut List<Option<u32>>, failure: &Failure, from: u8)
     requires { failure.now.target < length costs.old }
     ensures full { length costs.new ≡ length costs.old }
-    ensures least { (fs : List Failure) → AreLeast fs failure.now.component from costs.old → AreLeast (fs ++ failure.now ∷ []) failure.now.component from costs.new }
+    ensures least { (fs : List Failure) → AreLeast fs failure.now.component from costs.old →
+        AreLeast (fs ++ failure.now ∷ []) failure.now.component from costs.new }
 {
     if failure.source != from {
         return;
@@ -39,9 +40,11 @@ fn note_cost(costs: &mut List<Option<u32>>, failure: &Failure, from: u8)
 fn note_failure(table: &mut Vec<List<Option<u32>>>, failure: &Failure, modes: &[u8])
     requires full { length table.old.items ≡ length modes.now }
     requires component { failure.now.component < length modes.now }
-    requires target { failure.now.target < length (slice_index_or table.old.items failure.now.component []) }
+    requires target { failure.now.target < length
+        (slice_index_or table.old.items failure.now.component []) }
     ensures sizes { map length table.new.items ≡ map length table.old.items }
-    ensures least { (fs : List Failure) → AreAllLeast fs modes.now table.old.items → AreAllLeast (fs ++ failure.now ∷ []) modes.now table.new.items }
+    ensures least { (fs : List Failure) → AreAllLeast fs modes.now table.old.items →
+        AreAllLeast (fs ++ failure.now ∷ []) modes.now table.new.items }
 {
     let component = failure.component as usize;
     note_cost(&mut table[component], failure, modes[component]);
@@ -49,7 +52,8 @@ fn note_failure(table: &mut Vec<List<Option<u32>>>, failure: &Failure, modes: &[
 
 /// No cost for each mode of each component.
 fn no_costs(alloc: Global, components: &[Component]) -> Result<Vec<List<Option<u32>>>, AllocError>
-    ensures sizes { IfOk result (λ v. map length v.items ≡ map (λ x. length x.modes) components.now) }
+    ensures sizes { IfOk result (λ v.
+        map length v.items ≡ map (λ x. length x.modes) components.now) }
     ensures none { IfOk result (λ v. All (All (λ o. o ≡ None)) v.items) }
 {
     let mut table = Vec::with_capacity(alloc, components.len())?;
@@ -115,7 +119,8 @@ pub fn row_of(
     requires full { length costs.now ≡ slice_index (mode_counts model.now) component }
     requires least { AreLeast model.now.failures component from costs.now }
     ensures row { IfOk result IsRow }
-    ensures each { IfOk result (AreChanges model.now component from nominal (slice_index (mode_counts model.now) component)) }
+    ensures each { IfOk result (AreChanges model.now component from nominal
+        (slice_index (mode_counts model.now) component)) }
 {
     let modes = model.components().get(component as usize).modes.len();
     let mut row = Vec::with_capacity(alloc, modes)?;

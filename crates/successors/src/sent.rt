@@ -25,7 +25,8 @@ fn some_stands(modes: &[u8], cubes: &[Cube]) -> bool
 fn is_commanded(compiled: &Compiled, state: &State, command: u16, at: usize) -> bool
     requires state { IsState compiled.now.model state.now.modes }
     requires at { at < length compiled.now.model.moves }
-    ensures { (move : Move) → slice_get compiled.now.model.moves at ≡ Some move → (IsTrue result ↔ IsCommanded compiled.now.model state.now.modes (Some command) move) }
+    ensures { (move : Move) → slice_get compiled.now.model.moves at ≡ Some move →
+        (IsTrue result ↔ IsCommanded compiled.now.model state.now.modes (Some command) move) }
 {
     let step = compiled.model().moves().get(at);
     let modes = state.modes.as_slice();

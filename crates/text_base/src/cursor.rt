@@ -35,7 +35,8 @@ pub fn is_name_word(token: &Token) -> bool
 
 /// What stands behind the first token, where that is this one.
 pub fn next_is<'a, 'b>(kind: Kind, text: &[u8], tokens: &'b [Token<'a>]) -> Option<&'b [Token<'a>]>
-    ensures { option_map (λ r. map lexeme_of r.now) result ≡ next_is (kind, text.now) (map lexeme_of tokens.now) }
+    ensures { option_map (λ r. map lexeme_of r.now) result
+        ≡ next_is (kind, text.now) (map lexeme_of tokens.now) }
 {
     match tokens {
         [first, rest @ ..] => {
@@ -51,7 +52,8 @@ pub fn next_is<'a, 'b>(kind: Kind, text: &[u8], tokens: &'b [Token<'a>]) -> Opti
 
 /// The first token, where it is a word that may stand in place of a name, and what stands behind it.
 pub fn name_word_at<'a, 'b>(tokens: &'b [Token<'a>]) -> Option<(&'a [u8], &'b [Token<'a>])>
-    ensures { option_map (λ r. (r.0.now, map lexeme_of r.1.now)) result ≡ name_word_at (map lexeme_of tokens.now) }
+    ensures { option_map (λ r. (r.0.now, map lexeme_of r.1.now)) result
+        ≡ name_word_at (map lexeme_of tokens.now) }
 {
     match tokens {
         [first, rest @ ..] => {
@@ -70,7 +72,9 @@ pub fn names_at<'a, 'b>(
     alloc: Global,
     tokens: &'b [Token<'a>],
 ) -> Result<Option<(Vec<&'a [u8]>, &'b [Token<'a>])>, AllocError>
-    ensures { IfOk result (λ read. option_map (λ r. (map (λ n. n.now) r.0.items, map lexeme_of r.1.now)) read ≡ names_at (map lexeme_of tokens.now)) }
+    ensures { IfOk result (λ read.
+        option_map (λ r. (map (λ n. n.now) r.0.items, map lexeme_of r.1.now)) read
+        ≡ names_at (map lexeme_of tokens.now)) }
 {
     let mut names = Vec::new(alloc);
     let mut at = 0;

@@ -19,7 +19,8 @@ pub struct NamedPair<'a> {
 /// The pair at the front of the tokens, and what stands behind it.
 #[tactic(auto, unfolding(crate::specs::Pairs::pair_at))]
 pub fn pair_at<'a, 'b>(tokens: &'b [Token<'a>]) -> Option<(NamedPair<'a>, &'b [Token<'a>])>
-    ensures { option_map (λ r. (shown_pair r.0, map lexeme_of r.1.now)) result ≡ pair_at (map lexeme_of tokens.now) }
+    ensures { option_map (λ r. (shown_pair r.0, map lexeme_of r.1.now)) result
+        ≡ pair_at (map lexeme_of tokens.now) }
 {
     let (name, rest) = name_word_at(tokens)?;
     let rest = next_is(Kind::Symbol, b"=", rest)?;
@@ -32,7 +33,9 @@ pub fn pairs_at<'a, 'b>(
     alloc: Global,
     tokens: &'b [Token<'a>],
 ) -> Result<Option<(Vec<NamedPair<'a>>, &'b [Token<'a>])>, AllocError>
-    ensures { IfOk result (λ read. option_map (λ r. (map shown_pair r.0.items, map lexeme_of r.1.now)) read ≡ pairs_at (map lexeme_of tokens.now)) }
+    ensures { IfOk result (λ read.
+        option_map (λ r. (map shown_pair r.0.items, map lexeme_of r.1.now)) read
+        ≡ pairs_at (map lexeme_of tokens.now)) }
 {
     let mut pairs = Vec::new(alloc);
     let mut at = 0;

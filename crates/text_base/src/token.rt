@@ -143,23 +143,28 @@ pub fn tokens<'a>(alloc: Global, line: &'a [u8]) -> Result<Vec<Token<'a>>, Token
 
 /// Each token is a part of its line, and begins behind the one before it.
 pub fn tokens_are_parts()
-    ensures { (line : List ℕ) (ts : List Tok) → tokens_of line ≡ Ok ts → AllByRecursion (IsPartOf line) ts × Rise 0 ts }
+    ensures { (line : List ℕ) (ts : List Tok) → tokens_of line ≡ Ok ts →
+        AllByRecursion (IsPartOf line) ts × Rise 0 ts }
 {}
 
 /// Each token's bytes are of its kind: a word, one or more digits, or one of the eight symbols.
 pub fn tokens_are_of_their_kinds()
-    ensures { (line : List ℕ) (ts : List Tok) → tokens_of line ≡ Ok ts → AllByRecursion IsOfItsKind ts }
+    ensures { (line : List ℕ) (ts : List Tok) → tokens_of line ≡ Ok ts →
+        AllByRecursion IsOfItsKind ts }
 {}
 
 /// Nothing of a line is left out: each place is in a token, a blank or in the comment, or the line stops at the first byte
 /// that belongs to nothing, behind tokens that are as long as they can be. No token stands in the comment.
 pub fn tokens_cover()
-    ensures all { (line : List ℕ) (ts : List Tok) → tokens_of line ≡ Ok ts → (k : ℕ) → k < length line → BelongsToLine line ts k }
-    ensures comment { (line : List ℕ) (ts : List Tok) → tokens_of line ≡ Ok ts → (j : ℕ) → BeginsComment line ts j → AllByRecursion (StandsBefore j) ts }
+    ensures all { (line : List ℕ) (ts : List Tok) → tokens_of line ≡ Ok ts → (k : ℕ) →
+        k < length line → BelongsToLine line ts k }
+    ensures comment { (line : List ℕ) (ts : List Tok) → tokens_of line ≡ Ok ts → (j : ℕ) →
+        BeginsComment line ts j → AllByRecursion (StandsBefore j) ts }
     ensures stops { (line : List ℕ) (at : ℕ) → tokens_of line ≡ Err at → StopsAt line at }
 {}
 
 /// Each token is as long as it can be.
 pub fn tokens_are_longest()
-    ensures { (line : List ℕ) (ts : List Tok) → tokens_of line ≡ Ok ts → AllByRecursion (IsLongest line) ts }
+    ensures { (line : List ℕ) (ts : List Tok) → tokens_of line ≡ Ok ts →
+        AllByRecursion (IsLongest line) ts }
 {}

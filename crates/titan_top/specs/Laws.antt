@@ -12,6 +12,8 @@ use Rattle.model_syntax.specs.RoundTrip.{ReadsTo}
 use Rattle.model_form.specs.Answers.{answer}
 use Rattle.model_form.specs.FormStates.{nothing_read}
 use Rattle.check_form.specs.CheckEnds.{IsAllYes}
+use Rattle.migrate_form.specs.MigrateLaws.{document_at}
+use Rattle.run_form.specs.Document.{Document, Complete, IsDocument, IsReadWhole}
 use Rattle.run_form.specs.declared.notation.Notation.{Notation}
 use Rattle.titan_top.specs.Meanings.{meaning_of}
 use Rattle.titan_top.specs.Output.{Outcome, outcome_of, IsOutcomeFor, IsOutcome}
@@ -41,10 +43,13 @@ pub record SureTextBegins : Type 0 where
 abbrev pub OwnTracesAreChecked : Type 0
 OwnTracesAreChecked = (input : List ℕ) → HasOwnTrace input → IsAllYes input
 
--- where nothing of an input is refused, a run prints for it what it prints for its migration, and that is migrated to itself
+-- a migration has the status of a run; where nothing of an input is refused, it has a migration that ends, which is its document in version 2, is run as it is, and is migrated to itself
 pub record MigrationsRunAlike : Type 0 where
-  pub runs : (notation : Notation) (input : List ℕ) (o p : Outcome) → IsOutcomeFor Migrate input o → o.status ≡ Ended → IsOutcomeFor (Run notation) input p ↔ IsOutcomeFor (Run notation) o.text p
-  pub again : (input : List ℕ) (o : Outcome) → IsOutcomeFor Migrate input o → o.status ≡ Ended → IsOutcomeFor Migrate o.text o
+  pub status : (notation : Notation) (input : List ℕ) (o p : Outcome) → IsOutcomeFor Migrate input o → IsOutcomeFor (Run notation) input p → o.status ≡ p.status
+  pub some : (input : List ℕ) → IsReadWhole input → (o : Outcome) × IsOutcomeFor Migrate input o × (o.status ≡ Ended)
+  pub document : (input : List ℕ) (r : Document) (o : Outcome) → IsDocument input r → r.ending ≡ Complete → IsOutcomeFor Migrate input o → IsDocument o.text (document_at 2 r)
+  pub runs : (notation : Notation) (input : List ℕ) (o p : Outcome) → IsReadWhole input → IsOutcomeFor Migrate input o → IsOutcomeFor (Run notation) input p ↔ IsOutcomeFor (Run notation) o.text p
+  pub again : (input : List ℕ) (o : Outcome) → IsReadWhole input → IsOutcomeFor Migrate input o → IsOutcomeFor Migrate o.text o
 
 -- where the input that is read has an outcome, its length is room enough
 abbrev pub OutcomesFit : Type 0

@@ -56,7 +56,7 @@ IsOutcomeOf (Some form) input o = IsOutcomeFor form input o
 unfoldable pub IsOutcome : List (String Global) → List ℕ → Outcome → Type 0
 IsOutcome words input o = IsOutcomeOf (asked words) input o
 
--- nothing that the form reads is refused, and no tick has a No: `run` and `check` read the whole input, and `show` its model
+-- nothing that the form reads is refused, and no tick has a No: `show` reads the input's model, and all others the whole input
 abbrev pub NothingRefused : Option Form → List ℕ → Type 0
 NothingRefused None input = ⊥
 NothingRefused (Some form) input = (meaning_of form).nothing_refused input

@@ -44,6 +44,7 @@ pub record StreamedOver (document : List ℕ) {S : Type 0} (m : Ghosts S) (first
   pub driven : Streamed m first (Some document) rest out out' result
   pub stays : left' ≡ left
 
+-- the same, by whether a document was made
 abbrev pub StreamedBy : Option (List ℕ) → {S : Type 0} → Ghosts S → S → (left left' out out' : Option (List ℕ)) → Result End Cut → Type 0
 StreamedBy None m first left left' out out' result = Streamed m first left left' out out' result
 StreamedBy (Some document) m first left left' out out' result = StreamedOver document m first left left' out out' result
@@ -65,6 +66,7 @@ pub record IsDrivenOver (document : List ℕ) {S : Type 0} (m : Ghosts S) (first
   pub ends : EndsFor m first document result
   pub unasked : calls' ≡ calls
 
+-- the same, by whether a document was made
 abbrev pub IsDrivenBy : Option (List ℕ) → {S : Type 0} → Ghosts S → S → (left left' out out' : Option (List ℕ)) → (calls calls' : Option (List Call)) → Result End Cut → Type 0
 IsDrivenBy None m first left left' out out' calls calls' result = IsDriven m first left left' out out' calls calls' result
 IsDrivenBy (Some document) m first left left' out out' calls calls' result = IsDrivenOver document m first left left' out out' calls calls' result

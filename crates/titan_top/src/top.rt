@@ -34,13 +34,19 @@ fn drive_form<S, K: Sink, I: Intake<S, K>>(
     sink: &mut K,
 ) -> Result<End, Cut>
     requires { HasRoomForWords (Some form) (I.left source.old) (K.space sink.old) }
-    ensures driven { IsDrivenAs form (I.left source.old) (I.left source.new) (K.written sink.old) (K.written sink.new)
+    ensures driven { IsDrivenAs form (I.left source.old) (I.left source.new) (K.written sink.old)
+        (K.written sink.new)
         (I.calls source.old) (I.calls source.new) result }
     ensures not_asked { (seed : ℕ) → form ≡ Form.Trial seed → source.new ≡ source.old }
     ensures not_read { (seed : ℕ) → form ≡ Form.Trial seed → IsErrOf result Cut.ReadFault → ⊥ }
     ensures read { IsErrOf result Cut.ReadFault → Rose (I.faults source.old) (I.faults source.new) }
     ensures write { IsErrOf result Cut.WriteFault → Rose (K.faults sink.old) (K.faults sink.new) }
-    ensures complete { ¬ (Rose (I.faults source.old) (I.faults source.new)) → ¬ (Rose (K.faults sink.old) (K.faults sink.new)) →
+    ensures quiet_read { ¬ (IsErrOf result Cut.ReadFault) →
+        I.faults source.new ≡ I.faults source.old }
+    ensures quiet_write { ¬ (IsErrOf result Cut.WriteFault) →
+        K.faults sink.new ≡ K.faults sink.old }
+    ensures complete { ¬ (Rose (I.faults source.old) (I.faults source.new)) →
+        ¬ (Rose (K.faults sink.old) (K.faults sink.new)) →
         IfErr result (λ c. c ≡ Cut.Memory) }
 {
     match form {
@@ -69,6 +75,7 @@ fn send_usage<K: Sink>(sink: &mut K) -> Status
     requires { HasRoom (K.space sink.old) (length usage_text) }
     ensures sent { Writes result (K.written sink.old) (K.written sink.new) usage }
     ensures fault { result ≡ Status.WriteFault → Rose (K.faults sink.old) (K.faults sink.new) }
+    ensures quiet { ¬ (result ≡ Status.WriteFault) → K.faults sink.new ≡ K.faults sink.old }
     ensures only { (result ≡ Status.Usage) ⊎ (result ≡ Status.WriteFault) }
 {
     match put_all(sink, b"usage: see the forms of titan\n") {
@@ -89,11 +96,13 @@ pub fn titan<S: Source, K: Sink>(
     // Over every source: some bytes, those that were taken where they are known, what the form's machine says of them, and what of it
     // was written.
     ensures streamed { (form : Form) → IsForm words.now.items form →
-        StreamsAs form (S.left source.old) (S.left source.new) (K.written sink.old) (K.written sink.new) result }
+        StreamsAs form (S.left source.old) (S.left source.new) (K.written sink.old)
+        (K.written sink.new) result }
 
     // Over a source whose bytes are known, and for a trial over every one: the whole text of the words and the input, or a front of it.
     ensures text { OfInput (asked words.now.items) (S.left source.old) (λ input.
-        WritesAs result (K.written sink.old) (K.written sink.new) (IsOutcome words.now.items input)) }
+        WritesAs result (K.written sink.old) (K.written sink.new)
+        (IsOutcome words.now.items input)) }
 
     // What is printed of a run: the reports are the trace of what was read, each reply is good, and then comes the ending; or
     // the model is refused.
@@ -103,83 +112,111 @@ pub fn titan<S: Source, K: Sink>(
 
     // The same of what is counted for a trial.
     ensures summary { (seed : ℕ) → IsForm words.now.items (Form.Trial seed) →
-        (o : Outcome) → IsOutcome words.now.items (document seed) o → OfAnswer (IsTraceOf (Notation.Summary seed) (document seed)) o }
+        (o : Outcome) → IsOutcome words.now.items (document seed) o →
+        OfAnswer (IsTraceOf (Notation.Summary seed) (document seed)) o }
 
     // A trial reads the document of its seed, whatever the source has.
     ensures trial_text { (seed : ℕ) → IsForm words.now.items (Form.Trial seed) →
-        WritesAs result (K.written sink.old) (K.written sink.new) (IsOutcome words.now.items (document seed)) }
+        WritesAs result (K.written sink.old) (K.written sink.new)
+        (IsOutcome words.now.items (document seed)) }
 
-    // A run that a fault or want of memory cut short has written nothing, or a front of such a trace, or of such a refusal, of bytes that
+    // A run that was cut short, by a fault or out of memory, has written nothing, or a front of such a trace, or of such a refusal, of bytes that
     // were taken.
-    ensures front { (notation : Notation) → IsForm words.now.items (Form.Run notation) → IsCut result →
+    ensures front { (notation : Notation) → IsForm words.now.items (Form.Run notation) →
+        IsCut result →
         IfSome (S.left source.old) (λ input.
         IsFrontOfRun notation input (S.left source.new) (K.written sink.old) (K.written sink.new)) }
 
     // The theorem of the checker: what gets a Yes is a model, a script and the text of its ticks, each of which is a consistent successor
     // of its cost, fits its goal, and sends only what is safe.
     ensures checked { IsForm words.now.items Form.Check → IfSome (S.left source.old) (λ input.
-        (o : Outcome) → IsOutcome words.now.items input o → o.status ≡ Status.Ended → IsCheckedTrace input o) }
+        (o : Outcome) → IsOutcome words.now.items input o → o.status ≡ Status.Ended →
+        IsCheckedTrace input o) }
 
     // What is printed of a migration that ends is the input's document in version 2: it has the input's events, a run prints for it what it
     // prints for the input, and it is migrated to itself.
     ensures migrated { IsForm words.now.items Form.Migrate → IfSome (S.left source.old) (λ input.
-        (o : Outcome) → IsOutcome words.now.items input o → o.status ≡ Status.Ended → IsMigrated input o.text) }
+        (o : Outcome) → IsOutcome words.now.items input o → o.status ≡ Status.Ended →
+        IsMigrated input o.text) }
 
     // The input has no line that is refused, or its first one is named. A check has no No either, or its first one comes first.
     ensures ended { result ≡ Status.Ended →
-        OfInput (asked words.now.items) (S.left source.old) (NothingRefused (asked words.now.items)) }
+        OfInput (asked words.now.items) (S.left source.old)
+        (NothingRefused (asked words.now.items)) }
     ensures refused { result ≡ Status.Refused →
         OfInput (asked words.now.items) (S.left source.old) (SomeRefused (asked words.now.items)) }
     ensures rejected { result ≡ Status.Rejected →
         OfInput (asked words.now.items) (S.left source.old) (SomeRejected (asked words.now.items)) }
 
     // Without a fault that is how the program ends, or memory ran out.
-    ensures ended_where { ¬ (Rose (S.faults source.old) (S.faults source.new)) → ¬ (Rose (K.faults sink.old) (K.faults sink.new)) →
+    ensures ended_where { ¬ (Rose (S.faults source.old) (S.faults source.new)) →
+        ¬ (Rose (K.faults sink.old) (K.faults sink.new)) →
         OfInput (asked words.now.items) (S.left source.old) (λ input.
-        NothingRefused (asked words.now.items) input → (result ≡ Status.Ended) ⊎ (result ≡ Status.Memory)) }
-    ensures refused_where { ¬ (Rose (S.faults source.old) (S.faults source.new)) → ¬ (Rose (K.faults sink.old) (K.faults sink.new)) →
+        NothingRefused (asked words.now.items) input → (result ≡ Status.Ended)
+        ⊎ (result ≡ Status.Memory)) }
+    ensures refused_where { ¬ (Rose (S.faults source.old) (S.faults source.new)) →
+        ¬ (Rose (K.faults sink.old) (K.faults sink.new)) →
         OfInput (asked words.now.items) (S.left source.old) (λ input.
-        SomeRefused (asked words.now.items) input → (result ≡ Status.Refused) ⊎ (result ≡ Status.Memory)) }
-    ensures rejected_where { ¬ (Rose (S.faults source.old) (S.faults source.new)) → ¬ (Rose (K.faults sink.old) (K.faults sink.new)) →
+        SomeRefused (asked words.now.items) input → (result ≡ Status.Refused)
+        ⊎ (result ≡ Status.Memory)) }
+    ensures rejected_where { ¬ (Rose (S.faults source.old) (S.faults source.new)) →
+        ¬ (Rose (K.faults sink.old) (K.faults sink.new)) →
         OfInput (asked words.now.items) (S.left source.old) (λ input.
-        SomeRejected (asked words.now.items) input → (result ≡ Status.Rejected) ⊎ (result ≡ Status.Memory)) }
+        SomeRejected (asked words.now.items) input → (result ≡ Status.Rejected)
+        ⊎ (result ≡ Status.Memory)) }
 
     // What a run with proofs prints is accepted: behind its own text, of which nothing is refused, a check of it ends with a Yes to each tick.
-    ensures own_traces { ¬ (Rose (S.faults source.old) (S.faults source.new)) → ¬ (Rose (K.faults sink.old) (K.faults sink.new)) →
+    ensures own_traces { ¬ (Rose (S.faults source.old) (S.faults source.new)) →
+        ¬ (Rose (K.faults sink.old) (K.faults sink.new)) →
         IsForm words.now.items Form.Check →
-        IfSome (S.left source.old) (λ input. HasOwnTrace input → (result ≡ Status.Ended) ⊎ (result ≡ Status.Memory)) }
+        IfSome (S.left source.old) (λ input.
+        HasOwnTrace input → (result ≡ Status.Ended) ⊎ (result ≡ Status.Memory)) }
 
-    // Each fault has its cause.
+    // Each fault has its cause, and none is passed over: a read that fails comes out as ReadFault, and a write that fails as WriteFault.
     ensures read { result ≡ Status.ReadFault → Rose (S.faults source.old) (S.faults source.new) }
     ensures write { result ≡ Status.WriteFault → Rose (K.faults sink.old) (K.faults sink.new) }
+    ensures quiet_read { ¬ (result ≡ Status.ReadFault) → S.faults source.new ≡ S.faults source.old }
+    ensures quiet_write { ¬ (result ≡ Status.WriteFault) → K.faults sink.new ≡ K.faults sink.old }
 
     // Words of no form, whether or not the source tells its bytes.
     ensures usage { result ≡ Status.Usage → AreNoForm words.now.items }
-    ensures no_form { AreNoForm words.now.items → Writes result (K.written sink.old) (K.written sink.new) usage }
-    ensures only_usage { AreNoForm words.now.items → (result ≡ Status.Usage) ⊎ (result ≡ Status.WriteFault) }
+    ensures no_form { AreNoForm words.now.items →
+        Writes result (K.written sink.old) (K.written sink.new) usage }
+    ensures only_usage { AreNoForm words.now.items → (result ≡ Status.Usage)
+        ⊎ (result ≡ Status.WriteFault) }
     ensures not_asked { AreNoForm words.now.items → source.new ≡ source.old }
 
     // A trial asks the source for nothing, so nothing fails to be read.
-    ensures trial_not_asked { (seed : ℕ) → IsForm words.now.items (Form.Trial seed) → source.new ≡ source.old }
-    ensures trial_not_read { (seed : ℕ) → IsForm words.now.items (Form.Trial seed) → result ≡ Status.ReadFault → ⊥ }
+    ensures trial_not_asked { (seed : ℕ) → IsForm words.now.items (Form.Trial seed) →
+        source.new ≡ source.old }
+    ensures trial_not_read { (seed : ℕ) → IsForm words.now.items (Form.Trial seed) →
+        result ≡ Status.ReadFault → ⊥ }
 
     // Where no fault rose, the status is the outcome's, or memory ran out.
-    ensures complete { ¬ (Rose (S.faults source.old) (S.faults source.new)) → ¬ (Rose (K.faults sink.old) (K.faults sink.new)) →
+    ensures complete { ¬ (Rose (S.faults source.old) (S.faults source.new)) →
+        ¬ (Rose (K.faults sink.old) (K.faults sink.new)) →
         OfInput (asked words.now.items) (S.left source.old) (λ input.
-        ((o : Outcome) × IsOutcome words.now.items input o × (result ≡ o.status)) ⊎ (result ≡ Status.Memory)) }
+        ((o : Outcome) × IsOutcome words.now.items input o × (result ≡ o.status))
+        ⊎ (result ≡ Status.Memory)) }
 
     // Only a check rejects anything.
     ensures only_check { result ≡ Status.Rejected → IsForm words.now.items Form.Check }
 
     // A run, a check or a migration that ended has read its input to the end; what is shown was read to the line `script`. Before the end `show` and
     // `check` write nothing.
-    ensures whole { (notation : Notation) → IsForm words.now.items (Form.Run notation) → result ≡ Status.Ended → IsAtEnd (S.left source.new) }
-    ensures whole_check { IsForm words.now.items Form.Check → result ≡ Status.Ended → IsAtEnd (S.left source.new) }
-    ensures whole_migration { IsForm words.now.items Form.Migrate → result ≡ Status.Ended → IsAtEnd (S.left source.new) }
+    ensures whole { (notation : Notation) → IsForm words.now.items (Form.Run notation) →
+        result ≡ Status.Ended → IsAtEnd (S.left source.new) }
+    ensures whole_check { IsForm words.now.items Form.Check → result ≡ Status.Ended →
+        IsAtEnd (S.left source.new) }
+    ensures whole_migration { IsForm words.now.items Form.Migrate → result ≡ Status.Ended →
+        IsAtEnd (S.left source.new) }
     ensures to_script { IsForm words.now.items Form.Show → result ≡ Status.Ended →
-        (taken : List ℕ) × (S.left source.old ≡ prepend_known taken (S.left source.new)) × NothingRefused (Some Form.Show) taken }
-    ensures silent { IsForm words.now.items Form.Show → result ≡ Status.ReadFault → K.written sink.new ≡ K.written sink.old }
-    ensures silent_check { IsForm words.now.items Form.Check → result ≡ Status.ReadFault → K.written sink.new ≡ K.written sink.old }
+        (taken : List ℕ) × (S.left source.old ≡ prepend_known taken (S.left source.new))
+        × NothingRefused (Some Form.Show) taken }
+    ensures silent { IsForm words.now.items Form.Show → result ≡ Status.ReadFault →
+        K.written sink.new ≡ K.written sink.old }
+    ensures silent_check { IsForm words.now.items Form.Check → result ≡ Status.ReadFault →
+        K.written sink.new ≡ K.written sink.old }
 {
     match form_of(words) {
         Some(form) => status_of(drive_form::<S, K, Unwatched>(alloc, form, source, sink)),

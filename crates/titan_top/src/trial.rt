@@ -28,10 +28,13 @@ fn open(alloc: Global, seed: u64) -> Result<(RunMachine, SteadySource), AllocErr
 /// Runs the document of the seed, and sends the summary.
 pub fn drive_trial<K: Sink>(alloc: Global, seed: u64, sink: &mut K) -> Result<End, Cut>
     requires { HasRoomForWords (Some (Trial seed)) None (K.space sink.old) }
-    ensures driven { IsDrivenAs (Trial seed) None None (K.written sink.old) (K.written sink.new) None None result }
+    ensures driven { IsDrivenAs (Trial seed) None None (K.written sink.old) (K.written sink.new)
+        None None result }
     ensures read { IsErrOf result Cut.ReadFault → ⊥ }
     ensures write { IsErrOf result Cut.WriteFault → Rose (K.faults sink.old) (K.faults sink.new) }
-    ensures complete { ¬ (Rose (K.faults sink.old) (K.faults sink.new)) → IfErr result (λ c. c ≡ Cut.Memory) }
+    ensures quiet { ¬ (IsErrOf result Cut.WriteFault) → K.faults sink.new ≡ K.faults sink.old }
+    ensures complete { ¬ (Rose (K.faults sink.old) (K.faults sink.new)) →
+        IfErr result (λ c. c ≡ Cut.Memory) }
 {
     match open(alloc, seed) {
         Ok((mut machine, mut source)) => {

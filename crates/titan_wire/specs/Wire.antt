@@ -1,5 +1,5 @@
 -- What calls of sources and sinks do to the bytes that they tell and to their counts of faults.
-use Rattle.std.specs.Prelude.{ℕ, ◌+◌, ◌-◌, ◌^◌, ◌≤◌, min, List, length, Option, None, Some, Result, Ok, Err, OnErr, ⊤}
+use Rattle.std.specs.Prelude.{◌≡◌, ℕ, ◌+◌, ◌-◌, ◌^◌, ◌≤◌, min, List, length, Option, None, Some, Result, Ok, Err, OnOk, OnErr, ⊤}
 use Rattle.std.specs.Option.{option_map}
 use Rattle.titan_wire.specs.declared.wire.PutEnd.{PutEnd}
 use Rattle.titan_wire.specs.declared.wire.PutEnd.TheVariants.{Done, WriteFault}
@@ -12,10 +12,11 @@ counted n = min (n + 1) (2 ^ 64 - 1)
 abbrev pub Rose : ℕ → ℕ → Type 0
 Rose before now = min (before + 1) (2 ^ 64 - 1) ≤ now
 
--- a count of faults never falls, and an `Err` comes only where it rose
+-- a count of faults never falls; an `Err` comes only where it rose, and else it stays
 pub record HasCause {T E : Type 0} (before now : ℕ) (result : Result T E) : Type 0 where
   pub later : before ≤ now
   pub failed : OnErr result (Rose before now)
+  pub stays : OnOk result (now ≡ before)
 
 -- the count of faults after a call, which rises by one exactly where the call fails
 abbrev pub faults_after : {T E : Type 0} → ℕ → Result T E → ℕ

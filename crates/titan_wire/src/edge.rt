@@ -141,7 +141,8 @@ impl<W: Write> Sink for WriterSink<W> {
         ensures cause { HasCause (writer_faults self.old) (writer_faults self.new) result }
         ensures faults { writer_faults self.new ≡ faults_after (writer_faults self.old) result }
         ensures bytes { IfOk result (λ n. Appends
-            (W.contents (writer_of self.old)) (W.contents (writer_of self.new)) (take n piece.now)) }
+            (W.contents (writer_of self.old)) (W.contents (writer_of self.new))
+            (take n piece.now)) }
 
         // A piece that failed isn't written again: the writer got a front of it, or nothing.
         ensures err_bytes { OnErr result (AppendsFront
@@ -231,6 +232,54 @@ mod tests {
                 return Err(io::Error::from(ErrorKind::BrokenPipe));
             }
             Ok(())
+        }
+    }
+
+    /// Fails at each call with this kind of error.
+    #[derive(Drop)]
+    struct Failing {
+        kind: ErrorKind,
+        calls: u8,
+    }
+
+    impl Read for Failing {
+        fn read(&mut self, _buf: &mut [u8]) -> io::Result<usize> {
+            self.calls = self.calls.saturating_add(1);
+            Err(io::Error::from(self.kind))
+        }
+    }
+
+    impl Write for Failing {
+        fn write(&mut self, _buf: &[u8]) -> io::Result<usize> {
+            self.calls = self.calls.saturating_add(1);
+            Err(io::Error::from(self.kind))
+        }
+
+        fn flush(&mut self) -> io::Result<()> {
+            Ok(())
+        }
+    }
+
+    #[test]
+    fn only_an_interruption_is_tried_again(rt: HostRuntime) {
+        let kinds = [
+            ErrorKind::BrokenPipe,
+            ErrorKind::StorageFull,
+            ErrorKind::WouldBlock,
+            ErrorKind::TimedOut,
+            ErrorKind::PermissionDenied,
+            ErrorKind::ConnectionReset,
+            ErrorKind::UnexpectedEof,
+            ErrorKind::Other,
+        ];
+        for kind in kinds {
+            let mut buf = [0; 4];
+            let mut source = ReaderSource::new(Failing { kind, calls: 0 });
+            assert_eq!(rt; source.take(&mut buf), Err(Failed));
+            assert_eq!(rt; source.reader.calls, 1);
+            let mut sink = WriterSink::new(Failing { kind, calls: 0 });
+            assert_eq!(rt; sink.put(b"abc"), Err(Failed));
+            assert_eq!(rt; sink.writer.calls, 1);
         }
     }
 

@@ -82,7 +82,8 @@ pub fn put_all<K: Sink>(sink: &mut K, piece: &[u8]) -> PutEnd
     ensures space { K.space sink.new ≡ less_space (K.space sink.old) (sent_of result piece.now) }
     ensures later { K.faults sink.old ≤ K.faults sink.new }
 
-    // Short of the whole piece it ends only by a fault, and an empty piece makes no `put`.
+    // The whole piece goes out only where no `put` failed. Short of it the call ends only by a fault; an empty piece makes no `put`.
+    ensures quiet { result ≡ PutEnd.Done → K.faults sink.new ≡ K.faults sink.old }
     ensures fault { (result ≡ PutEnd.Done) ⊎ Rose (K.faults sink.old) (K.faults sink.new) }
     ensures short { (result ≡ PutEnd.Done) ⊎ (sent_of result piece.now < length piece.now) }
     ensures empty { piece.now ≡ [] → sink.new ≡ sink.old }

@@ -1,5 +1,5 @@
 -- One event after the other.
-use Rattle.std.proofs.Common.{◌≡◌, ◌+◌, ◌≤◌, List, [], ◌∷◌, ◌++◌, map, Option, Some, None, Contains, refl, sym, ap, subst, ◌∙◌, append_assoc, arith}
+use Rattle.std.proofs.Common.{◌≡◌, List, [], ◌∷◌, ◌++◌, map, Option, Some, None, Contains, refl, sym, ap, subst, ◌∙◌, append_assoc}
 use Rattle.std.specs.Prelude.{option_to_list}
 use Rattle.cca_base.specs.declared.events.Event.{Event}
 use Rattle.cca_base.specs.declared.events.Event.TheVariants as event
@@ -87,11 +87,6 @@ pub tick_alike : (m : PlantModel) (answers : ReplyRule) (x : ExecutiveState) (sh
 tick_alike m answers x (Estimated cost state reply) y h = record { pending = sym (ap (λ (s : ExecutiveState). s.pending) h.after); mirrored = sym (ap (λ (s : ExecutiveState). s.mirrored) h.after) }
 tick_alike m answers x Unexplained y h = record { pending = sym (ap (λ (s : ExecutiveState). s.pending) h.after); mirrored = sym (ap (λ (s : ExecutiveState). s.mirrored) h.after) }
 tick_alike m answers x Holding y h = record { pending = sym (ap (λ (s : ExecutiveState). s.pending) h.1); mirrored = sym (ap (λ (s : ExecutiveState). s.mirrored) h.1) }
-
-tick_counts : (m : PlantModel) (answers : ReplyRule) (x : ExecutiveState) (shown : Shown) (y : ExecutiveState) → TickShows m answers x shown y → y.ticks ≤ x.ticks + 1
-tick_counts m answers x (Estimated cost state reply) y h = omega (arith, ap (λ (s : ExecutiveState). s.ticks) h.after)
-tick_counts m answers x Unexplained y h = omega (arith, ap (λ (s : ExecutiveState). s.ticks) h.after)
-tick_counts m answers x Holding y h = omega (arith, ap (λ (s : ExecutiveState). s.ticks) h.1)
 
 back : (x z : ExecutiveState) → AreAlike x z → AreAlike z x
 back x z h = record { pending = sym h.pending; mirrored = sym h.mirrored }
@@ -266,27 +261,6 @@ module _ (b : CompiledModel) (answers : ReplyRule) where
         made_rest = h.made_rest;
         split = split ∙ ap (λ l. option_to_list report ++ l) h.split ∙ sym (append_assoc (option_to_list report) h.first h.rest);
       }
-
-  -- the first of the events may come
-  pub first_may_come : (x : ExecutiveState) (e : Event) (events : List Event) → All' x (e ∷ events) → May' x e
-  first_may_come x event.Tick events h = tt
-  first_may_come x (event.Goal pairs) events h = h.0
-  first_may_come x event.Clear events h = h.0
-  first_may_come x (event.Observe pairs) events h = h.0
-  first_may_come x (event.Fault p) events h = h.0
-  first_may_come x (event.Mirror v) events h = h.0
-  first_may_come x event.Reset events h = h.0
-
-  -- an event makes one tick more at most, and a reset none
-  pub few_ticks : (x : ExecutiveState) (e : Event) (y : ExecutiveState) (report : Option TickReport) → Acts b answers x e y report → y.ticks ≤ x.ticks + 1
-  few_ticks x e y (Some report) acts = tick_counts b.model answers x report.shown y acts.2
-  few_ticks x (event.Goal pairs) y None (goal, kept, same) = omega (arith, ap (λ (s : ExecutiveState). s.ticks) same)
-  few_ticks x event.Clear y None same = omega (arith, ap (λ (s : ExecutiveState). s.ticks) same)
-  few_ticks x (event.Observe pairs) y None (both, union, same) = omega (arith, ap (λ (s : ExecutiveState). s.ticks) same)
-  few_ticks x (event.Fault p) y None same = omega (arith, ap (λ (s : ExecutiveState). s.ticks) same)
-  few_ticks x (event.Mirror v) y None same = omega (arith, ap (λ (s : ExecutiveState). s.ticks) same)
-  few_ticks x event.Reset y None same = omega (arith, ap (λ (s : ExecutiveState). s.ticks) same)
-  few_ticks x event.Tick y None acts = absurd acts
 
   -- an event that may come, before those that may come where it leads
   pub event_first : (x : ExecutiveState) (e : Event) (y : ExecutiveState) (report : Option TickReport) (events : List Event) → May' x e → Acts b answers x e y report → All' y events → All' x (e ∷ events)

@@ -67,9 +67,6 @@ pub record AreReadTo (rows : List Row) (words : List (List ℕ)) (ks : List ℕ)
   pub chosen : (rest : List ℕ) → AreChosen (drop i rows) rest → AreChosen rows (ks ++ rest)
   pub same : (rest : List ℕ) → choice_words (drop i rows) rest ≡ drop i words → choice_words rows (ks ++ rest) ≡ words
 
-pub reading_begins : (rows : List Row) (words : List (List ℕ)) → AreReadTo rows words [] 0
-reading_begins rows words = record { chosen = λ rest h. h; same = λ rest e. e }
-
 pub drop_next : {X : Type 0} (xs : List X) (i : ℕ) (x : X) → slice_get xs i ≡ Some x → drop i xs ≡ x ∷ drop (i + 1) xs
 drop_next [] i x e = absurd cc
 drop_next (y ∷ ys) zero x e = let is : y ≡ x = cc in ap (λ z. z ∷ ys) is

@@ -1,10 +1,10 @@
 -- A line is cut into words at its spaces.
-use Rattle.std.proofs.Common.{◌≡◌, ◌≢◌, ◌<◌, ◌≤◌, ◌+◌, ◌-◌, ℕ, List, [], ◌∷◌, ◌++◌, All, length, map, take, drop, get_or, Bor, inl, inr, subst, refl, sym, ap, ◌∙◌, arith, append_assoc}
+use Rattle.std.proofs.Common.{◌≡◌, ◌≢◌, ◌<◌, ◌≤◌, ◌+◌, ◌-◌, ℕ, List, [], ◌∷◌, ◌++◌, All, length, map, take, drop, get_or, Bor, inl, inr, subst, sym, ap, ◌∙◌, arith, append_assoc}
 use Rattle.std.specs.List.{slice_range}
 use Rattle.std.proofs.lemmas.Bool.{cases_lt}
 use Rattle.std.proofs.lemmas.List.{append-nil, map-append, drop-drop, drop_all, drop_more, get_or-drop, get_or-take, length-take, take-append-drop}
 use Rattle.std.proofs.lemmas.List.Concat.{flat_map-append}
-use Rattle.std.proofs.lemmas.List.Elements.{All-from_get_or, All-nil, All-push}
+use Rattle.std.proofs.lemmas.List.Elements.{All-from_get_or, All-push}
 use Rattle.trace_text.proofs.WordsByPlace.{Words}
 use Rattle.trace_text.specs.Words.{behind_spaces, HasNoSpace, AreWords}
 
@@ -14,9 +14,6 @@ pub record IsCutTo (line : List ℕ) (words : List (List ℕ)) (start i : ℕ) :
   pub cut : behind_spaces words ++ 32 ∷ drop start line ≡ 32 ∷ line
   pub apart : All HasNoSpace words
   pub begun : (k : ℕ) → start ≤ k → k < i → get_or line k 0 ≢ 32
-
-pub cut_begins : (line : List ℕ) → IsCutTo line [] 0 0
-cut_begins line = record { within = omega arith; cut = refl; apart = All-nil HasNoSpace; begun = λ k low high. absurd (omega arith) }
 
 one_more_word : (words : List (List ℕ)) (word rest : List ℕ) → behind_spaces (words ++ word ∷ []) ++ rest ≡ behind_spaces words ++ 32 ∷ (word ++ rest)
 one_more_word words word rest =

@@ -51,9 +51,6 @@ place_is_read names word (Some k) is =
 
 -- ---- a name with one of its choices
 
-pub other_name : (name word : List ℕ) (choices : List (List ℕ)) → ((rest : List ℕ) → name ++ rest ≡ word → ⊥) → (k : ℕ) → k < length choices → choice_text name choices k ≢ word
-other_name name word choices none k lt e = none (61 ∷ name_at choices k) e
-
 pub no_sign : (name word equation : List ℕ) (choices : List (List ℕ)) → name ++ equation ≡ word → ((rest : List ℕ) → 61 ∷ rest ≡ equation → ⊥)
     → (k : ℕ) → k < length choices → choice_text name choices k ≢ word
 no_sign name word equation choices is none k lt e = none (name_at choices k) (append_cancel_left name (61 ∷ name_at choices k) equation (e ∙ sym is))

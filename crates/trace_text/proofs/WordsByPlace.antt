@@ -22,17 +22,6 @@ two_words (a ∷ []) d p q = absurd (omega arith)
 two_words (a ∷ b ∷ []) d p q = refl
 two_words (a ∷ b ∷ c ∷ ws) d p q = absurd (omega arith)
 
-pub first_and_rest : (ws : Words) (d : Bor (List ℕ)) → 1 ≤ length ws → map (λ (w : Bor (List ℕ)). w.now) ws ≡ (get_or ws 0 d).now ∷ map (λ (w : Bor (List ℕ)). w.now) (drop 1 ws)
-first_and_rest [] d p = absurd (omega arith)
-first_and_rest (a ∷ ws) d p = refl
-
-pub three_and_rest : (ws : Words) (d : Bor (List ℕ)) → 3 ≤ length ws
-    → map (λ (w : Bor (List ℕ)). w.now) ws ≡ (get_or ws 0 d).now ∷ (get_or ws 1 d).now ∷ (get_or ws 2 d).now ∷ map (λ (w : Bor (List ℕ)). w.now) (drop 3 ws)
-three_and_rest [] d p = absurd (omega arith)
-three_and_rest (a ∷ []) d p = absurd (omega arith)
-three_and_rest (a ∷ b ∷ []) d p = absurd (omega arith)
-three_and_rest (a ∷ b ∷ c ∷ ws) d p = refl
-
 pub word_at : (ws : Words) (i : ℕ) (d : Bor (List ℕ)) → i < length ws → slice_get (map (λ (w : Bor (List ℕ)). w.now) ws) i ≡ Some (get_or ws i d).now
 word_at ws i d h = slice_get-map (λ (w : Bor (List ℕ)). w.now) ws i ∙ ap (λ o. option_map (λ (w : Bor (List ℕ)). w.now) o) (slice_get-get_or ws i d h)
 

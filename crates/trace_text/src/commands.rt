@@ -65,7 +65,8 @@ fn place_by(model: &Model, places: Option<&IndexMap<Name, usize>>, word: &[u8]) 
 /// The place of the command that the word is, by the map where there is one.
 fn read_place(model: &Model, places: Option<&IndexMap<Name, usize>>, word: &[u8]) -> Option<usize>
     requires fit { IfSome places (λ p. NumbersFit p.now model.now.commands) }
-    ensures { IsReadFrom word.now (λ k. k < length model.now.commands) (name_at model.now.commands) result }
+    ensures { IsReadFrom word.now (λ k.
+        k < length model.now.commands) (name_at model.now.commands) result }
 {
     place_by(model, places, word)
 }
@@ -101,7 +102,8 @@ fn commands_by(
     words: &[&[u8]],
 ) -> Result<Option<List<u16>>, AllocError>
     requires fit { IfSome places (λ p. NumbersFit p.now model.now.commands) }
-    ensures { IfOk result (IsReadFrom (map (λ w. w.now) words.now) (All (HasCommand model.now)) (map (name_at model.now.commands))) }
+    ensures { IfOk result (IsReadFrom (map (λ w.
+        w.now) words.now) (All (HasCommand model.now)) (map (name_at model.now.commands))) }
 {
     let mut plan = List::new(alloc);
     'words: for word in words {
@@ -119,7 +121,8 @@ pub fn read_commands(
     model: &Model,
     words: &[&[u8]],
 ) -> Result<Option<List<u16>>, AllocError>
-    ensures { IfOk result (IsReadFrom (map (λ w. w.now) words.now) (All (HasCommand model.now)) (map (name_at model.now.commands))) }
+    ensures { IfOk result (IsReadFrom (map (λ w.
+        w.now) words.now) (All (HasCommand model.now)) (map (name_at model.now.commands))) }
 {
     if words.len() < MANY {
         return commands_by(alloc, model, None, words);

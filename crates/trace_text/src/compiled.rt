@@ -89,7 +89,8 @@ fn push_ways(
     moves: &[Move],
     ways: &[List<Cube>],
 ) -> Result<(), AllocError>
-    ensures { OnOk result (out.new.items ≡ out.old.items ++ ways_lines model.now moves.now ways.now) }
+    ensures { OnOk result (out.new.items
+        ≡ out.old.items ++ ways_lines model.now moves.now ways.now) }
 {
     for (i, x) in moves.iter().enumerate() {
         let Some(cubes) = ways.get(i) else {
@@ -118,7 +119,7 @@ fn push_compiled(alloc: Global, out: &mut Vec<u8>, compiled: &Compiled) -> Resul
 }
 
 /// The whole text that is shown of an accepted model: its lines in their one spelling, the order, the bounds, and each
-/// move's prime implicants. The error is want of memory.
+/// move's prime implicants. The error is out of memory.
 pub fn show_lines(alloc: Global, compiled: &Compiled) -> Result<List<u8>, AllocError>
     ensures { IfOk result (λ text. text ≡ show_text compiled.now) }
 {

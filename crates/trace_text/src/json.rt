@@ -22,7 +22,8 @@ fn put_reply(
     model: &Model,
     reply: Reply,
 ) -> Result<(), AllocError>
-    ensures { OnOk result (members_view map.new.entries ≡ with_members (members_view map.old.entries) (reply_members model.now reply)) }
+    ensures { OnOk result (members_view map.new.entries
+        ≡ with_members (members_view map.old.entries) (reply_members model.now reply)) }
 {
     match reply {
         Reply::Idle => put_word(map, alloc, "answer", "idle")?,
@@ -54,7 +55,8 @@ fn put_shown(
     model: &Model,
     shown: &Shown,
 ) -> Result<(), AllocError>
-    ensures { OnOk result (members_view map.new.entries ≡ with_members (members_view map.old.entries) (shown_members model.now shown.now)) }
+    ensures { OnOk result (members_view map.new.entries
+        ≡ with_members (members_view map.old.entries) (shown_members model.now shown.now)) }
 {
     match shown {
         Shown::Estimated { cost, state, reply } => {
@@ -134,7 +136,7 @@ fn json_line(alloc: Global, value: &Value) -> Result<List<u8>, AllocError>
     Ok(List::of(out))
 }
 
-/// The line of a tick's report as JSON, with its LF, by the model's names. The error is want of memory.
+/// The line of a tick's report as JSON, with its LF, by the model's names. The error is out of memory.
 #[tactic(auto, using(crate::proofs::NoFloats::no_float_in_report))]
 pub fn json_of(alloc: Global, model: &Model, report: &TickReport) -> Result<List<u8>, AllocError>
     ensures { IfOk result (λ text. text ≡ report_json model.now report.now) }
@@ -143,7 +145,7 @@ pub fn json_of(alloc: Global, model: &Model, report: &TickReport) -> Result<List
     json_line(alloc, &value)
 }
 
-/// The line of a refusal as JSON, with its LF. The error is want of memory.
+/// The line of a refusal as JSON, with its LF. The error is out of memory.
 #[tactic(auto, using(crate::proofs::NoFloats::no_float_in_refusal))]
 pub fn refusal_json(
     alloc: Global,

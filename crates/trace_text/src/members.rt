@@ -27,7 +27,8 @@ pub fn put_number(
     key: &str,
     n: u64,
 ) -> Result<(), AllocError>
-    ensures { OnOk result (members_view map.new.entries ≡ put key.now (number (unsigned n)) (members_view map.old.entries)) }
+    ensures { OnOk result (members_view map.new.entries
+        ≡ put key.now (number (unsigned n)) (members_view map.old.entries)) }
 {
     serde_json::put(map, alloc, key, Value::from(n))
 }
@@ -39,7 +40,8 @@ pub fn put_text(
     text: &[u8],
 ) -> Result<(), AllocError>
     requires { IsAscii text.now }
-    ensures { OnOk result (members_view map.new.entries ≡ put key.now (string text.now) (members_view map.old.entries)) }
+    ensures { OnOk result (members_view map.new.entries
+        ≡ put key.now (string text.now) (members_view map.old.entries)) }
 {
     let value = Value::try_from_str(alloc, text_of(text))?;
     serde_json::put(map, alloc, key, value)
@@ -51,7 +53,8 @@ pub fn put_word(
     key: &str,
     word: &str,
 ) -> Result<(), AllocError>
-    ensures { OnOk result (members_view map.new.entries ≡ put key.now (string word.now) (members_view map.old.entries)) }
+    ensures { OnOk result (members_view map.new.entries
+        ≡ put key.now (string word.now) (members_view map.old.entries)) }
 {
     let value = Value::try_from_str(alloc, word)?;
     serde_json::put(map, alloc, key, value)
@@ -96,7 +99,8 @@ fn put_mode(
 ) -> Result<(), AllocError>
     requires { HasAsciiNames component.now }
     ensures { OnOk result (members_view map.new.entries
-        ≡ put component.now.name (string (name_at component.now.modes mode)) (members_view map.old.entries)) }
+        ≡ put component.now.name (string (name_at component.now.modes mode))
+        (members_view map.old.entries)) }
 {
     let name = name_bytes(component.modes.as_slice(), mode as usize);
     put_text(map, alloc, text_of(component.name.bytes()), name)

@@ -51,7 +51,8 @@ pub fn push_pair_at(
     number: usize,
     mode: u8,
 ) -> Result<(), AllocError>
-    ensures { OnOk result (out.new.items ≡ out.old.items ++ pair_text_at components.now number mode) }
+    ensures { OnOk result (out.new.items
+        ≡ out.old.items ++ pair_text_at components.now number mode) }
 {
     if let Some(component) = components.get(number) {
         push_pair(out, component, mode)?;
@@ -93,7 +94,8 @@ pub fn push_components(
     components: &[Component],
     list: &[u16],
 ) -> Result<(), AllocError>
-    ensures { OnOk result (out.new.items ≡ out.old.items ++ components_text components.now list.now) }
+    ensures { OnOk result (out.new.items
+        ≡ out.old.items ++ components_text components.now list.now) }
 {
     for c in list {
         out.push(b' ')?;
@@ -116,7 +118,8 @@ fn push_source_at(
     number: usize,
     mode: u8,
 ) -> Result<(), AllocError>
-    ensures { OnOk result (out.new.items ≡ out.old.items ++ source_text_at components.now number mode) }
+    ensures { OnOk result (out.new.items
+        ≡ out.old.items ++ source_text_at components.now number mode) }
 {
     if let Some(component) = components.get(number) {
         push_source(out, component, mode)?;
@@ -141,7 +144,8 @@ pub fn push_move_at(
     moves: &[Move],
     move_number: usize,
 ) -> Result<(), AllocError>
-    ensures { OnOk result (out.new.items ≡ out.old.items ++ move_text_at model.now moves.now move_number) }
+    ensures { OnOk result (out.new.items
+        ≡ out.old.items ++ move_text_at model.now moves.now move_number) }
 {
     if let Some(x) = moves.get(move_number) {
         out.push(b' ')?;

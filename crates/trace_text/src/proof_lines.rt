@@ -12,7 +12,8 @@ use std::alloc::{AllocError, Global};
 
 /// Each variable with its value, each behind a space.
 fn push_values(out: &mut Vec<u8>, variables: &[Variable], values: &[u8]) -> Result<(), AllocError>
-    ensures { OnOk result (out.new.items ≡ out.old.items ++ behind_spaces (value_words variables.now values.now)) }
+    ensures { OnOk result (out.new.items
+        ≡ out.old.items ++ behind_spaces (value_words variables.now values.now)) }
 {
     for (i, variable) in variables.iter().enumerate() {
         let Some(value) = values.get(i) else {
@@ -25,7 +26,7 @@ fn push_values(out: &mut Vec<u8>, variables: &[Variable], values: &[u8]) -> Resu
     Ok(())
 }
 
-/// The line of a world, with its LF, by the model's names. The error is want of memory.
+/// The line of a world, with its LF, by the model's names. The error is out of memory.
 #[tactic(auto, unfolding(crate::specs::ProofLines::world_line))]
 pub fn world_line(alloc: Global, model: &Model, world: &World) -> Result<List<u8>, AllocError>
     ensures { IfOk result (λ text. text ≡ world_line model.now world.now) }
@@ -50,7 +51,8 @@ fn is_only_long(names: &[Name], plan: &[u16]) -> bool
 
 /// Each command, behind a space.
 fn push_commands(out: &mut Vec<u8>, names: &[Name], plan: &[u16]) -> Result<(), AllocError>
-    ensures { OnOk result (out.new.items ≡ out.old.items ++ behind_spaces (map (name_at names.now) plan.now)) }
+    ensures { OnOk result (out.new.items
+        ≡ out.old.items ++ behind_spaces (map (name_at names.now) plan.now)) }
 {
     for command in plan {
         out.push(b' ')?;
@@ -90,7 +92,7 @@ fn push_plan_line(
     Ok(())
 }
 
-/// The lines of the plan and of the way back, each with its LF, by the model's names. The error is want of memory.
+/// The lines of the plan and of the way back, each with its LF, by the model's names. The error is out of memory.
 #[tactic(auto, unfolding(crate::specs::ProofLines::route_text))]
 pub fn route_lines(alloc: Global, model: &Model, route: &Route) -> Result<List<u8>, AllocError>
     ensures { IfOk result (λ text. text ≡ route_text model.now route.now) }

@@ -32,7 +32,8 @@ pub fn read_count(word: &[u8]) -> Option<u64>
 
 /// What is left of the word behind the prefix.
 fn behind<'a>(word: &'a [u8], prefix: &[u8]) -> Option<&'a [u8]>
-    ensures { MatchOption result ((rest : List ℕ) → prefix.now ++ rest ≢ word.now) (λ rest. prefix.now ++ rest.now ≡ word.now) }
+    ensures { MatchOption result ((rest : List ℕ) → prefix.now ++ rest ≢ word.now) (λ rest.
+        prefix.now ++ rest.now ≡ word.now) }
 {
     if word.len() < prefix.len() {
         return None;
@@ -58,7 +59,8 @@ fn read_name(names: &[Name], word: &[u8]) -> Option<usize>
 /// The choice that the word gives the name.
 pub fn read_choice(name: &[u8], choices: &[Name], word: &[u8]) -> Option<u8>
     requires { length choices.now ≤ MAX_CHOICES }
-    ensures { IsReadFrom word.now (λ k. k < length choices.now) (choice_text name.now choices.now) result }
+    ensures { IsReadFrom word.now (λ k.
+        k < length choices.now) (choice_text name.now choices.now) result }
 {
     let Some(equation) = behind(word, name) else {
         return None;
@@ -80,7 +82,8 @@ fn read_each_mode(
 ) -> Result<Option<List<u8>>, AllocError>
     requires full { length words.now ≡ length components.now }
     requires choices { All IsComponent components.now }
-    ensures { let rows = map mode_row components.now in IfOk result (IsReadFrom (map (λ w. w.now) words.now) (AreChosen rows) (choice_words rows)) }
+    ensures { let rows = map mode_row components.now in IfOk result (IsReadFrom (map (λ w.
+        w.now) words.now) (AreChosen rows) (choice_words rows)) }
 {
     let mut modes = List::new(alloc);
     for (i, component) in components.iter().enumerate() {
@@ -101,7 +104,8 @@ fn read_each_value(
 ) -> Result<Option<List<u8>>, AllocError>
     requires full { length words.now ≡ length variables.now }
     requires choices { All (λ v. AreChoices v.values) variables.now }
-    ensures { let rows = map value_row variables.now in IfOk result (IsReadFrom (map (λ w. w.now) words.now) (AreChosen rows) (choice_words rows)) }
+    ensures { let rows = map value_row variables.now in IfOk result (IsReadFrom (map (λ w.
+        w.now) words.now) (AreChosen rows) (choice_words rows)) }
 {
     let mut values = List::new(alloc);
     for (i, variable) in variables.iter().enumerate() {
@@ -121,7 +125,8 @@ pub fn read_modes(
     words: &[&[u8]],
 ) -> Result<Option<List<u8>>, AllocError>
     requires { length words.now ≡ length model.now.components }
-    ensures { IfOk result (IsReadFrom (map (λ w. w.now) words.now) (IsState model.now) (mode_words model.now.components)) }
+    ensures { IfOk result (IsReadFrom (map (λ w.
+        w.now) words.now) (IsState model.now) (mode_words model.now.components)) }
 {
     let components = model.components().as_slice();
     read_each_mode(alloc, components, words)
@@ -133,7 +138,8 @@ pub fn read_values(
     model: &Model,
     words: &[&[u8]],
 ) -> Result<Option<List<u8>>, AllocError>
-    ensures { IfOk result (IsReadFrom (map (λ w. w.now) words.now) (HasValues model.now) (value_words model.now.variables)) }
+    ensures { IfOk result (IsReadFrom (map (λ w.
+        w.now) words.now) (HasValues model.now) (value_words model.now.variables)) }
 {
     let variables = model.variables().as_slice();
     if words.len() != variables.len() {
@@ -169,7 +175,8 @@ pub fn read_plan(
     model: &Model,
     words: &[&[u8]],
 ) -> Result<Option<PlanEnd>, AllocError>
-    ensures { IfOk result (IsReadFrom (map (λ w. w.now) words.now) (FitsPlan model.now) (plan_words model.now.commands)) }
+    ensures { IfOk result (IsReadFrom (map (λ w.
+        w.now) words.now) (FitsPlan model.now) (plan_words model.now.commands)) }
 {
     if is_long(words) {
         Ok(Some(PlanEnd::Long))

@@ -15,7 +15,8 @@ use std::alloc::{AllocError, Global};
 
 /// The component and its mode that the word names.
 fn read_pair(model: &Model, word: &[u8]) -> Option<(u16, u8)>
-    ensures { IsReadFrom word.now (λ p. HasMode model.now p.0 p.1) (λ p. pair_text_at model.now.components p.0 p.1) result }
+    ensures { IsReadFrom word.now (λ p. HasMode model.now p.0 p.1) (λ p.
+        pair_text_at model.now.components p.0 p.1) result }
 {
     for (c, component) in model.components().as_slice().iter().enumerate() {
         let names = component.modes.as_slice();
@@ -41,7 +42,8 @@ fn read_bare_reply(word: &[u8]) -> Option<Reply>
 
 /// The reply that names a command or a pair.
 fn read_named_reply(model: &Model, kind: &[u8], word: &[u8]) -> Option<Reply>
-    ensures { IsReadFrom (kind.now ∷ word.now ∷ []) (FitsReply model.now) (reply_words model.now) result }
+    ensures { IsReadFrom (kind.now ∷ word.now ∷ []) (FitsReply model.now) (reply_words model.now)
+        result }
 {
     if kind == b"send".as_slice() {
         match read_command(model, word) {
@@ -60,7 +62,8 @@ fn read_named_reply(model: &Model, kind: &[u8], word: &[u8]) -> Option<Reply>
 
 /// The reply of the words.
 fn read_reply(model: &Model, words: &[&[u8]]) -> Option<Reply>
-    ensures { IsReadFrom (map (λ w. w.now) words.now) (FitsReply model.now) (reply_words model.now) result }
+    ensures { IsReadFrom (map (λ w.
+        w.now) words.now) (FitsReply model.now) (reply_words model.now) result }
 {
     match words {
         [word] => read_bare_reply(word),
@@ -117,7 +120,8 @@ fn read_whole_shown(
     next: &[u8],
     words: &[&[u8]],
 ) -> Result<Option<Shown>, AllocError>
-    ensures { IfOk result (IsReadFrom (head.now ∷ cost.now ∷ next.now ∷ map (λ w. w.now) words.now) (FitsShown model.now) (shown_words model.now)) }
+    ensures { IfOk result (IsReadFrom (head.now ∷ cost.now ∷ next.now ∷ map (λ w.
+        w.now) words.now) (FitsShown model.now) (shown_words model.now)) }
 {
     if head != b"cost".as_slice() || next != b"modes".as_slice() {
         return Ok(None);
@@ -130,7 +134,8 @@ fn read_whole_shown(
 
 /// What the words show.
 fn read_shown(alloc: Global, model: &Model, words: &[&[u8]]) -> Result<Option<Shown>, AllocError>
-    ensures { IfOk result (IsReadFrom (map (λ w. w.now) words.now) (FitsShown model.now) (shown_words model.now)) }
+    ensures { IfOk result (IsReadFrom (map (λ w.
+        w.now) words.now) (FitsShown model.now) (shown_words model.now)) }
 {
     match words {
         [word] => Ok(read_bare_shown(word)),
@@ -145,7 +150,8 @@ pub fn read_report(
     model: &Model,
     words: &[&[u8]],
 ) -> Result<Option<TickReport>, AllocError>
-    ensures { IfOk result (IsReadFrom (map (λ w. w.now) words.now) (FitsReport model.now) (report_words model.now)) }
+    ensures { IfOk result (IsReadFrom (map (λ w.
+        w.now) words.now) (FitsReport model.now) (report_words model.now)) }
 {
     let [number, rest @ ..] = words else {
         return Ok(None);

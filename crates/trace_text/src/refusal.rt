@@ -78,7 +78,7 @@ fn refusal_words(
 }
 
 /// The line of a refusal at a line of the input, with its LF, by the names of the model that was read so far: a line of
-/// JSON where that is asked for, and words otherwise. The error is want of memory.
+/// JSON where that is asked for, and words otherwise. The error is out of memory.
 pub fn refusal_line(
     alloc: Global,
     model: &Model,

@@ -65,7 +65,7 @@ fn push_shown(
     Ok(())
 }
 
-/// The line of a tick's report, with its LF, by the model's names. The error is want of memory.
+/// The line of a tick's report, with its LF, by the model's names. The error is out of memory.
 #[tactic(auto, unfolding(crate::specs::Reports::report_line))]
 pub fn line_of(alloc: Global, model: &Model, report: &TickReport) -> Result<List<u8>, AllocError>
     ensures { IfOk result (λ text. text ≡ report_line model.now report.now) }

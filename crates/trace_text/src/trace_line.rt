@@ -49,7 +49,8 @@ fn read_kind(
     head: &[u8],
     words: &[&[u8]],
 ) -> Result<Option<TraceLine>, AllocError>
-    ensures { IfOk result (IsReadFrom (head.now ∷ map (λ w. w.now) words.now) (FitsLine model.now) (line_words model.now)) }
+    ensures { IfOk result (IsReadFrom (head.now ∷ map (λ w.
+        w.now) words.now) (FitsLine model.now) (line_words model.now)) }
 {
     if head == b"tick".as_slice() {
         let report = read_report(alloc, model, words)?;
@@ -74,7 +75,8 @@ fn read_words(
     model: &Model,
     words: &[&[u8]],
 ) -> Result<Option<TraceLine>, AllocError>
-    ensures { IfOk result (IsReadFrom (map (λ w. w.now) words.now) (FitsLine model.now) (line_words model.now)) }
+    ensures { IfOk result (IsReadFrom (map (λ w.
+        w.now) words.now) (FitsLine model.now) (line_words model.now)) }
 {
     match words {
         [head, rest @ ..] => read_kind(alloc, model, head, rest),
@@ -86,10 +88,13 @@ fn read_words(
 pub fn read_line(alloc: Global, model: &Model, line: &[u8]) -> Result<TraceLine, LineFault>
     ensures fits { IfOk result (FitsLine model.now) }
     ensures text { IfOk result (λ value. trace_line model.now value ≡ line.now ++ 10 ∷ []) }
-    ensures only { IfOk result (λ value. (other : TraceLine) → FitsLine model.now other → trace_line model.now other ≡ line.now ++ 10 ∷ [] → other ≡ value) }
+    ensures only { IfOk result (λ value.
+        (other : TraceLine) → FitsLine model.now other →
+        trace_line model.now other ≡ line.now ++ 10 ∷ [] → other ≡ value) }
 
     // No value that fits the model has the text.
-    ensures not_a_line { result ≡ Err LineFault.NotALine → (value : TraceLine) → FitsLine model.now value → trace_line model.now value ≢ line.now ++ 10 ∷ [] }
+    ensures not_a_line { result ≡ Err LineFault.NotALine → (value : TraceLine) →
+        FitsLine model.now value → trace_line model.now value ≢ line.now ++ 10 ∷ [] }
 {
     let _well_formed = model.components();
     let words = words_of(alloc, line)?;

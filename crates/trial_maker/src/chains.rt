@@ -49,7 +49,7 @@ pub fn link_at(number: u64) -> Link
     }
 }
 
-/// All components, chain by chain. The error is want of memory.
+/// All components, chain by chain. The error is out of memory.
 #[tactic(auto, using(crate::proofs::LinksByNumber::one_more))]
 pub fn links(alloc: Global) -> Result<Vec<Link>, AllocError>
     ensures { IfOk result (λ all. all.items ≡ links) }

@@ -10,14 +10,16 @@ use std::alloc::AllocError;
 
 #[tactic(auto, unfolding(crate::specs::PlantLines::component_line))]
 fn push_component(out: &mut String, link: Link) -> Result<(), AllocError>
-    ensures { OnOk result (string_bytes out.new ≡ string_bytes out.old ++ ended (component_line link)) }
+    ensures { OnOk result (string_bytes out.new
+        ≡ string_bytes out.old ++ ended (component_line link)) }
 {
     writeln!(out, "component c{link}=a,b,c,x start a")
 }
 
 #[tactic(auto, unfolding(crate::specs::PlantLines::variable_line))]
 fn push_variable(out: &mut String, link: Link) -> Result<(), AllocError>
-    ensures { OnOk result (string_bytes out.new ≡ string_bytes out.old ++ ended (variable_line link)) }
+    ensures { OnOk result (string_bytes out.new
+        ≡ string_bytes out.old ++ ended (variable_line link)) }
 {
     writeln!(out, "var s{link}=ok,off sensed")
 }
@@ -31,7 +33,8 @@ fn push_rule(out: &mut String, link: Link) -> Result<(), AllocError>
 
 #[tactic(auto, using(crate::proofs::LinesSoFar::line_more))]
 fn push_components(out: &mut String, links: &[Link]) -> Result<(), AllocError>
-    ensures { OnOk result (string_bytes out.new ≡ string_bytes out.old ++ text_of (map component_line links.now)) }
+    ensures { OnOk result (string_bytes out.new
+        ≡ string_bytes out.old ++ text_of (map component_line links.now)) }
 {
     for link in links {
         push_component(out, *link)?;
@@ -41,7 +44,8 @@ fn push_components(out: &mut String, links: &[Link]) -> Result<(), AllocError>
 
 #[tactic(auto, using(crate::proofs::LinesSoFar::line_more))]
 fn push_variables(out: &mut String, links: &[Link]) -> Result<(), AllocError>
-    ensures { OnOk result (string_bytes out.new ≡ string_bytes out.old ++ text_of (map variable_line links.now)) }
+    ensures { OnOk result (string_bytes out.new
+        ≡ string_bytes out.old ++ text_of (map variable_line links.now)) }
 {
     for link in links {
         push_variable(out, *link)?;
@@ -51,7 +55,8 @@ fn push_variables(out: &mut String, links: &[Link]) -> Result<(), AllocError>
 
 #[tactic(auto, using(crate::proofs::LinesSoFar::line_more))]
 fn push_rules(out: &mut String, links: &[Link]) -> Result<(), AllocError>
-    ensures { OnOk result (string_bytes out.new ≡ string_bytes out.old ++ text_of (map rule_line links.now)) }
+    ensures { OnOk result (string_bytes out.new
+        ≡ string_bytes out.old ++ text_of (map rule_line links.now)) }
 {
     for link in links {
         push_rule(out, *link)?;
@@ -62,7 +67,8 @@ fn push_rules(out: &mut String, links: &[Link]) -> Result<(), AllocError>
 /// The first line, and then all components, all variables and all rules.
 #[tactic(auto, unfolding(crate::specs::PlantLines::plant_lines))]
 pub fn push_plant(out: &mut String, links: &[Link]) -> Result<(), AllocError>
-    ensures { OnOk result (string_bytes out.new ≡ string_bytes out.old ++ text_of (plant_lines links.now)) }
+    ensures { OnOk result (string_bytes out.new
+        ≡ string_bytes out.old ++ text_of (plant_lines links.now)) }
 {
     out.push_str("titan 1\n")?;
     push_components(out, links)?;

@@ -21,7 +21,8 @@ const FAULT_CHANCES: u64 = 10;
 
 #[tactic(auto, unfolding(crate::specs::ScriptLines::mirror_line))]
 fn push_mirror(out: &mut String, link: Link) -> Result<(), AllocError>
-    ensures { OnOk result (string_bytes out.new ≡ string_bytes out.old ++ ended (mirror_line link)) }
+    ensures { OnOk result (string_bytes out.new
+        ≡ string_bytes out.old ++ ended (mirror_line link)) }
 {
     writeln!(out, "mirror s{link}")
 }
@@ -29,7 +30,8 @@ fn push_mirror(out: &mut String, link: Link) -> Result<(), AllocError>
 /// The script's first line, and then all mirrors.
 #[tactic(auto, using(crate::proofs::LinesSoFar::line_more), unfolding(crate::specs::ScriptLines::mirror_lines))]
 pub fn push_mirrors(out: &mut String, links: &[Link]) -> Result<(), AllocError>
-    ensures { OnOk result (string_bytes out.new ≡ string_bytes out.old ++ text_of (mirror_lines links.now)) }
+    ensures { OnOk result (string_bytes out.new
+        ≡ string_bytes out.old ++ text_of (mirror_lines links.now)) }
 {
     out.push_str("script\n")?;
     for link in links {
@@ -41,7 +43,8 @@ pub fn push_mirrors(out: &mut String, links: &[Link]) -> Result<(), AllocError>
 /// A goal for a component of a chain and one of the next chain.
 #[tactic(auto, unfolding(crate::specs::ScriptLines::goal_line, crate::specs::ScriptLines::drawn_goal))]
 fn push_goal(out: &mut String, draws: &mut Draws) -> Result<(), AllocError>
-    ensures text { OnOk result (string_bytes out.new ≡ string_bytes out.old ++ text_of (drawn_goal draws.old.number).0) }
+    ensures text { OnOk result (string_bytes out.new
+        ≡ string_bytes out.old ++ text_of (drawn_goal draws.old.number).0) }
     ensures number { OnOk result (draws.new.number ≡ (drawn_goal draws.old.number).1) }
 {
     let chain = draws.draw(CHAINS);
@@ -61,7 +64,8 @@ fn push_goal(out: &mut String, draws: &mut Draws) -> Result<(), AllocError>
 #[tactic(auto, unfolding(crate::specs::ScriptLines::goal_lines))]
 fn push_goal_at(out: &mut String, draws: &mut Draws, tick: u64) -> Result<(), AllocError>
     requires { 0 < tick }
-    ensures text { OnOk result (string_bytes out.new ≡ string_bytes out.old ++ text_of (goal_lines tick draws.old.number).0) }
+    ensures text { OnOk result (string_bytes out.new
+        ≡ string_bytes out.old ++ text_of (goal_lines tick draws.old.number).0) }
     ensures number { OnOk result (draws.new.number ≡ (goal_lines tick draws.old.number).1) }
 {
     if (tick - 1) % GOAL_TICKS == 0 {
@@ -73,7 +77,8 @@ fn push_goal_at(out: &mut String, draws: &mut Draws, tick: u64) -> Result<(), Al
 /// A fault, by chance.
 #[tactic(auto, unfolding(crate::specs::ScriptLines::fault_line, crate::specs::ScriptLines::drawn_fault, crate::specs::ScriptLines::fault_lines))]
 fn push_fault(out: &mut String, draws: &mut Draws) -> Result<(), AllocError>
-    ensures text { OnOk result (string_bytes out.new ≡ string_bytes out.old ++ text_of (fault_lines draws.old.number).0) }
+    ensures text { OnOk result (string_bytes out.new
+        ≡ string_bytes out.old ++ text_of (fault_lines draws.old.number).0) }
     ensures number { OnOk result (draws.new.number ≡ (fault_lines draws.old.number).1) }
 {
     if draws.draw(FAULT_CHANCES) == 0 {
@@ -87,7 +92,8 @@ fn push_fault(out: &mut String, draws: &mut Draws) -> Result<(), AllocError>
 #[tactic(auto, unfolding(crate::specs::ScriptLines::tick_lines))]
 fn push_tick(out: &mut String, draws: &mut Draws, tick: u64) -> Result<(), AllocError>
     requires { 0 < tick }
-    ensures text { OnOk result (string_bytes out.new ≡ string_bytes out.old ++ text_of (tick_lines tick draws.old.number).0) }
+    ensures text { OnOk result (string_bytes out.new
+        ≡ string_bytes out.old ++ text_of (tick_lines tick draws.old.number).0) }
     ensures number { OnOk result (draws.new.number ≡ (tick_lines tick draws.old.number).1) }
 {
     push_goal_at(out, draws, tick)?;
@@ -96,7 +102,8 @@ fn push_tick(out: &mut String, draws: &mut Draws, tick: u64) -> Result<(), Alloc
 }
 
 pub fn push_ticks(out: &mut String, draws: &mut Draws) -> Result<(), AllocError>
-    ensures text { OnOk result (string_bytes out.new ≡ string_bytes out.old ++ text_of (each tick_lines ticks draws.old.number).0) }
+    ensures text { OnOk result (string_bytes out.new
+        ≡ string_bytes out.old ++ text_of (each tick_lines ticks draws.old.number).0) }
     ensures number { OnOk result (draws.new.number ≡ (each tick_lines ticks draws.old.number).1) }
 {
     for tick in 1..TICKS + 1 {

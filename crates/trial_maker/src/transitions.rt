@@ -19,7 +19,8 @@ const COSTS: u64 = 4;
 /// The guard of a component's move. At the first place of a chain nothing is drawn.
 #[tactic(auto, using(crate::proofs::Guards::first_guard, crate::proofs::Guards::later_guard))]
 fn push_guard(out: &mut String, draws: &mut Draws, link: Link) -> Result<(), AllocError>
-    ensures text { OnOk result (string_bytes out.new ≡ string_bytes out.old ++ (guard_of link draws.old.number).0) }
+    ensures text { OnOk result (string_bytes out.new
+        ≡ string_bytes out.old ++ (guard_of link draws.old.number).0) }
     ensures number { OnOk result (draws.new.number ≡ (guard_of link draws.old.number).1) }
 {
     if link.place == 0 {
@@ -42,7 +43,9 @@ fn push_transition(
     modes: &str,
     number: u64,
 ) -> Result<(), AllocError>
-    ensures text { OnOk result (string_bytes out.new ≡ string_bytes out.old ++ ended (transition_line link word.now modes.now number (guard_of link draws.old.number).0)) }
+    ensures text { OnOk result (string_bytes out.new
+        ≡ string_bytes out.old ++ ended (transition_line link word.now modes.now number
+        (guard_of link draws.old.number).0)) }
     ensures number { OnOk result (draws.new.number ≡ (guard_of link draws.old.number).1) }
 {
     write!(out, "{word} c{link} {modes} by k{link}_{number} when ")?;
@@ -54,7 +57,8 @@ fn push_transition(
 /// The three moves of a component and its repair.
 #[tactic(auto, using(crate::proofs::LinesSoFar::four_lines), unfolding(crate::specs::TransitionLines::move_lines))]
 fn push_moves_of(out: &mut String, draws: &mut Draws, link: Link) -> Result<(), AllocError>
-    ensures text { OnOk result (string_bytes out.new ≡ string_bytes out.old ++ text_of (move_lines link draws.old.number).0) }
+    ensures text { OnOk result (string_bytes out.new
+        ≡ string_bytes out.old ++ text_of (move_lines link draws.old.number).0) }
     ensures number { OnOk result (draws.new.number ≡ (move_lines link draws.old.number).1) }
 {
     push_transition(out, draws, link, "move", "a->b", 0)?;
@@ -64,8 +68,10 @@ fn push_moves_of(out: &mut String, draws: &mut Draws, link: Link) -> Result<(), 
 }
 
 pub fn push_moves(out: &mut String, draws: &mut Draws, links: &[Link]) -> Result<(), AllocError>
-    ensures text { OnOk result (string_bytes out.new ≡ string_bytes out.old ++ text_of (each move_lines links.now draws.old.number).0) }
-    ensures number { OnOk result (draws.new.number ≡ (each move_lines links.now draws.old.number).1) }
+    ensures text { OnOk result (string_bytes out.new
+        ≡ string_bytes out.old ++ text_of (each move_lines links.now draws.old.number).0) }
+    ensures number { OnOk result (draws.new.number
+        ≡ (each move_lines links.now draws.old.number).1) }
 {
     for link in links {
         push_moves_of(out, draws, *link)?;
@@ -80,7 +86,9 @@ fn push_failure(
     link: Link,
     mode: &str,
 ) -> Result<(), AllocError>
-    ensures text { OnOk result (string_bytes out.new ≡ string_bytes out.old ++ ended (failure_line link mode.now (failure_cost draws.old.number).0)) }
+    ensures text { OnOk result (string_bytes out.new
+        ≡ string_bytes out.old ++ ended (failure_line link mode.now
+        (failure_cost draws.old.number).0)) }
     ensures number { OnOk result (draws.new.number ≡ (failure_cost draws.old.number).1) }
 {
     let cost = LEAST_COST + draws.draw(COSTS);
@@ -90,7 +98,8 @@ fn push_failure(
 /// The four failures of a component.
 #[tactic(auto, using(crate::proofs::LinesSoFar::four_lines), unfolding(crate::specs::TransitionLines::failure_lines))]
 fn push_failures_of(out: &mut String, draws: &mut Draws, link: Link) -> Result<(), AllocError>
-    ensures text { OnOk result (string_bytes out.new ≡ string_bytes out.old ++ text_of (failure_lines link draws.old.number).0) }
+    ensures text { OnOk result (string_bytes out.new
+        ≡ string_bytes out.old ++ text_of (failure_lines link draws.old.number).0) }
     ensures number { OnOk result (draws.new.number ≡ (failure_lines link draws.old.number).1) }
 {
     push_failure(out, draws, link, "a")?;
@@ -100,8 +109,10 @@ fn push_failures_of(out: &mut String, draws: &mut Draws, link: Link) -> Result<(
 }
 
 pub fn push_failures(out: &mut String, draws: &mut Draws, links: &[Link]) -> Result<(), AllocError>
-    ensures text { OnOk result (string_bytes out.new ≡ string_bytes out.old ++ text_of (each failure_lines links.now draws.old.number).0) }
-    ensures number { OnOk result (draws.new.number ≡ (each failure_lines links.now draws.old.number).1) }
+    ensures text { OnOk result (string_bytes out.new
+        ≡ string_bytes out.old ++ text_of (each failure_lines links.now draws.old.number).0) }
+    ensures number { OnOk result (draws.new.number
+        ≡ (each failure_lines links.now draws.old.number).1) }
 {
     for link in links {
         push_failures_of(out, draws, *link)?;

@@ -14,7 +14,8 @@ use std::alloc::{AllocError, Global};
 
 /// The lines before the ticks: the model and the mirrors.
 fn push_setup(alloc: Global, out: &mut String, draws: &mut Draws) -> Result<(), AllocError>
-    ensures text { OnOk result (string_bytes out.new ≡ string_bytes out.old ++ text_of (setup_lines draws.old.number).0) }
+    ensures text { OnOk result (string_bytes out.new
+        ≡ string_bytes out.old ++ text_of (setup_lines draws.old.number).0) }
     ensures number { OnOk result (draws.new.number ≡ (setup_lines draws.old.number).1) }
 {
     let links = links(alloc)?;
@@ -25,7 +26,7 @@ fn push_setup(alloc: Global, out: &mut String, draws: &mut Draws) -> Result<(), 
     push_mirrors(out, links)
 }
 
-/// The document of a seed. The error is want of memory.
+/// The document of a seed. The error is out of memory.
 pub fn trial(alloc: Global, seed: u64) -> Result<List<u8>, AllocError>
     ensures { IfOk result (λ text. text ≡ document seed) }
 {

@@ -20,8 +20,7 @@ use Rattle.cca_base.specs.Steps.{Reach}
 use Rattle.cca_base.specs.Goals.{IsGoodReply}
 use Rattle.cca_base.specs.Choice.{IsWithinReach, IsOpenAt, Walk, IsDistance, ComesNearer, IsChosen, Picks, Now, First, PicksForGoal}
 use Rattle.cca_base.specs.Plans.{Whole, Promising, IsWanted, Back}
-use Rattle.cca_base.specs.Orders.{IsSorted}
-use Rattle.cca_base.specs.Trace.{ExecutiveState, IsReply, Changes, HasOneValue, Observed, TickShows, command_of, start}
+use Rattle.cca_base.specs.Trace.{ExecutiveState, IsReply, HasOneValue, Observed, TickShows, command_of, start}
 use Rattle.cca_base.specs.Runs.{TickRecord, Ticks}
 use Rattle.version_laws.specs.Laws.{at_version}
 use Rattle.version_laws.specs.Traces.{compiled_at, CompiledAlike, PromisesAlike, TracesAlike, RoutesAlike, FirstWorldsAlike}
@@ -177,15 +176,6 @@ module _ (b : CompiledModel) (v : ℕ) where
       (λ k. (h.each p).1 (elim k [ inl pending ↦ inl pending | inr mirrored ↦ inr (mirrored.0, one_value_at c.model b.model.version x.plant p mirrored.1) ])),
     );
   }
-
-  changes_at : (x : ExecutiveState) (e : Event) (y : ExecutiveState) → Changes b.model (IsSorted b.order) x e y → Changes c.model (IsSorted c.order) x e y
-  changes_at x (event.Goal pairs) y h = h
-  changes_at x event.Clear y h = h
-  changes_at x (event.Observe pairs) y h = h
-  changes_at x (event.Fault p) y h = h
-  changes_at x (event.Mirror n) y h = h
-  changes_at x event.Reset y h = h
-  changes_at x event.Tick y h = h
 
   reply_at : (s : List ℕ) (goal : Option (List Pair)) (reply : Reply) → IsReply (Promising b) s goal reply → IsReply (Promising c) s goal reply
   reply_at s None reply h = h

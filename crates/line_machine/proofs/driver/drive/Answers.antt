@@ -13,5 +13,7 @@ returns g c =
       ends = told_ends m c.args.machine.now fixed _ _ _ c.drive_lines.result (told_tells m c.args.machine.now fixed _ _ _ _ c.drive_lines.result c.drive_lines.ensures.driven.driven);
       read = c.drive_lines.ensures.read;
       write = c.drive_lines.ensures.write;
+      quiet_read = c.drive_lines.ensures.quiet_read;
+      quiet_write = c.drive_lines.ensures.quiet_write;
       complete = only_memory c.drive_lines.result _ _ c.drive_lines.ensures.read c.drive_lines.ensures.write;
     }

@@ -71,6 +71,6 @@ lines-preserved g c =
           (line_next d line c.front-in-lines.ensures _ c.in-Ok-take_line.said c.in-None.is c.in-Ok-take_line.ensures.ok);
       turn = c.in-Ok-take_line.ensures.turn c.in-None.is;
       few = line_few d line c.front-in-lines.ensures _ c.in-Ok-take_line.said c.in-None.is c.in-Ok-take_line.ensures.ok;
-      later_source = omega (arith, c.next_line.ensures.later, c.lines.invariant.later_source);
-      later_sink = omega (arith, c.take_line.ensures.later, c.lines.invariant.later_sink);
+      quiet_source = c.in-Ok.ensures.quiet (λ e. absurd cc) ∙ c.lines.invariant.quiet_source;
+      quiet_sink = c.in-Ok-take_line.ensures.quiet (λ e. absurd cc) ∙ c.lines.invariant.quiet_sink;
     }

@@ -1,4 +1,4 @@
-use Rattle.std.proofs.Common.{◌-◌, ◌+◌, ◌≤◌}
+use Rattle.std.proofs.Common.{◌≡◌, ◌-◌, ◌+◌, ◌≤◌}
 use Rattle.line_machine.proofs.DriverInvariant.{IsDriving}
 use Rattle.line_machine.proofs.driver.drive_lines.Given as goal
 
@@ -7,8 +7,8 @@ invariant-lines g l = record {
   driving : IsDriving g.M.Machine l.fn.machine (g.I.Intake.left l.fn.source) (g.K.Sink.written l.fn.sink) (g.K.Sink.space l.fn.sink) (g.I.Intake.calls l.fn.source) ⊥ l.count l.machine l.buffer (g.I.Intake.left l.source) (g.K.Sink.written l.sink) (g.K.Sink.space l.sink) (g.I.Intake.calls l.source);
   turn : g.M.Machine.awaits l.machine (l.count + 1);
   few : l.count ≤ 1000000;
-  later_source : g.I.Intake.faults l.fn.source ≤ g.I.Intake.faults l.source;
-  later_sink : g.K.Sink.faults l.fn.sink ≤ g.K.Sink.faults l.sink;
+  quiet_source : g.I.Intake.faults l.source ≡ g.I.Intake.faults l.fn.source;
+  quiet_sink : g.K.Sink.faults l.sink ≡ g.K.Sink.faults l.fn.sink;
 }
 
 abbrev pub decreases-lines : goal.decreases-lines

@@ -1,4 +1,4 @@
-use Rattle.std.proofs.Common.{arith}
+use Rattle.std.proofs.Common.{refl, ◌∙◌}
 use Rattle.line_machine.proofs.SentPieces.{piece_room, piece_sent, piece_cut}
 use Rattle.line_machine.proofs.send.send.Goals as goal
 
@@ -8,7 +8,7 @@ put_all-requires g c = piece_room c.pieces.invariant.sending c.split_piece.resul
 pub pieces-preserved : goal.pieces-preserved
 pieces-preserved g c = record {
   sending = piece_sent c.pieces.invariant.sending c.split_piece.result.0.now c.split_piece.result.1.now c.split_piece.ensures.parts _ _ c.in-Done.ensures.sent c.in-Done.ensures.space;
-  later = omega (arith, c.put_all.ensures.later, c.pieces.invariant.later);
+  quiet = c.in-Done.ensures.quiet refl ∙ c.pieces.invariant.quiet;
 }
 
 pub returns-in-WriteFault-clause-front : goal.returns-in-WriteFault-clause-front

@@ -8,7 +8,7 @@ invariant-loop-sent g l = record {
   in_range : l.sent ≤ length l.piece;
   out : g.K.Sink.written l.sink ≡ append_known (g.K.Sink.written l.fn.sink) (take l.sent l.piece);
   space : g.K.Sink.space l.sink ≡ less_space (g.K.Sink.space l.fn.sink) l.sent;
-  later : g.K.Sink.faults l.fn.sink ≤ g.K.Sink.faults l.sink;
+  quiet : g.K.Sink.faults l.sink ≡ g.K.Sink.faults l.fn.sink;
   no_call : l.sent ≡ 0 → l.sink ≡ l.fn.sink;
 }
 
