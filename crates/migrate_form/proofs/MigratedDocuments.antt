@@ -1,12 +1,14 @@
 -- A run says the same of a document and of what `migrate` prints of it, and `migrate` prints that as it is.
 use Rattle.std.specs.Prelude.{filter}
-use Rattle.std.proofs.Common.{◌≡◌, ℕ, Bool, false, List, [], ◌++◌, All, refl, sym, ap, subst, ◌∙◌, append-nil}
+use Rattle.std.proofs.Common.{◌≡◌, ◌≢◌, ℕ, Bool, true, false, List, [], ◌∷◌, ◌++◌, Result, Ok, Err, All, refl, sym, ap, subst, ◌∙◌, append-nil}
+use Rattle.std.proofs.lemmas.List.Elements.{All-nil, All-cons}
 use Rattle.cca_base.specs.Accepted.{CompiledModel, IsCompiled}
 use Rattle.cca_base.specs.Model.{WellFormed}
 use Rattle.cca_base.specs.PlantModel.{PlantModel}
 use Rattle.cca_base.specs.Plans.{Promising}
 use Rattle.cca_base.specs.Runs.{Trace}
 use Rattle.cca_base.specs.Trace.{start}
+use Rattle.cca_base.specs.declared.events.Refusal.{Refusal}
 use Rattle.cca_base.specs.declared.events.TickReport.{TickReport}
 use Rattle.cca_base.proofs.EmptyModel.{second_well_formed}
 use Rattle.line_machine.specs.Lines.{lines_in, all_lines, joined_lines, HasNoLf}
@@ -20,7 +22,7 @@ use Rattle.model_form.specs.ModelTexts.{ModelText, Scripted, Stopped, EndsModel}
 use Rattle.model_form.specs.OneStep.{acceptance_is_one}
 use Rattle.model_form.proofs.OneModelText.{texts_are_one}
 use Rattle.model_form.proofs.PrintedLimits.{printed_within}
-use Rattle.run_form.specs.Document.{Document, DocumentEnd, Complete, RefusedAt, SaysScript, SaysByAcceptance, IsDocument}
+use Rattle.run_form.specs.Document.{Document, DocumentEnd, Complete, RefusedAt, SaysScript, SaysByAcceptance, SaysByEnd, IsDocument}
 use Rattle.run_form.specs.Notations.{is_json}
 use Rattle.run_form.specs.Printed.{ending, printed, with_text, SaysRun, IsRunOf}
 use Rattle.run_form.specs.Summaries.{counts_of}
@@ -32,14 +34,17 @@ use Rattle.run_form.proofs.DocumentEnds.{end_of, the_document}
 use Rattle.run_form.proofs.DocumentsAreOne.{script_one, documents_are_one}
 use Rattle.run_form.proofs.RunDocuments.{run_document}
 use Rattle.run_form.proofs.ScriptRuns.{script_model}
+use Rattle.text_base.specs.Tokens.{Tok, tokens_of}
+use Rattle.trace_text.specs.Refusals.{refusal_line}
 use Rattle.version_laws.specs.Laws.{at_version}
 use Rattle.version_laws.specs.Traces.{compiled_at}
 use Rattle.version_laws.proofs.Traces.{compiled_alike, ticks_at}
 use Rattle.migrate_form.specs.MigrateLaws.{document_at, IsMigrationOf, IsMigrated, DocumentsMigrate}
-use Rattle.migrate_form.specs.Migrated.{says_something, lines_read, migrated_lines, migrated_model, SaysMigrated}
+use Rattle.migrate_form.specs.Migrated.{is_something, says_something, lines_read, migrated_lines, migrated_model, SaysMigrated}
 use Rattle.migrate_form.proofs.EventsAlike.{script_at}
 use Rattle.migrate_form.proofs.MigrateAgrees.{of_script}
 use Rattle.migrate_form.proofs.MigratedTexts.{text_ends, no_later, place, kept_says, kept_again, rest_all}
+use Rattle.migrate_form.proofs.ScriptsKept.{kept_first, left_out}
 use Rattle.migrate_form.proofs.TicksAlike.{texts_at}
 
 -- ---- a run of the same document in another version
@@ -95,6 +100,27 @@ whole_text : (m : PlantModel) (n : ℕ) (ls : List (List ℕ)) (e : DocumentEnd)
     → answer Ended text ≡ with_text (migrated_model m ++ migrated_lines (lines_read n e ls)) (ending Words m (counts_of []) e) → text ≡ migrated_model m ++ migrated_lines ls
 whole_text m n ls Complete text complete h = ap (λ (a : Answer). a.text) h ∙ append-nil (migrated_model m ++ migrated_lines ls)
 whole_text m n ls (RefusedAt line r) text complete h = absurd cc
+
+-- ---- lines with tokens
+
+abbrev HasTokens : List ℕ → Type 0
+HasTokens l = tokens_of l ≢ Ok []
+
+something_has : (read : Result (List Tok) ℕ) → is_something read ≡ true → read ≢ Ok []
+something_has (Ok []) e h = absurd cc
+something_has (Ok (t ∷ ts)) e h = absurd cc
+something_has (Err at) e h = absurd cc
+
+kept_by : (t : Bool) (l : List ℕ) (ls : List (List ℕ)) → says_something l ≡ t → All HasTokens (filter says_something ls) → All HasTokens (filter says_something (l ∷ ls))
+kept_by true l ls e h = subst (All HasTokens) (sym (kept_first l ls e)) (All-cons HasTokens l (filter says_something ls) (something_has (tokens_of l) e) h)
+kept_by false l ls e h = subst (All HasTokens) (sym (left_out l ls e)) h
+
+kept_have_tokens : (ls : List (List ℕ)) → All HasTokens (filter says_something ls)
+kept_have_tokens [] = All-nil HasTokens
+kept_have_tokens (l ∷ ls) = kept_by (says_something l) l ls refl (kept_have_tokens ls)
+
+same_rest : {m k : PlantModel} {n j : ℕ} {ls ms : List (List ℕ)} → Scripted m n ls ≡ Scripted k j ms → ls ≡ ms
+same_rest e = cc
 
 module _ (input : List ℕ) (b : CompiledModel) (compiled : IsCompiled b) (n : ℕ) (ls : List (List ℕ)) (reads : EndsModel input (Scripted b.model n ls)) (r : Document) (says : SaysScript b.model [] 0 n ls r) (complete : r.ending ≡ Complete) where
   abbrev m : PlantModel
@@ -156,11 +182,15 @@ module _ (input : List ℕ) (b : CompiledModel) (compiled : IsCompiled b) (n : �
             (ap (answer Ended) (ap (λ (t : List ℕ). migrated_model m ++ t) (sym same) ∙ sym (append-nil (migrated_model m ++ migrated_lines kept)))),
       )
 
+  bare : (k' : PlantModel) (j : ℕ) (ls' : List (List ℕ)) → EndsModel whole (Scripted k' j ls') → All HasTokens ls'
+  bare k' j ls' ends = subst (All HasTokens) (same_rest (texts_are_one whole (Scripted c.model k kept) (Scripted k' j ls') reads_again ends)) (kept_have_tokens ls)
+
   pub is_migrated : IsMigrated input whole
   is_migrated = record {
     document = r;
     read = (Scripted m n ls, reads, (AcceptedAs b, (compiled, refl), says));
     complete = complete;
+    bare = bare;
     migrated = (Scripted c.model k kept, reads_again, (AcceptedAs c, (second_compiled, refl), says_again));
     runs = λ notation a. (to_text notation a, from_text notation a);
     again = said false SaysMigrated whole c second_compiled k kept reads_again Ended whole again;
@@ -197,9 +227,51 @@ same_end notation input a c (end, reads, h) (other, reads', k) =
     let one : d.document ≡ f.document = documents_are_one input d.document f.document (end, reads, d.says) (other, reads', f.says) in
     d.ends ∙ ap (λ (x : Document). end_of x.ending) one ∙ sym f.ends
 
+-- ---- the line of a refusal comes last
+
+same_line : (m : PlantModel) (n line : ℕ) (rf refusal : Refusal) → RefusedAt n rf ≡ RefusedAt line refusal → refusal_line m n rf ≡ refusal_line m line refusal
+same_line m n line rf refusal e =
+    let number : n ≡ line = cc in
+    let what : rf ≡ refusal = cc in
+    λ i. refusal_line m (number i) (what i)
+
+its_model : (v : Acceptance) (m : PlantModel) (n : ℕ) (ls : List (List ℕ)) (r : Document) → SaysByAcceptance v m n ls r → r.model ≡ m
+its_model (AcceptedAs b) m n ls r says = script_model ls m [] 0 n r says
+its_model (RefusedFor rf) m n ls r says = ap (λ (d : Document). d.model) says
+
+abbrev EndsInRefusal : PlantModel → ℕ → Refusal → List ℕ → Type 0
+EndsInRefusal m line refusal text = (front : List ℕ) × (text ≡ front ++ refusal_line m line refusal)
+
+ends_in : (m : PlantModel) (front : List ℕ) (e : DocumentEnd) (line : ℕ) (refusal : Refusal) (a : Answer) → e ≡ RefusedAt line refusal → a ≡ with_text front (ending Words m (counts_of []) e) → EndsInRefusal m line refusal a.text
+ends_in m front e line refusal a at same = (front, ap (λ (x : Answer). x.text) (same ∙ ap (λ (z : DocumentEnd). with_text front (ending Words m (counts_of []) z)) at))
+
+refused_by : (v : Acceptance) (m : PlantModel) (n : ℕ) (ls : List (List ℕ)) (r : Document) (line : ℕ) (refusal : Refusal) (a : Answer) → IsAcceptanceOf m v → SaysByAcceptance v m n ls r → r.ending ≡ RefusedAt line refusal
+    → AnswersByAcceptance false SaysMigrated v m n ls a.end a.text → EndsInRefusal m line refusal a.text
+refused_by (AcceptedAs b) m n ls r line refusal a is says at (s, says', same) =
+    let here : SaysScript b.model [] 0 n ls r = subst (λ (k : PlantModel). SaysScript k [] 0 n ls r) (sym is.1) says in
+    let one : s ≡ r = script_one ls b.model [] 0 n s r says' here in
+    subst (λ (k : PlantModel). EndsInRefusal k line refusal a.text) is.1
+    (ends_in b.model (migrated_model b.model ++ migrated_lines (lines_read n s.ending ls)) s.ending line refusal a (ap (λ (d : Document). d.ending) one ∙ at) same)
+refused_by (RefusedFor rf) m n ls r line refusal a is says at h =
+    let same : RefusedAt n rf ≡ RefusedAt line refusal = sym (ap (λ (d : Document). d.ending) says) ∙ at in
+    ([], h.1 ∙ same_line m n line rf refusal same)
+
+refused_end : (end : ModelText) (r : Document) (line : ℕ) (refusal : Refusal) (a : Answer) → SaysByEnd end r → r.ending ≡ RefusedAt line refusal → AnswersByEnd false SaysMigrated end a.end a.text → EndsInRefusal r.model line refusal a.text
+refused_end (Scripted m n ls) r line refusal a (v, is, says) at (w, is', h) =
+    subst (λ (k : PlantModel). EndsInRefusal k line refusal a.text) (sym (its_model v m n ls r says))
+    (refused_by v m n ls r line refusal a is says at (subst (λ (z : Acceptance). AnswersByAcceptance false SaysMigrated z m n ls a.end a.text) (acceptance_is_one m w v is' is) h))
+refused_end (Stopped m k rf) r line refusal a is at h =
+    let same : RefusedAt k rf ≡ RefusedAt line refusal = sym (ap (λ (d : Document). d.ending) is) ∙ at in
+    subst (λ (z : PlantModel). EndsInRefusal z line refusal a.text) (sym (ap (λ (d : Document). d.model) is)) ([], h.1 ∙ same_line m k line rf refusal same)
+
+refused_migration : (input : List ℕ) (r : Document) (line : ℕ) (refusal : Refusal) (a : Answer) → IsDocument input r → r.ending ≡ RefusedAt line refusal → IsMigrationOf input a → EndsInRefusal r.model line refusal a.text
+refused_migration input r line refusal a (end, reads, says) at (other, reads', h) =
+    refused_end end r line refusal a says at (subst (λ (x : ModelText). AnswersByEnd false SaysMigrated x a.end a.text) (texts_are_one input other end reads' reads) h)
+
 pub documents_migrate : DocumentsMigrate
 documents_migrate = record {
   some = some_migration;
   ends = same_end;
+  refused = refused_migration;
   ended = λ input text (end, reads, h). by_end input end text reads h;
 }

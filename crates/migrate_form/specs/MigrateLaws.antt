@@ -1,12 +1,18 @@
 -- What `migrate` prints is the document in version 2.
-use Rattle.std.specs.Prelude.{◌≡◌, ◌↔◌, ℕ, false, List}
+use Rattle.std.specs.Prelude.{◌≡◌, ◌≢◌, ◌↔◌, ℕ, false, List, [], ◌++◌, All, Ok}
+use Rattle.cca_base.specs.Model.{in_second}
+use Rattle.cca_base.specs.PlantModel.{PlantModel}
+use Rattle.cca_base.specs.declared.events.Refusal.{Refusal}
 use Rattle.line_machine.specs.Runs.{IsText}
 use Rattle.line_machine.specs.declared.machine.End.{End}
 use Rattle.line_machine.specs.declared.machine.End.TheVariants.{Ended}
 use Rattle.model_form.specs.Answers.{Answer, answer, IsAnswer}
-use Rattle.run_form.specs.Document.{Document, Complete, IsDocument}
+use Rattle.model_form.specs.ModelTexts.{Scripted, EndsModel}
+use Rattle.run_form.specs.Document.{Document, Complete, RefusedAt, IsDocument}
 use Rattle.run_form.specs.Printed.{IsRunOf}
 use Rattle.run_form.specs.declared.notation.Notation.{Notation}
+use Rattle.text_base.specs.Tokens.{tokens_of}
+use Rattle.trace_text.specs.Refusals.{refusal_line}
 use Rattle.version_laws.specs.Laws.{at_version}
 use Rattle.migrate_form.specs.MigrateMachine.{migrate_machine, migrate_first}
 use Rattle.migrate_form.specs.Migrated.{SaysMigrated}
@@ -24,18 +30,22 @@ pub record MigrationsAreTold : Type 0 where
   pub says : (input : List ℕ) (e : End) (text : List ℕ) → IsText migrate_machine migrate_first input e text → IsMigrationOf input (answer e text)
   pub comes : (input : List ℕ) (e : End) (text : List ℕ) → IsMigrationOf input (answer e text) → IsText migrate_machine migrate_first input e text
 
--- nothing of the input is refused, and the text is a document with its events, of its model in version 2; what a run prints for one is what it
--- prints for the other; and from the text `migrate` makes the text itself
+-- nothing of the input is refused, and the text is a document with its events, of its model in version 2, whose script has no line without
+-- tokens; what a run prints for one is what it prints for the other; and from the text `migrate` makes the text itself
 pub record IsMigrated (input text : List ℕ) : Type 0 where
   pub document : Document
   pub read : IsDocument input document
   pub complete : document.ending ≡ Complete
-  pub migrated : IsDocument text (document_at 2 document)
+  pub migrated : IsDocument text (record document { model = in_second document.model })
+  pub bare : (m : PlantModel) (n : ℕ) (ls : List (List ℕ)) → EndsModel text (Scripted m n ls) → All (λ l. tokens_of l ≢ Ok []) ls
   pub runs : (notation : Notation) (a : Answer) → IsRunOf notation input a ↔ IsRunOf notation text a
   pub again : IsMigrationOf text (answer Ended text)
 
--- an input that says a document has a migration, which ends as a run of it ends; where that is at the input's end, it is the document in version 2
+-- an input that says a document has a migration, which ends as a run of it ends: with the line of the refusal, if a line is refused; and else it
+-- is the document in version 2
 pub record DocumentsMigrate : Type 0 where
   pub some : (input : List ℕ) (r : Document) → IsDocument input r → (a : Answer) × IsMigrationOf input a
   pub ends : (notation : Notation) (input : List ℕ) (a c : Answer) → IsMigrationOf input a → IsRunOf notation input c → a.end ≡ c.end
+  pub refused : (input : List ℕ) (r : Document) (line : ℕ) (refusal : Refusal) (a : Answer) → IsDocument input r → r.ending ≡ RefusedAt line refusal → IsMigrationOf input a
+      → (front : List ℕ) × (a.text ≡ front ++ refusal_line r.model line refusal)
   pub ended : (input text : List ℕ) → IsMigrationOf input (answer Ended text) → IsMigrated input text

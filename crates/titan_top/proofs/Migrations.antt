@@ -2,10 +2,11 @@
 use Rattle.std.proofs.Common.{◌≡◌, ℕ, List, Option, Some, None, refl, sym, ap, subst, ◌∙◌}
 use Rattle.std.specs.Global.{Global}
 use Rattle.std.specs.Prelude.{IfSome, String}
+use Rattle.cca_base.specs.Model.{in_second}
 use Rattle.line_machine.specs.declared.machine.End.TheVariants as ends
 use Rattle.model_form.specs.Answers.{answer}
 use Rattle.model_form.proofs.SameAnswer.{same_answer}
-use Rattle.migrate_form.specs.MigrateLaws.{document_at, IsMigrated, IsMigrationOf}
+use Rattle.migrate_form.specs.MigrateLaws.{IsMigrated, IsMigrationOf}
 use Rattle.migrate_form.proofs.MigrateAgrees.{migrate_agrees}
 use Rattle.migrate_form.proofs.MigratedDocuments.{documents_migrate}
 use Rattle.run_form.specs.Document.{Document, Complete, IsDocument, IsReadWhole}
@@ -58,10 +59,10 @@ some_migration input (r, document, complete) =
     let outcome : IsOutcomeFor Migrate input o = (a, refl, is) in
     (o, outcome, ends_whole input o (r, document, complete) outcome)
 
-its_document : (input : List ℕ) (r : Document) (o : Outcome) → IsDocument input r → r.ending ≡ Complete → IsOutcomeFor Migrate input o → IsDocument o.text (document_at 2 r)
+its_document : (input : List ℕ) (r : Document) (o : Outcome) → IsDocument input r → r.ending ≡ Complete → IsOutcomeFor Migrate input o → IsDocument o.text (record r { model = in_second r.model })
 its_document input r o document complete is =
     let m = whole_is_migrated input o (r, document, complete) is in
-    subst (λ (d : Document). IsDocument o.text (document_at 2 d)) (documents_are_one input m.document r m.read document) m.migrated
+    subst (λ (d : Document). IsDocument o.text (record d { model = in_second d.model })) (documents_are_one input m.document r m.read document) m.migrated
 
 pub migrations_run_alike : MigrationsRunAlike
 migrations_run_alike = record {

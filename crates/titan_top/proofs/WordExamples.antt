@@ -13,4 +13,5 @@ words_are_forms = record {
   no_word = refl;
   another = refl;
   one_more = refl;
+  migrate_more = refl;
 }

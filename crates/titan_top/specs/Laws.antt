@@ -2,7 +2,7 @@
 use Rattle.std.specs.Prelude.{◌≡◌, ◌↔◌, ◌≤◌, ℕ, true, List, [], ◌++◌, length, Option, Some, String}
 use Rattle.std.specs.Global.{Global}
 use Rattle.cca_base.specs.PlantModel.{PlantModel}
-use Rattle.cca_base.specs.Model.{WellFormed, IsComplete}
+use Rattle.cca_base.specs.Model.{WellFormed, IsComplete, in_second}
 use Rattle.line_machine.specs.Lines.{lines_in, all_lines}
 use Rattle.line_machine.specs.Next.{Next, GoesOn}
 use Rattle.line_machine.specs.Runs.{IsSure, IsText, IsPrefix}
@@ -12,7 +12,6 @@ use Rattle.model_syntax.specs.RoundTrip.{ReadsTo}
 use Rattle.model_form.specs.Answers.{answer}
 use Rattle.model_form.specs.FormStates.{nothing_read}
 use Rattle.check_form.specs.CheckEnds.{IsAllYes}
-use Rattle.migrate_form.specs.MigrateLaws.{document_at}
 use Rattle.run_form.specs.Document.{Document, Complete, IsDocument, IsReadWhole}
 use Rattle.run_form.specs.declared.notation.Notation.{Notation}
 use Rattle.titan_top.specs.Meanings.{meaning_of}
@@ -47,7 +46,7 @@ OwnTracesAreChecked = (input : List ℕ) → HasOwnTrace input → IsAllYes inpu
 pub record MigrationsRunAlike : Type 0 where
   pub status : (notation : Notation) (input : List ℕ) (o p : Outcome) → IsOutcomeFor Migrate input o → IsOutcomeFor (Run notation) input p → o.status ≡ p.status
   pub some : (input : List ℕ) → IsReadWhole input → (o : Outcome) × IsOutcomeFor Migrate input o × (o.status ≡ Ended)
-  pub document : (input : List ℕ) (r : Document) (o : Outcome) → IsDocument input r → r.ending ≡ Complete → IsOutcomeFor Migrate input o → IsDocument o.text (document_at 2 r)
+  pub document : (input : List ℕ) (r : Document) (o : Outcome) → IsDocument input r → r.ending ≡ Complete → IsOutcomeFor Migrate input o → IsDocument o.text (record r { model = in_second r.model })
   pub runs : (notation : Notation) (input : List ℕ) (o p : Outcome) → IsReadWhole input → IsOutcomeFor Migrate input o → IsOutcomeFor (Run notation) input p ↔ IsOutcomeFor (Run notation) o.text p
   pub again : (input : List ℕ) (o : Outcome) → IsReadWhole input → IsOutcomeFor Migrate input o → IsOutcomeFor Migrate o.text o
 

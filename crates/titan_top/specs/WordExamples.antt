@@ -15,3 +15,4 @@ pub record WordsAreForms : Type 0 where
   pub no_word : form_of [] ≡ None
   pub another : form_of (codes "shown" ∷ []) ≡ None
   pub one_more : form_of (codes "show" ∷ codes "--json" ∷ []) ≡ None
+  pub migrate_more : form_of (codes "migrate" ∷ codes "--json" ∷ []) ≡ None
