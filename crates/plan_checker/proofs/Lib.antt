@@ -7,4 +7,5 @@ pub mod RouteLaws
 pub mod WorldParts
 pub mod YesShows
 pub mod TakesFit
+pub mod VerdictLaws
 pub mod SureFormulas

@@ -4,4 +4,5 @@ pub mod Steps
 pub mod Checked
 pub mod Routes
 pub mod Costs
+pub mod VerdictLaws
 pub mod Worlds

@@ -9,6 +9,7 @@ mod events;
 mod guards;
 mod judged;
 mod known;
+mod laws;
 mod lines;
 pub mod reasons;
 mod route;
@@ -21,4 +22,5 @@ mod verdict;
 mod world;
 
 pub use checker::Checker;
+pub use laws::verdicts_are_one;
 pub use verdict::Verdict;
