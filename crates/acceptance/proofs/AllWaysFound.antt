@@ -66,7 +66,7 @@ none_many m ways all many =
 -- a move doesn't have both few and many
 pub few_or_many : (m : PlantModel) (move : Move) → HasFewWays m move → HasManyWays m move → ⊥
 few_or_many m move few many =
-    not_among_fewer many.cubes few.0 MAX_WAYS many.in_order (λ k d within. few.1 _ (many.primes k d within)) many.many few.2
+    not_among_fewer many.cubes few.0 MAX_WAYS many.in_order (λ k d within. few.1 _ (many.each k d within)) many.many few.2
 
 -- all moves have few where each has no more than there may be
 pub all_few : (m : PlantModel) (ways : List (List (List Pair))) → AreAllWays m ways → All (HasFewWays m) m.moves

@@ -104,7 +104,7 @@ module _ (sizes : List ℕ) (rows : List (List ℕ)) where
 -- ---- the bounds of a model
 
 -- how many modes a component has
-pub count_at : (xs : List Component) (c : ℕ) (x : Component) → slice_get xs c ≡ Some x → slice_index (map (λ (y : Component). length y.modes) xs) c ≡ length x.modes
+count_at : (xs : List Component) (c : ℕ) (x : Component) → slice_get xs c ≡ Some x → slice_index (map (λ (y : Component). length y.modes) xs) c ≡ length x.modes
 count_at [] c x h = absurd (none-some x h)
 count_at (y ∷ xs) zero x h = ap (λ (z : Component). length z.modes) (same_Some y x h)
 count_at (y ∷ xs) (suc c) x h = count_at xs c x h
@@ -116,13 +116,21 @@ modes_fit m good c x h =
     (omega (arith, is.modes.some), is.modes.few)
 
 -- what is computed is the bound
-pub bound_is : (sizes : List ℕ) (rows : List (List ℕ)) (bounds seen row : List ℕ) (c modes b : ℕ) → modes ≡ slice_index sizes c → row ≡ get_or rows c [] → seen ≡ bounds
+bound_is : (sizes : List ℕ) (rows : List (List ℕ)) (bounds seen row : List ℕ) (c modes b : ℕ) → modes ≡ slice_index sizes c → row ≡ get_or rows c [] → seen ≡ bounds
     → b ≡ (modes - 1) * (1 + sum_by (slice_index seen) row) → b ≡ bound_at sizes rows bounds c
 bound_is sizes rows bounds seen row c modes b of_modes of_row same e =
     e
     ∙ ap (λ k. (k - 1) * (1 + sum_by (slice_index seen) row)) of_modes
     ∙ ap (λ r. (slice_index sizes c - 1) * (1 + sum_by (slice_index seen) r)) of_row
     ∙ ap (λ z. (slice_index sizes c - 1) * (1 + sum_by (slice_index z) (get_or rows c []))) same
+
+-- the same of a component and a row as they are read
+pub bound_found : (m : PlantModel) (rows : List (List ℕ)) (bounds seen row here : List ℕ) (all : List Component) (x : Component) (c modes b : ℕ)
+    → all ≡ m.components → slice_get all c ≡ Some x → modes ≡ length x.modes → slice_get rows c ≡ Some here → row ≡ here → seen ≡ bounds
+    → b ≡ (modes - 1) * (1 + sum_by (slice_index seen) row) → b ≡ bound_at (mode_counts m) rows bounds c
+bound_found m rows bounds seen row here all x c modes b whole at counted row_at same also e =
+    bound_is (mode_counts m) rows bounds seen row c modes b (counted ∙ sym (count_at m.components c x (subst (λ l. slice_get l c ≡ Some x) whole at)))
+    (same ∙ sym (get_or_from_slice_get rows c here [] row_at)) also e
 
 -- the bounds from place i of the order on, and their sum
 pub record AreAdded (m : PlantModel) (rows : List (List ℕ)) (order bounds : List ℕ) (so_far i : ℕ) : Type 0 where

@@ -2,6 +2,7 @@
 use Rattle.std.proofs.Common.{ℕ, inr, refl, arith}
 use Rattle.cca_base.specs.PlantModel.{PlantModel}
 use Rattle.cca_base.specs.Model.{WellFormed, IsVersion, RepairsFit, empty_model, in_second}
+use Rattle.cca_base.proofs.Growth.{with_lists}
 
 pub empty_well_formed : (version : ℕ) → IsVersion version → WellFormed (empty_model version)
 empty_well_formed version known = record {
@@ -36,27 +37,7 @@ second_fits m h = record {
 }
 
 pub second_well_formed : (m : PlantModel) → WellFormed m → WellFormed (in_second m)
-second_well_formed m h = record {
-  version = inr refl;
-  limits = record { components = h.limits.components; variables = h.limits.variables; rules = h.limits.rules; moves = h.limits.moves; failures = h.limits.failures };
-  names = h.names;
-  command_names = h.command_names;
-  components = h.components;
-  variables = h.variables;
-  rules = λ k d within. record { fits = (h.rules k d within).fits; shallow = (h.rules k d within).shallow };
-  moves = λ k d within. record {
-    source = (h.moves k d within).source;
-    target = (h.moves k d within).target;
-    command = (h.moves k d within).command;
-    guard = record { fits = (h.moves k d within).guard.fits; shallow = (h.moves k d within).guard.shallow };
-  };
-  failures = λ k d within. record {
-    source = (h.failures k d within).source;
-    target = (h.failures k d within).target;
-    costs = (h.failures k d within).costs;
-    cheap = (h.failures k d within).cheap;
-  };
-  repairs = second_fits m h.repairs;
-  commands = h.commands;
-  first_use = h.first_use;
-}
+second_well_formed m h =
+    with_lists m 2 m.rules m.moves m.failures h
+    (inr refl, record { components = h.limits.components; variables = h.limits.variables; rules = h.limits.rules; moves = h.limits.moves; failures = h.limits.failures })
+    h.rules h.moves h.failures (second_fits m h.repairs, h.commands, h.first_use)

@@ -8,7 +8,7 @@ use Rattle.std.proofs.lemmas.List.Quantifiers.{all_pairs_push}
 use Rattle.std.proofs.lemmas.List.Kept.{AllPairs-cons}
 use Rattle.std.proofs.lemmas.List.Folds.{Any-from_list_any}
 use Rattle.cca_base.proofs.Pairwise.{AllPairs-head, AllPairs-tail}
-use Rattle.cca_base.proofs.FormulaGrowth.{Extends, counts_same, counts_push, IsFormula-kept, IsMove-kept, IsFailure-kept, All-IsFormula-kept, All-IsMove-kept, All-IsFailure-kept}
+use Rattle.cca_base.proofs.FormulaGrowth.{Extends, counts_same, counts_push, All-IsFormula-kept, All-IsMove-kept, All-IsFailure-kept}
 use Rattle.cca_base.specs.declared.formula.Formula.{Formula}
 use Rattle.cca_base.specs.declared.model.Component.{Component}
 use Rattle.cca_base.specs.declared.model.Variable.{Variable}
@@ -17,7 +17,7 @@ use Rattle.cca_base.specs.declared.model.Failure.{Failure}
 use Rattle.cca_base.specs.declared.limits.TheConstants.{MAX_COMPONENTS, MAX_VARIABLES, MAX_RULES, MAX_MOVES, MAX_FAILURES}
 use Rattle.cca_base.specs.PlantModel.{PlantModel}
 use Rattle.cca_base.specs.Names.{is_name, AreNames, AreDifferent}
-use Rattle.cca_base.specs.Model.{WellFormed, mode_counts, value_counts, AreChoices, IsComponent, IsFormula, IsMove, IsFailure, RepairsFit, IsNext, AreInOrderOfFirstUse, RepairChain, is_broken, is_repair_of, is_used, names_of, with_component, with_variable, with_rule, with_command, with_move, with_failure}
+use Rattle.cca_base.specs.Model.{WellFormed, KeepsLimits, IsVersion, CommandsFit, mode_counts, value_counts, AreChoices, IsComponent, IsFormula, IsMove, IsFailure, RepairsFit, IsNext, AreInOrderOfFirstUse, RepairChain, is_broken, is_repair_of, is_used, names_of, with_component, with_variable, with_rule, with_command, with_move, with_failure}
 
 -- ---- names
 
@@ -48,105 +48,95 @@ AreNames-push xs x named new h = record {
   different = all_pairs_push (λ a b. a ≢ b) xs x h.different new;
 }
 
--- ---- components, variables, rules, commands and failures
+-- ---- components, variables and commands
+
+-- a model with more choices and commands stays well formed by what holds of these
+with_choices : (m : PlantModel) (components : List Component) (variables : List Variable) (commands : List (List ℕ)) → WellFormed m
+    → let n : PlantModel = record m { components = components; variables = variables; commands = commands } in
+    Extends m n → KeepsLimits n → AreNames (names_of n) × AreNames commands → All IsComponent components × All (λ v. AreChoices v.values) variables → WellFormed n
+with_choices m components variables commands h e limits names each =
+    let n : PlantModel = record m { components = components; variables = variables; commands = commands } in
+    record {
+      version = h.version;
+      limits = limits;
+      names = names.0;
+      command_names = names.1;
+      components = each.0;
+      variables = each.1;
+      rules = All-IsFormula-kept m n e m.rules h.rules;
+      moves = All-IsMove-kept m n e m.moves h.moves;
+      failures = All-IsFailure-kept m n e m.failures h.failures;
+      repairs = h.repairs;
+      commands = h.commands;
+      first_use = h.first_use;
+    }
 
 -- a new component has a new name
 pub component_kept : (m : PlantModel) (x : Component) → WellFormed m → length m.components < MAX_COMPONENTS → IsComponent x → IsTrue (is_name x.name) → All (λ name. name ≢ x.name) (names_of m) → WellFormed (with_component m x)
 component_kept m x h few good named new =
-    let e : Extends m (with_component m x) = record { modes = counts_push (λ c. length c.modes) m.components x; values = counts_same (value_counts m); commands = omega arith } in
-    record {
-      version = h.version;
-      limits = record { components = omega (arith, length_push m.components x); variables = h.limits.variables; rules = h.limits.rules; moves = h.limits.moves; failures = h.limits.failures };
-      names =
-          let old : List (List ℕ) = map (λ c. c.name) m.components in
-          let others : List (List ℕ) = map (λ v. v.name) m.variables in
-          subst (λ names. AreNames (names ++ others)) (sym (map_push (λ c. c.name) m.components x)) (AreNames-middle old x.name others named new h.names);
-      command_names = h.command_names;
-      components = All-push IsComponent m.components x h.components good;
-      variables = h.variables;
-      rules = All-IsFormula-kept m (with_component m x) e m.rules h.rules;
-      moves = All-IsMove-kept m (with_component m x) e m.moves h.moves;
-      failures = All-IsFailure-kept m (with_component m x) e m.failures h.failures;
-      repairs = h.repairs;
-      commands = h.commands;
-      first_use = h.first_use;
-    }
+    let old : List (List ℕ) = map (λ c. c.name) m.components in
+    let others : List (List ℕ) = map (λ v. v.name) m.variables in
+    with_choices m (m.components ++ x ∷ []) m.variables m.commands h
+    (record { modes = counts_push (λ c. length c.modes) m.components x; values = counts_same (value_counts m); commands = omega arith })
+    (record { components = omega (arith, length_push m.components x); variables = h.limits.variables; rules = h.limits.rules; moves = h.limits.moves; failures = h.limits.failures })
+    (subst (λ names. AreNames (names ++ others)) (sym (map_push (λ c. c.name) m.components x)) (AreNames-middle old x.name others named new h.names), h.command_names)
+    (All-push IsComponent m.components x h.components good, h.variables)
 
 pub variable_kept : (m : PlantModel) (x : Variable) → WellFormed m → length m.variables < MAX_VARIABLES → AreChoices x.values → IsTrue (is_name x.name) → All (λ name. name ≢ x.name) (names_of m) → WellFormed (with_variable m x)
 variable_kept m x h few good named new =
-    let e : Extends m (with_variable m x) = record { modes = counts_same (mode_counts m); values = counts_push (λ v. length v.values) m.variables x; commands = omega arith } in
+    let front : List (List ℕ) = map (λ c. c.name) m.components in
+    let old : List (List ℕ) = map (λ v. v.name) m.variables in
+    with_choices m m.components (m.variables ++ x ∷ []) m.commands h
+    (record { modes = counts_same (mode_counts m); values = counts_push (λ v. length v.values) m.variables x; commands = omega arith })
+    (record { components = h.limits.components; variables = omega (arith, length_push m.variables x); rules = h.limits.rules; moves = h.limits.moves; failures = h.limits.failures }) (
+      subst (λ names. AreNames (front ++ names)) (sym (map_push (λ v. v.name) m.variables x))
+          (subst AreNames (append_assoc front old (x.name ∷ [])) (AreNames-push (front ++ old) x.name named new h.names)),
+      h.command_names,
+    )
+    (h.components, All-push (λ v. AreChoices v.values) m.variables x h.variables good)
+
+pub command_kept : (m : PlantModel) (x : List ℕ) → WellFormed m → IsTrue (is_name x) → All (λ name. name ≢ x) m.commands → WellFormed (with_command m x)
+command_kept m x h named new =
+    with_choices m m.components m.variables (m.commands ++ x ∷ []) h
+    (record { modes = counts_same (mode_counts m); values = counts_same (value_counts m); commands = omega (arith, length_push m.commands x) })
+    (record { components = h.limits.components; variables = h.limits.variables; rules = h.limits.rules; moves = h.limits.moves; failures = h.limits.failures })
+    (h.names, AreNames-push m.commands x named new h.command_names) (h.components, h.variables)
+
+-- ---- rules, moves and failures
+
+-- a model with other rules, moves and failures, each of which speaks of the same choices and commands
+pub with_lists : (m : PlantModel) (version : ℕ) (rules : List Formula) (moves : List Move) (failures : List Failure) → WellFormed m
+    → let n : PlantModel = record m { version = version; rules = rules; moves = moves; failures = failures } in
+    IsVersion version × KeepsLimits n → All (IsFormula m) rules → All (IsMove m) moves → All (IsFailure m) failures → RepairsFit version moves × CommandsFit moves × AreInOrderOfFirstUse moves → WellFormed n
+with_lists m version rules moves failures h own each_rule each_move each_failure fit =
+    let n : PlantModel = record m { version = version; rules = rules; moves = moves; failures = failures } in
+    let e : Extends m n = record { modes = counts_same (mode_counts m); values = counts_same (value_counts m); commands = omega arith } in
     record {
-      version = h.version;
-      limits = record { components = h.limits.components; variables = omega (arith, length_push m.variables x); rules = h.limits.rules; moves = h.limits.moves; failures = h.limits.failures };
-      names =
-          let front : List (List ℕ) = map (λ c. c.name) m.components in
-          let old : List (List ℕ) = map (λ v. v.name) m.variables in
-          subst (λ names. AreNames (front ++ names)) (sym (map_push (λ v. v.name) m.variables x))
-          (subst AreNames (append_assoc front old (x.name ∷ [])) (AreNames-push (front ++ old) x.name named new h.names));
+      version = own.0;
+      limits = own.1;
+      names = h.names;
       command_names = h.command_names;
       components = h.components;
-      variables = All-push (λ v. AreChoices v.values) m.variables x h.variables good;
-      rules = All-IsFormula-kept m (with_variable m x) e m.rules h.rules;
-      moves = All-IsMove-kept m (with_variable m x) e m.moves h.moves;
-      failures = All-IsFailure-kept m (with_variable m x) e m.failures h.failures;
-      repairs = h.repairs;
-      commands = h.commands;
-      first_use = h.first_use;
+      variables = h.variables;
+      rules = All-IsFormula-kept m n e rules each_rule;
+      moves = All-IsMove-kept m n e moves each_move;
+      failures = All-IsFailure-kept m n e failures each_failure;
+      repairs = fit.0;
+      commands = fit.1;
+      first_use = fit.2;
     }
 
 pub rule_kept : (m : PlantModel) (x : Formula) → WellFormed m → length m.rules < MAX_RULES → IsFormula m x → WellFormed (with_rule m x)
 rule_kept m x h few good =
-    let e : Extends m (with_rule m x) = record { modes = counts_same (mode_counts m); values = counts_same (value_counts m); commands = omega arith } in
-    record {
-      version = h.version;
-      limits = record { components = h.limits.components; variables = h.limits.variables; rules = omega (arith, length_push m.rules x); moves = h.limits.moves; failures = h.limits.failures };
-      names = h.names;
-      command_names = h.command_names;
-      components = h.components;
-      variables = h.variables;
-      rules = All-push (IsFormula (with_rule m x)) m.rules x (All-IsFormula-kept m (with_rule m x) e m.rules h.rules) (IsFormula-kept m (with_rule m x) e x good);
-      moves = All-IsMove-kept m (with_rule m x) e m.moves h.moves;
-      failures = All-IsFailure-kept m (with_rule m x) e m.failures h.failures;
-      repairs = h.repairs;
-      commands = h.commands;
-      first_use = h.first_use;
-    }
-
-pub command_kept : (m : PlantModel) (x : List ℕ) → WellFormed m → IsTrue (is_name x) → All (λ name. name ≢ x) m.commands → WellFormed (with_command m x)
-command_kept m x h named new =
-    let e : Extends m (with_command m x) = record { modes = counts_same (mode_counts m); values = counts_same (value_counts m); commands = omega (arith, length_push m.commands x) } in
-    record {
-      version = h.version;
-      limits = record { components = h.limits.components; variables = h.limits.variables; rules = h.limits.rules; moves = h.limits.moves; failures = h.limits.failures };
-      names = h.names;
-      command_names = AreNames-push m.commands x named new h.command_names;
-      components = h.components;
-      variables = h.variables;
-      rules = All-IsFormula-kept m (with_command m x) e m.rules h.rules;
-      moves = All-IsMove-kept m (with_command m x) e m.moves h.moves;
-      failures = All-IsFailure-kept m (with_command m x) e m.failures h.failures;
-      repairs = h.repairs;
-      commands = h.commands;
-      first_use = h.first_use;
-    }
+    with_lists m m.version (m.rules ++ x ∷ []) m.moves m.failures h
+    (h.version, record { components = h.limits.components; variables = h.limits.variables; rules = omega (arith, length_push m.rules x); moves = h.limits.moves; failures = h.limits.failures })
+    (All-push (IsFormula m) m.rules x h.rules good) h.moves h.failures (h.repairs, h.commands, h.first_use)
 
 pub failure_kept : (m : PlantModel) (x : Failure) → WellFormed m → length m.failures < MAX_FAILURES → IsFailure m x → WellFormed (with_failure m x)
 failure_kept m x h few good =
-    let e : Extends m (with_failure m x) = record { modes = counts_same (mode_counts m); values = counts_same (value_counts m); commands = omega arith } in
-    record {
-      version = h.version;
-      limits = record { components = h.limits.components; variables = h.limits.variables; rules = h.limits.rules; moves = h.limits.moves; failures = omega (arith, length_push m.failures x) };
-      names = h.names;
-      command_names = h.command_names;
-      components = h.components;
-      variables = h.variables;
-      rules = All-IsFormula-kept m (with_failure m x) e m.rules h.rules;
-      moves = All-IsMove-kept m (with_failure m x) e m.moves h.moves;
-      failures = All-push (IsFailure (with_failure m x)) m.failures x (All-IsFailure-kept m (with_failure m x) e m.failures h.failures) (IsFailure-kept m (with_failure m x) e x good);
-      repairs = h.repairs;
-      commands = h.commands;
-      first_use = h.first_use;
-    }
+    with_lists m m.version m.rules m.moves (m.failures ++ x ∷ []) h
+    (h.version, record { components = h.limits.components; variables = h.limits.variables; rules = h.limits.rules; moves = h.limits.moves; failures = omega (arith, length_push m.failures x) })
+    h.rules h.moves (All-push (IsFailure m) m.failures x h.failures good) (h.repairs, h.commands, h.first_use)
 
 -- ---- moves
 
@@ -186,21 +176,10 @@ pub move_kept : (m : PlantModel) (x : Move) → WellFormed m → length m.moves 
     → All (λ y. y.command ≡ x.command → (y.component ≡ x.component) × (y.source ≢ x.source)) m.moves
     → ((command : ℕ) → command < x.command → IsTrue (is_used m.moves command)) → WellFormed (with_move m x)
 move_kept m x h few good repairs fit used =
-    let e : Extends m (with_move m x) = record { modes = counts_same (mode_counts m); values = counts_same (value_counts m); commands = omega arith } in
-    record {
-      version = h.version;
-      limits = record { components = h.limits.components; variables = h.limits.variables; rules = h.limits.rules; moves = omega (arith, length_push m.moves x); failures = h.limits.failures };
-      names = h.names;
-      command_names = h.command_names;
-      components = h.components;
-      variables = h.variables;
-      rules = All-IsFormula-kept m (with_move m x) e m.rules h.rules;
-      moves = All-push (IsMove (with_move m x)) m.moves x (All-IsMove-kept m (with_move m x) e m.moves h.moves) (IsMove-kept m (with_move m x) e x good);
-      failures = All-IsFailure-kept m (with_move m x) e m.failures h.failures;
-      repairs = repairs;
-      commands = all_pairs_push (λ a b. a.command ≡ b.command → (a.component ≡ b.component) × (a.source ≢ b.source)) m.moves x h.commands fit;
-      first_use = first_use_push m.moves x h.first_use used;
-    }
+    with_lists m m.version m.rules (m.moves ++ x ∷ []) m.failures h
+    (h.version, record { components = h.limits.components; variables = h.limits.variables; rules = h.limits.rules; moves = omega (arith, length_push m.moves x); failures = h.limits.failures })
+    h.rules (All-push (IsMove m) m.moves x h.moves good) h.failures
+    (repairs, all_pairs_push (λ a b. a.command ≡ b.command → (a.component ≡ b.component) × (a.source ≢ b.source)) m.moves x h.commands fit, first_use_push m.moves x h.first_use used)
 
 -- ---- repairs
 

@@ -51,7 +51,7 @@ from_filter test (y ∷ xs) x among = elim (cases_Bool (test y)) [
       (rest.0, contains_there y x xs rest.1)
 ]
 
-pub to_pairs : (k : ℕ) (s : List ℕ) (i j x : ℕ) → j ≡ k + i → slice_get s i ≡ Some x → Contains (pairs_from k s) (record { item = j; value = x })
+to_pairs : (k : ℕ) (s : List ℕ) (i j x : ℕ) → j ≡ k + i → slice_get s i ≡ Some x → Contains (pairs_from k s) (record { item = j; value = x })
 to_pairs k [] i j x e h = absurd (none-some x h)
 to_pairs k (mode ∷ s) zero j x e h =
     let here : k ≡ j = omega arith in

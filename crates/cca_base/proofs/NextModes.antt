@@ -117,7 +117,49 @@ any_contains q xs h =
 pub few_below : (n : ℕ) (xs : List ℕ) → IsDistinct eqb xs → ((x : ℕ) → Contains xs x → x < n) → length xs ≤ n
 few_below n xs distinct below = length-le_from_distinct_below xs n distinct (λ q h. below q (any_contains q xs h))
 
-few_modes : (m : PlantModel) → WellFormed m → (c : ℕ) → c < length m.components → slice_index (mode_counts m) c ≤ MAX_CHOICES
+-- steps that meet no place twice are fewer than the places: at no place can it be two numbers of steps to the end
+module _ (Ahead : ℕ → ℕ → Type 0) (next : (n x : ℕ) → Ahead (suc n) x → (y : ℕ) × Ahead n y) (once : (n k x : ℕ) → Ahead n x → Ahead k x → k < n → ⊥) where
+  record Places (n : ℕ) : Type 0 where
+    places : List ℕ
+    long : length places ≡ suc n
+    distinct : IsDistinct eqb places
+    each : (x : ℕ) → Contains places x → (k : ℕ) × (k ≤ n) × Ahead k x
+
+  places : (n x : ℕ) → Ahead n x → Places n
+  unfolding IsDistinct
+  places zero x h = record {
+    places = x ∷ [];
+    long = refl;
+    distinct = (tt, tt);
+    each = λ y among. elim (contains_cases x y [] among) [
+      | inl same ↦ (0, omega arith, subst (Ahead 0) same h)
+      | inr none ↦ absurd (contains_none y none)
+    ];
+  }
+  places (suc n) x h =
+      let after = next n x h in
+      let later : Places n = places n after.0 after.1 in
+      record {
+        places = x ∷ later.places;
+        long = ap suc later.long;
+        distinct = (
+          by_recursion (λ y. eqb x y ≡ false) later.places (λ y among. ne_eqb x y (λ same.
+              let there = later.each y among in once (suc n) there.0 x h (subst (Ahead there.0) (sym same) there.2) (omega (arith, there.1)))),
+          later.distinct,
+        );
+        each = λ y among. elim (contains_cases x y later.places among) [
+          | inl same ↦ (suc n, omega arith, subst (Ahead (suc n)) same h)
+          | inr there ↦ let old = later.each y there in (old.0, omega (arith, old.1), old.2)
+        ];
+      }
+
+  pub few_steps : (count n x : ℕ) → ((k y : ℕ) → Ahead k y → y < count) → Ahead n x → n < count
+  few_steps count n x below h =
+      let all : Places n = places n x h in
+      let few : length all.places ≤ count = few_below count all.places all.distinct (λ y among. let there = all.each y among in below there.0 y there.2) in
+      omega (arith, few, all.long)
+
+pub few_modes : (m : PlantModel) → WellFormed m → (c : ℕ) → c < length m.components → slice_index (mode_counts m) c ≤ MAX_CHOICES
 few_modes m well c within =
     let none : Component = record { name = []; modes = []; start = 0 } in
     let count = get_or-map (λ (x : Component). length x.modes) m.components c none 0 within in
@@ -132,52 +174,20 @@ module _ (m : PlantModel) (well : WellFormed m) (c : ℕ) where
         subst (λ d. HasMode m d b) parts.1 (subst (HasMode m h.repair.component) h.target good.target),
       )
 
-  pub chain_mode : (a b n : ℕ) → RepairChain m.moves c a b n → HasMode m c a → HasMode m c b
-  chain_mode a b zero e has = subst (HasMode m c) e has
-  chain_mode a b (suc n) p has = chain_mode p.0 b n p.2 (next_mode a p.0 p.1).1
-
-  -- the modes of a chain, none of which stands in it twice
-  record Links (a n : ℕ) : Type 0 where
-    modes : List ℕ
-    long : length modes ≡ suc n
-    distinct : IsDistinct eqb modes
-    each : (x : ℕ) → Contains modes x → IsInChain m.moves c a x
-
-  links : (a b n : ℕ) → RepairChain m.moves c a b n → Links a n
-  unfolding IsDistinct
-  links a b zero e = record {
-    modes = a ∷ [];
-    long = refl;
-    distinct = (tt, tt);
-    each = λ x among. elim (contains_cases a x [] among) [
-      | inl same ↦ (0, same)
-      | inr none ↦ absurd (contains_none x none)
-    ];
-  }
-  links a b (suc n) p =
-      let later : Links p.0 n = links p.0 b n p.2 in
-      record {
-        modes = a ∷ later.modes;
-        long = ap suc later.long;
-        distinct = (
-          by_recursion (λ y. eqb a y ≡ false) later.modes (λ y among. ne_eqb a y (λ same.
-              let on = later.each y among in
-              well.repairs.no_cycle c a on.0 (p.0, p.1, subst (λ z. RepairChain m.moves c p.0 z on.0) (sym same) on.1))),
-          later.distinct,
-        );
-        each = λ x among. elim (contains_cases a x later.modes among) [
-          | inl same ↦ (0, same)
-          | inr there ↦ let on = later.each x there in (suc on.0, (p.0, p.1, on.1))
-        ];
-      }
+  -- a mode has one number of repairs ahead, since its chain meets it once
+  chain_once : (b n k x : ℕ) → RepairChain m.moves c x b n → RepairChain m.moves c x b k → k < n → ⊥
+  chain_once b zero k x p q less = absurd (omega (arith, less))
+  chain_once b (suc n) zero x p e less = well.repairs.no_cycle c x n (subst (λ y. RepairChain m.moves c x y (suc n)) (sym e) p)
+  chain_once b (suc n) (suc k) x p q less =
+      let same : q.0 ≡ p.0 = well.repairs.one_target c x q.0 p.0 q.1 p.1 in
+      chain_once b n k p.0 p.2 (subst (λ y. RepairChain m.moves c y b k) same q.2) (omega (arith, less))
 
   -- fewer repairs than the component has modes
   pub chain_few : (a b n : ℕ) → RepairChain m.moves c a b n → HasMode m c a → n < slice_index (mode_counts m) c
-  chain_few a b n p has =
-      let l : Links a n = links a b n p in
-      let few : length l.modes ≤ slice_index (mode_counts m) c =
-      few_below (slice_index (mode_counts m) c) l.modes l.distinct (λ x among. let on = l.each x among in chain_mode a x on.0 on.1 has) in
-      omega (arith, few, l.long)
+  chain_few a b n p has = few_steps (λ k x. HasMode m c x × RepairChain m.moves c x b k)
+      (λ k x h. (h.1.0, ((next_mode x h.1.0 h.1.1).1, h.1.2)))
+      (λ k j x h l. chain_once b k j x h.1 l.1)
+      (slice_index (mode_counts m) c) n a (λ k x h. h.0) (has, p)
 
   pub chain_short : (a b n : ℕ) → RepairChain m.moves c a b n → n < MAX_CHOICES
   chain_short a b zero e = omega arith

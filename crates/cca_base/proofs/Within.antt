@@ -1,8 +1,8 @@
 -- What fits the counts of modes and of values speaks only of components and variables that there are.
-use Rattle.std.proofs.Common.{◌≡◌, ℕ, ◌<◌, zero, suc, Bool, true, IsTrue, List, [], ◌∷◌, length, map, slice_index, refl, sym, subst, ◌∙◌, arith}
+use Rattle.std.proofs.Common.{◌≡◌, ℕ, ◌<◌, ◌&&◌, zero, suc, Bool, true, IsTrue, List, [], ◌∷◌, length, map, slice_index, refl, sym, ap, ap₂, subst, ◌∙◌, arith}
 use Rattle.std.specs.Prelude.{nat_le, nat_lt, ◌^◌}
 use Rattle.std.specs.List.{list_all}
-use Rattle.std.proofs.lemmas.Bool.{ltb-true, lt-ltb, and_parts, and_from}
+use Rattle.std.proofs.lemmas.Bool.{ltb-true, lt-ltb, and_parts}
 use Rattle.std.proofs.lemmas.List.{length-map}
 use Rattle.cca_base.specs.PlantModel.{PlantModel}
 use Rattle.cca_base.specs.Formula.{fits, fits_step, is_within, within_step, is_choice_of, subject_value, subject_within}
@@ -12,7 +12,7 @@ use Rattle.cca_base.specs.declared.formula.Subject.{Subject}
 use Rattle.cca_base.specs.declared.formula.Subject.TheVariants.{Component, Variable}
 use Rattle.cca_base.specs.declared.formula.Formula.{Formula}
 use Rattle.cca_base.specs.declared.formula.Formula.TheOpen.{Formula-F}
-use Rattle.cca_base.specs.declared.formula.Formula.TheFolds.{fold-roll-Formula, ind-Formula, map-Formula}
+use Rattle.cca_base.specs.declared.formula.Formula.TheFolds.{fold-Formula, fold-roll-Formula, ind-Formula, map-Formula}
 
 -- a number that is not 0 stands at a place of the list
 pub place_within : (xs : List ℕ) (k : ℕ) → 0 < slice_index xs k → k < length xs
@@ -32,54 +32,71 @@ pub choice_positive : (n set : ℕ) → is_choice_of n set ≡ true → 0 < n
 choice_positive zero set h = let parts = and_parts (nat_lt 0 set) (nat_lt set (2 ^ 0)) h in absurd (omega (arith, ltb-true 0 set parts.0, ltb-true set (2 ^ 0) parts.1))
 choice_positive (suc n) set h = omega arith
 
-module _ (modes values : List ℕ) where
-  abbrev Within : Formula → Type 0
-  Within f = fits modes values f ≡ true → is_within (length modes) (length values) f ≡ true
+-- what fits meets every test that asks no more of a layer: where a formula fits, both say the same of each part
+module _ (modes values : List ℕ) (test : Formula-F Bool → Bool) (no_more : (x : Formula-F Bool) → fits_step modes values x ≡ true → test x ≡ true) where
+  abbrev tested : Formula → Bool
+  tested = fold-Formula Bool test
 
   abbrev Part : Type 0
-  Part = (f : Formula) × Within f
-
-  -- one layer of a formula
-  abbrev LayerWithin : Formula-F Formula → Type 0
-  LayerWithin x = fits_step modes values (map-Formula Formula Bool (fits modes values) x) ≡ true
-      → within_step (length modes) (length values) (map-Formula Formula Bool (is_within (length modes) (length values)) x) ≡ true
-
-  subject : (k : Subject) → 0 < subject_value k modes values → subject_within (length modes) (length values) k ≡ true
-  subject (Component k) h = lt-ltb k (length modes) (place_within modes k h)
-  subject (Variable k) h = lt-ltb k (length values) (place_within values k h)
+  Part = (f : Formula) × (fits modes values f ≡ true → tested f ≡ true)
 
   abbrev firsts : List Part → List Formula
   firsts parts = map (λ (e : Part). e.0) parts
 
-  all_parts : (parts : List Part) → list_all (λ b. b) (map (fits modes values) (firsts parts)) ≡ true
-      → list_all (λ b. b) (map (is_within (length modes) (length values)) (firsts parts)) ≡ true
-  all_parts [] h = refl
-  all_parts (e ∷ parts) h =
-      let each = and_parts (fits modes values e.0) _ h in
-      and_from (is_within (length modes) (length values) e.0) _ (e.1 each.0) (all_parts parts each.1)
+  -- one layer of a formula, with what is said of each part in its place
+  abbrev layer : (Formula → Bool) → Formula-F Formula → Formula-F Bool
+  layer said x = map-Formula Formula Bool said x
 
-  many : (parts : List Part) → LayerWithin (Formula-F.All (firsts parts))
-  many parts h = all_parts parts (and_parts (nat_le 2 (length (map (fits modes values) (firsts parts)))) _ h).1
+  same : (e : Part) → fits modes values e.0 ≡ true → tested e.0 ≡ fits modes values e.0
+  same e h = e.1 h ∙ sym h
 
-  pair : (a b : Part) → LayerWithin (Formula-F.Implies a.0 b.0)
-  pair a b h =
-      let each = and_parts (fits modes values a.0) (fits modes values b.0) h in
-      and_from (is_within (length modes) (length values) a.0) (is_within (length modes) (length values) b.0) (a.1 each.0) (b.1 each.1)
+  same_parts : (parts : List Part) → list_all (λ b. b) (map (fits modes values) (firsts parts)) ≡ true → map tested (firsts parts) ≡ map (fits modes values) (firsts parts)
+  same_parts [] h = refl
+  same_parts (e ∷ parts) h = let each = and_parts (fits modes values e.0) _ h in ap₂ (λ b rest. b ∷ rest) (same e each.0) (same_parts parts each.1)
 
-  step : (y : Formula-F Part) → LayerWithin (map-Formula Part Formula (λ e. e.0) y)
-  step Formula-F.True h = refl
-  step Formula-F.False h = refl
-  step (Formula-F.Among k set) h = subject k (choice_positive (subject_value k modes values) set h)
-  step (Formula-F.Not a) h = a.1 h
-  step (Formula-F.All parts) h = many parts h
-  step (Formula-F.Any parts) h = many parts h
-  step (Formula-F.Implies a b) h = pair a b h
-  step (Formula-F.Iff a b) h = pair a b h
+  all_same : (parts : List Part) → fits_step modes values (Formula-F.All (map (fits modes values) (firsts parts))) ≡ true
+      → map tested (firsts parts) ≡ map (fits modes values) (firsts parts)
+  all_same parts h = same_parts parts (and_parts (nat_le 2 (length (map (fits modes values) (firsts parts)))) _ h).1
 
-  pub fits_within : (f : Formula) → Within f
-  fits_within = ind-Formula Within (λ x y is h.
-      fold-roll-Formula Bool (within_step (length modes) (length values)) x
-      ∙ subst LayerWithin is (step y) (sym (fold-roll-Formula Bool (fits_step modes values) x) ∙ h))
+  abbrev Same : Formula-F Formula → Type 0
+  Same x = fits_step modes values (layer (fits modes values) x) ≡ true → layer tested x ≡ layer (fits modes values) x
+
+  pair : (make : Bool → Bool → Formula-F Bool) (a b : Part) → (fits modes values a.0 && fits modes values b.0) ≡ true
+      → make (tested a.0) (tested b.0) ≡ make (fits modes values a.0) (fits modes values b.0)
+  pair make a b h = let each = and_parts (fits modes values a.0) (fits modes values b.0) h in ap₂ make (same a each.0) (same b each.1)
+
+  same_layer : (y : Formula-F Part) → Same (map-Formula Part Formula (λ e. e.0) y)
+  same_layer Formula-F.True h = refl
+  same_layer Formula-F.False h = refl
+  same_layer (Formula-F.Among k set) h = refl
+  same_layer (Formula-F.Not a) h = ap (λ b. Formula-F.Not b) (same a h)
+  same_layer (Formula-F.All parts) h = ap (λ bs. Formula-F.All bs) (all_same parts h)
+  same_layer (Formula-F.Any parts) h = ap (λ bs. Formula-F.Any bs) (all_same parts h)
+  same_layer (Formula-F.Implies a b) h = pair (λ x y. Formula-F.Implies x y) a b h
+  same_layer (Formula-F.Iff a b) h = pair (λ x y. Formula-F.Iff x y) a b h
+
+  pub fits_meets : (f : Formula) → fits modes values f ≡ true → tested f ≡ true
+  fits_meets = ind-Formula (λ f. fits modes values f ≡ true → tested f ≡ true) (λ x y is h.
+      let fit : fits_step modes values (layer (fits modes values) x) ≡ true = sym (fold-roll-Formula Bool (fits_step modes values) x) ∙ h in
+      fold-roll-Formula Bool test x ∙ ap test (subst Same is (same_layer y) fit) ∙ no_more (layer (fits modes values) x) fit)
+
+module _ (modes values : List ℕ) where
+  subject : (k : Subject) → 0 < subject_value k modes values → subject_within (length modes) (length values) k ≡ true
+  subject (Component k) h = lt-ltb k (length modes) (place_within modes k h)
+  subject (Variable k) h = lt-ltb k (length values) (place_within values k h)
+
+  layer_within : (x : Formula-F Bool) → fits_step modes values x ≡ true → within_step (length modes) (length values) x ≡ true
+  layer_within Formula-F.True h = h
+  layer_within Formula-F.False h = h
+  layer_within (Formula-F.Among k set) h = subject k (choice_positive (subject_value k modes values) set h)
+  layer_within (Formula-F.Not a) h = h
+  layer_within (Formula-F.All parts) h = (and_parts (nat_le 2 (length parts)) _ h).1
+  layer_within (Formula-F.Any parts) h = (and_parts (nat_le 2 (length parts)) _ h).1
+  layer_within (Formula-F.Implies a b) h = h
+  layer_within (Formula-F.Iff a b) h = h
+
+  pub fits_within : (f : Formula) → fits modes values f ≡ true → is_within (length modes) (length values) f ≡ true
+  fits_within = fits_meets modes values (within_step (length modes) (length values)) layer_within
 
 -- so a formula of a model can be tried at each of its states and worlds
 pub formula_within : (m : PlantModel) (s w : List ℕ) (f : Formula) → IsFormula m f → IsState m s → IsWorld m s w → IsTrue (is_within (length s) (length w) f)

@@ -40,6 +40,10 @@ pub record CompiledModel : Type 0 where
   pub order : List ℕ
   pub bounds : List ℕ
 
+-- the model with these prime implicants, this order and these bounds
+abbrev pub compiled_model : PlantModel → List (List (List Pair)) → List ℕ → List ℕ → CompiledModel
+compiled_model model ways order bounds = record { model = model; ways = ways; order = order; bounds = bounds }
+
 -- the model is accepted, and the other parts are what they are called
 pub record IsCompiled (b : CompiledModel) : Type 0 where
   pub accepted : Accepted b.model

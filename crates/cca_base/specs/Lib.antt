@@ -26,3 +26,4 @@ pub mod State
 pub mod Steps
 pub mod Successors
 pub mod Trace
+pub mod Coded

@@ -89,7 +89,7 @@ abbrev pub MendsAtOnce : List Move → Type 0
 MendsAtOnce moves = (c mode next : ℕ) → IsNext moves c mode next → is_broken moves c next ≡ false
 
 -- all repairs of a mode lead to one mode, and no mode stands in its chain twice; in the first version no next mode is broken.
--- Of the moves only repairs lead into a broken mode or leave one
+-- Of the moves only repairs lead into a broken mode or leave one; failures may do both
 pub record RepairsFit (version : ℕ) (moves : List Move) : Type 0 where
   pub one_target : (c mode a b : ℕ) → IsNext moves c mode a → IsNext moves c mode b → a ≡ b
   pub no_cycle : (c mode n : ℕ) → RepairChain moves c mode mode (suc n) → ⊥

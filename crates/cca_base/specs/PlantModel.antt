@@ -15,3 +15,15 @@ pub record PlantModel : Type 0 where
   pub commands : List (List ℕ)
   pub moves : List Move
   pub failures : List Failure
+
+-- the model of these parts
+abbrev pub plant_model : ℕ → List Component → List Variable → List Formula → List (List ℕ) → List Move → List Failure → PlantModel
+plant_model version components variables rules commands moves failures = record {
+  version = version;
+  components = components;
+  variables = variables;
+  rules = rules;
+  commands = commands;
+  moves = moves;
+  failures = failures;
+}

@@ -1,7 +1,7 @@
 //! What is compiled from an accepted model.
 
 ghost use Rattle.std.specs.Prelude.{◌≡◌, ◌<◌, All, length, slice_index};
-ghost use Rattle.cca_base.specs.Accepted.{IsCompiled};
+ghost use Rattle.cca_base.specs.Accepted.{IsCompiled, compiled_model};
 ghost use Rattle.cca_base.specs.Bounds.{stated_number};
 ghost use Rattle.cca_base.specs.Cube.{IsCube};
 
@@ -20,30 +20,19 @@ pub struct Compiled {
 }
 
 impl std::marker::Model for Compiled {
-    ghost use Rattle.cca_base.specs.Accepted.{CompiledModel};
+    ghost use Rattle.cca_base.specs.Accepted.{CompiledModel, compiled_model};
 
     ghost Value = { CompiledModel };
 
-    ghost use Rattle.cca_base.specs.contracts.formula.Formula as formula;
-    ghost use Rattle.std.specs.Coded.{codes};
+    ghost use Rattle.cca_base.specs.Coded.{model_codes};
 
-    ghost coded = { Prim.hlevel (codes, formula.the_row.coded) };
+    ghost coded = { Prim.hlevel model_codes };
 
     ghost use Rattle.cca_base.specs.Accepted.{IsCompiled};
 
-    ghost view = { λ c. record {
-      model = c.model;
-      ways = c.ways;
-      order = c.order;
-      bounds = c.bounds;
-    } };
+    ghost view = { λ c. compiled_model c.model c.ways c.order c.bounds };
 
-    ghost invariant = { λ c. IsCompiled (record {
-      model = c.model;
-      ways = c.ways;
-      order = c.order;
-      bounds = c.bounds;
-    }) };
+    ghost invariant = { λ c. IsCompiled (compiled_model c.model c.ways c.order c.bounds) };
 }
 
 impl Compiled {
@@ -54,14 +43,8 @@ impl Compiled {
         order: List<u16>,
         bounds: List<u64>,
     ) -> Compiled
-        requires { IsCompiled (record {
-          model = model;
-          ways = ways;
-          order = order;
-          bounds =
-              bounds;
-        }) }
-        ensures { result ≡ record { model = model; ways = ways; order = order; bounds = bounds } }
+        requires { IsCompiled (compiled_model model ways order bounds) }
+        ensures { result ≡ compiled_model model ways order bounds }
     {
         Compiled {
             model,

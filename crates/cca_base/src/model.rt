@@ -73,36 +73,21 @@ pub struct Model {
 }
 
 impl std::marker::Model for Model {
-    ghost use Rattle.cca_base.specs.PlantModel.{PlantModel};
+    ghost use Rattle.cca_base.specs.PlantModel.{PlantModel, plant_model};
 
     ghost Value = { PlantModel };
 
-    ghost use Rattle.cca_base.specs.contracts.formula.Formula as formula;
-    ghost use Rattle.std.specs.Coded.{codes};
+    ghost use Rattle.cca_base.specs.Coded.{model_codes};
 
-    ghost coded = { Prim.hlevel (codes, formula.the_row.coded) };
+    ghost coded = { Prim.hlevel model_codes };
 
     ghost use Rattle.cca_base.specs.Model.{WellFormed};
 
-    ghost view = { λ m. record {
-      version = m.version;
-      components = m.components;
-      variables = m.variables;
-      rules = m.rules;
-      commands = m.commands;
-      moves = m.moves;
-      failures = m.failures;
-    } };
+    ghost view = { λ m.
+        plant_model m.version m.components m.variables m.rules m.commands m.moves m.failures };
 
-    ghost invariant = { λ m. WellFormed (record {
-      version = m.version;
-      components = m.components;
-      variables = m.variables;
-      rules = m.rules;
-      commands = m.commands;
-      moves = m.moves;
-      failures = m.failures;
-    }) };
+    ghost invariant = { λ m. WellFormed
+        (plant_model m.version m.components m.variables m.rules m.commands m.moves m.failures) };
 }
 
 impl Model {

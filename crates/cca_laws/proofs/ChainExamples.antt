@@ -1,19 +1,18 @@
 -- The unit that is power-cycled and reset, and what no version allows beside it.
-use Rattle.std.proofs.Common.{◌≡◌, ◌+◌, ◌⊎◌, ℕ, zero, suc, false, inl, inr, List, [], ◌∷◌, Some, Contains, slice_index, refl, sym, ap, subst, ◌∙◌, arith}
-use Rattle.std.specs.Prelude.{slice_get, IsTrue, codes}
+use Rattle.std.proofs.Common.{◌≡◌, ◌+◌, ◌⊎◌, ℕ, zero, suc, true, false, inl, inr, List, [], ◌∷◌, Contains, slice_index, refl, sym, ap, subst, ◌∙◌, arith}
+use Rattle.std.specs.Prelude.{IsTrue}
 use Rattle.std.proofs.lemmas.Bool.{false≢true}
-use Rattle.std.proofs.lemmas.List.Elements.{All-nil, All-contains}
-use Rattle.std.proofs.lemmas.Option.{same_Some, none-some}
-use Rattle.cca_base.specs.declared.model.Variable.{Variable}
+use Rattle.std.proofs.lemmas.List.Elements.{All-nil}
 use Rattle.cca_base.specs.declared.model.Move.{Move}
-use Rattle.cca_base.proofs.NextModes.{repair_parts, of_chain_sound}
-use Rattle.cca_base.specs.Model.{WellFormed, AreChoices, IsComponent, IsFormula, IsMove, IsFailure, IsNext, IsMended, IsInChain, RepairChain, is_broken, IsComplete, names_of}
+use Rattle.cca_base.proofs.NextModes.{repair_of, repair_parts, of_chain_sound}
+use Rattle.cca_base.specs.Model.{WellFormed, IsFormula, IsNext, IsMended, IsInChain, RepairChain, is_broken, RepairsFit}
 use Rattle.cca_base.specs.Repairs.{Mending}
-use Rattle.cca_laws.proofs.Tiny.{one_at, two_at, below_one}
-use Rattle.cca_laws.proofs.SmallModels.{are_names, are_choices, own_fit, own_first_use}
+use Rattle.cca_laws.proofs.Tiny.{two_at, below_one}
+use Rattle.cca_laws.proofs.SmallModels.{small_fits, failures_fit, own_used}
 use Rattle.cca_laws.proofs.EdgeExamples.{always_fits}
 use Rattle.cca_laws.proofs.FreeMoves.{free_step}
-use Rattle.cca_laws.specs.ChainExamples.{power_move, reset_move, unit, loop_move, stay_move, short_move, break_move, leave_move, UnitIsWellFormed, OnlyInSecond, NextIsLatched, MendedIsOk, OkHasNoMended, ChainOfHung, MendingsOfHung, MendingsOfLatched, MendingsOfOk, TwoCommandsMend, NoChainGoesRound, NoRepairStays, OneNextMode, OnlyRepairsEnter, OnlyRepairsLeave}
+use Rattle.cca_laws.specs.Examples.{free_repair}
+use Rattle.cca_laws.specs.ChainExamples.{power_move, reset_move, unit, UnitIsWellFormed, OnlyInSecond, NextIsLatched, MendedIsOk, OkHasNoMended, ChainOfHung, MendingsOfHung, MendingsOfLatched, MendingsOfOk, TwoCommandsMend, NoChainGoesRound, NoRepairStays, OneNextMode, OnlyRepairsEnter, OnlyRepairsLeave}
 
 -- ---- next modes
 
@@ -46,11 +45,15 @@ after_latched c next h = elim (link c 1 next h h.of_model).1 [
   | inr latched ↦ sym latched.1
 ]
 
+-- a repair of the list leads from its source to its target
+next_of : (moves : List Move) (x : Move) → Contains moves x → x.repair ≡ true → IsNext moves x.component x.source x.target
+next_of moves x among repair = record { repair = x; of_model = among; mends = repair_of x.component x.source x repair refl refl; target = refl }
+
 power_next : IsNext unit.moves 0 2 1
-power_next = record { repair = power_move; of_model = (0, omega arith, refl); mends = refl; target = refl }
+power_next = next_of unit.moves power_move (0, omega arith, refl) refl
 
 reset_next : IsNext unit.moves 0 1 0
-reset_next = record { repair = reset_move; of_model = (1, omega arith, refl); mends = refl; target = refl }
+reset_next = next_of unit.moves reset_move (1, omega arith, refl) refl
 
 pub next_is_latched : NextIsLatched
 next_is_latched mode = (after_hung 0 mode, λ same. subst (IsNext unit.moves 0 2) (sym same) power_next)
@@ -149,11 +152,6 @@ mendings_of_ok s = (
 
 -- ---- the model
 
-own_command : (i : ℕ) (move : Move) → slice_get unit.moves i ≡ Some move → i ≡ move.command
-own_command zero move e = ap (λ (y : Move). y.command) (same_Some power_move move e)
-own_command (suc zero) move e = ap (λ (y : Move). y.command) (same_Some reset_move move e)
-own_command (suc (suc i)) move e = absurd (none-some move e)
-
 -- a chain goes down, from hung to latched to ok
 chain_falls : (c from to n : ℕ) → RepairChain unit.moves c from to n → to + n ≡ from
 chain_falls c from to zero e = omega (arith, e)
@@ -170,38 +168,21 @@ one_target c mode a b p q =
     let other = chain_falls c mode b 1 (b, q, refl) in
     omega (arith, first, other)
 
-well_formed : WellFormed unit
-well_formed = record {
-  version = inr refl;
-  limits = record { components = omega arith; variables = omega arith; rules = omega arith; moves = omega arith; failures = omega arith };
-  names = are_names (names_of unit) refl refl;
-  command_names = are_names unit.commands refl refl;
-  components = one_at IsComponent (record { name = codes "dev"; modes = codes "ok" ∷ codes "latched" ∷ codes "hung" ∷ []; start = 2 })
-      (record { modes = are_choices (codes "ok" ∷ codes "latched" ∷ codes "hung" ∷ []) refl refl (omega arith) (omega arith); start = omega arith });
-  variables = All-nil (λ (v : Variable). AreChoices v.values);
-  rules = All-nil (IsFormula unit);
-  moves = two_at (IsMove unit) power_move reset_move
-      (record { source = omega arith; target = omega arith; command = omega arith; guard = always_fits unit })
-      (record { source = omega arith; target = omega arith; command = omega arith; guard = always_fits unit });
-  failures = All-nil (IsFailure unit);
-  repairs = record {
-    one_target = one_target;
-    no_cycle = λ c mode n p. let falls = chain_falls c mode mode (suc n) p in omega (arith, falls);
-    at_once = λ first. absurd (omega (arith, first));
-    only_repairs_enter = two_at (λ (move : Move). IsTrue (is_broken unit.moves move.component move.target) → IsTrue move.repair) power_move reset_move (λ e. refl) (λ e. refl);
-    only_repairs_leave = two_at (λ (move : Move). IsTrue (is_broken unit.moves move.component move.source) → IsTrue move.repair) power_move reset_move (λ e. refl) (λ e. refl);
-  };
-  commands = own_fit unit.moves own_command;
-  first_use = own_first_use unit.moves own_command;
+repairs_fit : RepairsFit 2 unit.moves
+repairs_fit = record {
+  one_target = one_target;
+  no_cycle = λ c mode n p. let falls = chain_falls c mode mode (suc n) p in omega (arith, falls);
+  at_once = λ first. absurd (omega (arith, first));
+  only_repairs_enter = two_at (λ (move : Move). IsTrue (is_broken unit.moves move.component move.target) → IsTrue move.repair) power_move reset_move (λ e. refl) (λ e. refl);
+  only_repairs_leave = two_at (λ (move : Move). IsTrue (is_broken unit.moves move.component move.source) → IsTrue move.repair) power_move reset_move (λ e. refl) (λ e. refl);
 }
 
-used : IsComplete unit
-used zero h = refl
-used (suc zero) h = refl
-used (suc (suc k)) h = absurd (omega arith)
+well_formed : WellFormed unit
+well_formed = small_fits unit refl (inr refl) (All-nil (IsFormula unit))
+    (two_at (λ (move : Move). IsFormula unit move.guard) power_move reset_move (always_fits unit) (always_fits unit)) (failures_fit unit refl) repairs_fit
 
 pub unit_is_well_formed : UnitIsWellFormed
-unit_is_well_formed = (well_formed, used)
+unit_is_well_formed = (well_formed, own_used unit.moves refl)
 
 pub only_in_second : OnlyInSecond
 only_in_second version h = elim h.version [
@@ -220,33 +201,29 @@ two_commands_mend = (
 
 -- ---- what no version allows
 
+-- the moves of the unit and one more
+abbrev with_repairs : Move → List Move
+with_repairs x = power_move ∷ reset_move ∷ x ∷ []
+
 pub no_chain_goes_round : NoChainGoesRound
 no_chain_goes_round version h =
-    let moves : List Move = power_move ∷ reset_move ∷ loop_move ∷ [] in
-    let power : IsNext moves 0 2 1 = record { repair = power_move; of_model = (0, omega arith, refl); mends = refl; target = refl } in
-    let reset : IsNext moves 0 1 0 = record { repair = reset_move; of_model = (1, omega arith, refl); mends = refl; target = refl } in
-    let loop : IsNext moves 0 0 2 = record { repair = loop_move; of_model = (2, omega arith, refl); mends = refl; target = refl } in
-    h.no_cycle 0 2 2 (1, power, (0, reset, (2, loop, refl)))
+    let loop : Move = free_repair 0 0 2 2 in
+    h.no_cycle 0 2 2 (
+      1,
+      next_of (with_repairs loop) power_move (0, omega arith, refl) refl,
+      (0, next_of (with_repairs loop) reset_move (1, omega arith, refl) refl, (2, next_of (with_repairs loop) loop (2, omega arith, refl) refl, refl)),
+    )
 
 pub no_repair_stays : NoRepairStays
-no_repair_stays version h =
-    let moves : List Move = stay_move ∷ [] in
-    let stay : IsNext moves 0 2 2 = record { repair = stay_move; of_model = (0, omega arith, refl); mends = refl; target = refl } in
-    h.no_cycle 0 2 0 (2, stay, refl)
+no_repair_stays version h = let stay : Move = free_repair 0 2 2 0 in h.no_cycle 0 2 0 (2, next_of (stay ∷ []) stay (0, omega arith, refl) refl, refl)
 
 pub one_next_mode : OneNextMode
 one_next_mode version h =
-    let moves : List Move = power_move ∷ reset_move ∷ short_move ∷ [] in
-    let power : IsNext moves 0 2 1 = record { repair = power_move; of_model = (0, omega arith, refl); mends = refl; target = refl } in
-    let short : IsNext moves 0 2 0 = record { repair = short_move; of_model = (2, omega arith, refl); mends = refl; target = refl } in
-    omega (arith, h.one_target 0 2 1 0 power short)
+    let short : Move = free_repair 0 2 0 2 in
+    omega (arith, h.one_target 0 2 1 0 (next_of (with_repairs short) power_move (0, omega arith, refl) refl) (next_of (with_repairs short) short (2, omega arith, refl) refl))
 
 pub only_repairs_enter : OnlyRepairsEnter
-only_repairs_enter version h =
-    let moves : List Move = power_move ∷ reset_move ∷ break_move ∷ [] in
-    false≢true (All-contains (λ (move : Move). IsTrue (is_broken moves move.component move.target) → IsTrue move.repair) moves break_move h.only_repairs_enter (2, omega arith, refl) refl)
+only_repairs_enter version h = false≢true (h.only_repairs_enter 2 power_move (omega arith) refl)
 
 pub only_repairs_leave : OnlyRepairsLeave
-only_repairs_leave version h =
-    let moves : List Move = power_move ∷ reset_move ∷ leave_move ∷ [] in
-    false≢true (All-contains (λ (move : Move). IsTrue (is_broken moves move.component move.source) → IsTrue move.repair) moves leave_move h.only_repairs_leave (2, omega arith, refl) refl)
+only_repairs_leave version h = false≢true (h.only_repairs_leave 2 power_move (omega arith) refl)

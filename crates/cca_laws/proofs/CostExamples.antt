@@ -1,9 +1,9 @@
 -- Costs of small models.
-use Rattle.std.proofs.Common.{◌≡◌, ◌≢◌, ◌<◌, ◌≤◌, ◌⊎◌, ℕ, ◌+◌, ◌*◌, zero, suc, Bool, inl, inr, true, not, List, [], ◌∷◌, length, sum, Some, None, refl, sym, ap, subst, ◌∙◌, arith}
-use Rattle.std.specs.Prelude.{slice_get, slice_index, slice_set, IsTrue, if◌then◌else◌}
+use Rattle.std.proofs.Common.{◌≡◌, ◌==◌, ◌<◌, ◌≤◌, ◌⊎◌, ℕ, ◌+◌, ◌*◌, zero, suc, Bool, inl, inr, true, not, List, [], ◌∷◌, length, sum, Some, None, refl, sym, ap, subst, ◌∙◌, arith}
+use Rattle.std.specs.Prelude.{slice_get, slice_index, slice_set, IsTrue, nat_le, if◌then◌else◌}
 use Rattle.std.specs.List.{list_all, list_any}
-use Rattle.std.proofs.lemmas.Bool.{false≢true}
-use Rattle.std.proofs.lemmas.Option.{same_Some, none-some}
+use Rattle.std.proofs.lemmas.Bool.{false≢true, eqb-true, leb-true}
+use Rattle.std.proofs.lemmas.Option.{same_Some}
 use Rattle.list_laws.proofs.Places.{value_at}
 use Rattle.cca_base.specs.declared.cube.Pair.{Pair}
 use Rattle.cca_base.specs.declared.model.Move.{Move}
@@ -13,20 +13,15 @@ use Rattle.cca_base.specs.Formula.{truth}
 use Rattle.cca_base.specs.Sets.{has}
 use Rattle.cca_base.specs.Model.{HasMode}
 use Rattle.cca_base.specs.State.{IsState, HasValue}
-use Rattle.cca_base.specs.Successors.{Costs, Nominal, IsCommanded, ChangeCosts, HasFailure}
+use Rattle.cca_base.specs.Successors.{Nominal, IsCommanded, ChangeCosts, HasFailure}
 use Rattle.cca_base.specs.Estimates.{Consistent, IsEarlier}
 use Rattle.cca_laws.proofs.Tiny.{one_at, below_one, below_two, below_three}
+use Rattle.cca_laws.proofs.SmallCosts.{nominal_costs, failure_costs, each_failure, stays, unmoved, part_from_start, costs_of_two}
 use Rattle.cca_laws.proofs.FormulaExamples.{truth_mode, truth_iff, truth_both, truth_either}
 use Rattle.cca_laws.proofs.ValveExamples.{truth_flow, open_is_the_one}
 use Rattle.cca_laws.specs.FormulaExamples.{mode_in, both, either}
 use Rattle.cca_laws.specs.ValveExamples.{flow_in, valve_model, open_move}
 use Rattle.cca_laws.specs.CostExamples.{falling_open, staying_shut, stuck_twice, poor_rule, three, OpeningIsFree, StayingShutCosts, StandingIsFree, LesserFailureCounts, TwoForOne}
-
-pub sum_two : (parts : List ℕ) → length parts ≡ 2 → sum parts ≡ slice_index parts 0 + slice_index parts 1
-sum_two [] e = absurd (omega arith)
-sum_two (x ∷ []) e = absurd (omega arith)
-sum_two (x ∷ y ∷ []) e = omega arith
-sum_two (x ∷ y ∷ z ∷ parts) e = absurd (omega arith)
 
 sum_three : (parts : List ℕ) → length parts ≡ 3 → sum parts ≡ slice_index parts 0 + slice_index parts 1 + slice_index parts 2
 sum_three [] e = absurd (omega arith)
@@ -34,10 +29,6 @@ sum_three (x ∷ []) e = absurd (omega arith)
 sum_three (x ∷ y ∷ []) e = absurd (omega arith)
 sum_three (x ∷ y ∷ z ∷ []) e = omega arith
 sum_three (x ∷ y ∷ z ∷ u ∷ parts) e = absurd (omega arith)
-
--- to go to the nominal mode is free
-free : (m : PlantModel) (c from to cost : ℕ) → ChangeCosts m c from to to cost → cost ≡ 0
-free m c from to cost h = elim h [ inl x ↦ x.1 | inr x ↦ absurd (x.0 refl) ]
 
 module _ (failure : Failure) where
   abbrev failing : PlantModel
@@ -55,142 +46,31 @@ module _ (failure : Failure) where
     | inr x ↦ absurd (x.0 open_move commanded)
   ]
 
--- without a command nothing moves
-pub unmoved : (m : PlantModel) (s nominal : List ℕ) → Nominal m s None nominal → nominal ≡ s
-unmoved m s nominal h = elim h [ inl x ↦ absurd (none-some x.0.command x.1.command) | inr x ↦ x.1 ]
-
-opening_costs : Costs falling_open (1 ∷ 0 ∷ []) (Some 2) (1 ∷ 1 ∷ []) 0
-opening_costs = record {
-  state = two_modes (record { component = 1; source = 0; target = 1; cost = 3 }) 1 (omega arith);
-  nominal = 1 ∷ 1 ∷ [];
-  is_nominal = inl (open_move, commanded (record { component = 1; source = 0; target = 1; cost = 3 }), refl);
-  parts = 0 ∷ 0 ∷ [];
-  full = refl;
-  each = below_two (λ c. ChangeCosts falling_open c (slice_index (1 ∷ 0 ∷ []) c) (slice_index (1 ∷ 1 ∷ []) c) (slice_index (1 ∷ 1 ∷ []) c) (slice_index (0 ∷ 0 ∷ []) c))
-      (inl (refl, refl)) (inl (refl, refl));
-  total = refl;
-}
+abbrev opening_by_itself : Failure
+opening_by_itself = record { component = 1; source = 0; target = 1; cost = 3 }
 
 pub opening_is_free : OpeningIsFree
-opening_is_free cost = (
-  λ h.
-      let e : h.nominal ≡ 1 ∷ 1 ∷ [] = opened (record { component = 1; source = 0; target = 1; cost = 3 }) h.nominal h.is_nominal in
-      let a : slice_index h.parts 0 ≡ 0 =
-      free falling_open 0 1 1 (slice_index h.parts 0) (subst (λ (n : List ℕ). ChangeCosts falling_open 0 1 (slice_index n 0) 1 (slice_index h.parts 0)) e (h.each 0 (omega arith))) in
-      let b : slice_index h.parts 1 ≡ 0 =
-      free falling_open 1 0 1 (slice_index h.parts 1) (subst (λ (n : List ℕ). ChangeCosts falling_open 1 0 (slice_index n 1) 1 (slice_index h.parts 1)) e (h.each 1 (omega arith))) in
-      h.total ∙ sum_two h.parts h.full ∙ omega arith,
-  λ e. subst (Costs falling_open (1 ∷ 0 ∷ []) (Some 2) (1 ∷ 1 ∷ [])) (sym e) opening_costs,
-)
+opening_is_free = costs_of_two falling_open (Some 2) (1 ∷ 0 ∷ []) (1 ∷ 1 ∷ []) (1 ∷ 1 ∷ []) 0 0 (two_modes opening_by_itself 1 (omega arith)) refl
+    (inl (open_move, commanded opening_by_itself, refl)) (opened opening_by_itself) (nominal_costs falling_open 0 1 1) (nominal_costs falling_open 1 0 1)
 
-shut_cost : (cost : ℕ) → HasFailure staying_shut 1 0 0 cost → 3 ≡ cost
-shut_cost cost (zero, h, e) = absurd (omega (arith, ap (λ (f : Failure). f.target) e))
-shut_cost cost (suc zero, h, e) = absurd (omega (arith, ap (λ (f : Failure). f.target) e))
-shut_cost cost (suc (suc zero), h, e) = ap (λ (f : Failure). f.cost) e
-shut_cost cost (suc (suc (suc k)), h, e) = absurd (omega arith)
-
-not_nominal : (cost : ℕ) → ChangeCosts staying_shut 1 0 1 0 cost → cost ≡ 3
-not_nominal cost h = elim h [ inl x ↦ absurd (omega (arith, x.0)) | inr x ↦ sym (shut_cost cost x.1) ]
-
-zero_is_not_one : ◌≢◌ {A = ℕ} 0 1
-zero_is_not_one e = absurd (omega arith)
-
-shut_costs : Costs staying_shut (1 ∷ 0 ∷ []) (Some 2) (1 ∷ 0 ∷ []) 3
-shut_costs = record {
-  state = two_modes (record { component = 1; source = 0; target = 0; cost = 3 }) 0 (omega arith);
-  nominal = 1 ∷ 1 ∷ [];
-  is_nominal = inl (open_move, commanded (record { component = 1; source = 0; target = 0; cost = 3 }), refl);
-  parts = 0 ∷ 3 ∷ [];
-  full = refl;
-  each = below_two (λ c. ChangeCosts staying_shut c (slice_index (1 ∷ 0 ∷ []) c) (slice_index (1 ∷ 1 ∷ []) c) (slice_index (1 ∷ 0 ∷ []) c) (slice_index (0 ∷ 3 ∷ []) c))
-      (inl (refl, refl)) (inr (zero_is_not_one, (2, omega arith, refl), λ other h. omega (arith, shut_cost other h)));
-  total = refl;
-}
+abbrev staying_by_itself : Failure
+staying_by_itself = record { component = 1; source = 0; target = 0; cost = 3 }
 
 pub staying_shut_costs : StayingShutCosts
-staying_shut_costs cost = (
-  λ h.
-      let e : h.nominal ≡ 1 ∷ 1 ∷ [] = opened (record { component = 1; source = 0; target = 0; cost = 3 }) h.nominal h.is_nominal in
-      let a : slice_index h.parts 0 ≡ 0 =
-      free staying_shut 0 1 1 (slice_index h.parts 0) (subst (λ (n : List ℕ). ChangeCosts staying_shut 0 1 (slice_index n 0) 1 (slice_index h.parts 0)) e (h.each 0 (omega arith))) in
-      let b : slice_index h.parts 1 ≡ 3 =
-      not_nominal (slice_index h.parts 1) (subst (λ (n : List ℕ). ChangeCosts staying_shut 1 0 (slice_index n 1) 0 (slice_index h.parts 1)) e (h.each 1 (omega arith))) in
-      h.total ∙ sum_two h.parts h.full ∙ omega arith,
-  λ e. subst (Costs staying_shut (1 ∷ 0 ∷ []) (Some 2) (1 ∷ 0 ∷ [])) (sym e) shut_costs,
-)
-
-standing_costs : Costs staying_shut (1 ∷ 0 ∷ []) None (1 ∷ 0 ∷ []) 0
-standing_costs = record {
-  state = two_modes (record { component = 1; source = 0; target = 0; cost = 3 }) 0 (omega arith);
-  nominal = 1 ∷ 0 ∷ [];
-  is_nominal = inr (λ move h. none-some move.command h.command, refl);
-  parts = 0 ∷ 0 ∷ [];
-  full = refl;
-  each = below_two (λ c. ChangeCosts staying_shut c (slice_index (1 ∷ 0 ∷ []) c) (slice_index (1 ∷ 0 ∷ []) c) (slice_index (1 ∷ 0 ∷ []) c) (slice_index (0 ∷ 0 ∷ []) c))
-      (inl (refl, refl)) (inl (refl, refl));
-  total = refl;
-}
+staying_shut_costs = costs_of_two staying_shut (Some 2) (1 ∷ 0 ∷ []) (1 ∷ 1 ∷ []) (1 ∷ 0 ∷ []) 0 3 (two_modes staying_by_itself 0 (omega arith)) refl
+    (inl (open_move, commanded staying_by_itself, refl)) (opened staying_by_itself) (nominal_costs staying_shut 0 1 1)
+    (failure_costs staying_shut 1 0 1 0 3 (λ e. omega (arith, e)) (2, omega arith, refl) (λ other h. leb-true 3 other (each_failure staying_shut (nat_le 3) 1 0 0 refl other h)))
 
 pub standing_is_free : StandingIsFree
-standing_is_free cost = (
-  λ h.
-      let e : h.nominal ≡ 1 ∷ 0 ∷ [] = unmoved staying_shut (1 ∷ 0 ∷ []) h.nominal h.is_nominal in
-      let a : slice_index h.parts 0 ≡ 0 =
-      free staying_shut 0 1 1 (slice_index h.parts 0) (subst (λ (n : List ℕ). ChangeCosts staying_shut 0 1 (slice_index n 0) 1 (slice_index h.parts 0)) e (h.each 0 (omega arith))) in
-      let b : slice_index h.parts 1 ≡ 0 =
-      free staying_shut 1 0 0 (slice_index h.parts 1) (subst (λ (n : List ℕ). ChangeCosts staying_shut 1 0 (slice_index n 1) 0 (slice_index h.parts 1)) e (h.each 1 (omega arith))) in
-      h.total ∙ sum_two h.parts h.full ∙ omega arith,
-  λ e. subst (Costs staying_shut (1 ∷ 0 ∷ []) None (1 ∷ 0 ∷ [])) (sym e) standing_costs,
-)
+standing_is_free = costs_of_two staying_shut None (1 ∷ 0 ∷ []) (1 ∷ 0 ∷ []) (1 ∷ 0 ∷ []) 0 0 (two_modes staying_by_itself 0 (omega arith)) refl
+    (stays staying_shut (1 ∷ 0 ∷ [])) (unmoved staying_shut (1 ∷ 0 ∷ [])) (nominal_costs staying_shut 0 1 1) (nominal_costs staying_shut 1 0 0)
 
--- ---- two failures between the same modes
-
-stuck_cost : (cost : ℕ) → ChangeCosts stuck_twice 1 0 0 2 cost → cost ≡ 4
-stuck_cost cost (inl x) = absurd (omega (arith, x.0))
-stuck_cost cost (inr (other_mode, (zero, h, e), least)) = sym (ap (λ (f : Failure). f.cost) e)
-stuck_cost cost (inr (other_mode, (suc zero, h, e), least)) = absurd (omega (arith, ap (λ (f : Failure). f.source) e))
-stuck_cost cost (inr (other_mode, (suc (suc zero), h, e), least)) =
-    let dear : 7 ≡ cost = ap (λ (f : Failure). f.cost) e in
-    let cheaper : cost ≤ 4 = least 4 (0, omega arith, refl) in
-    absurd (omega (arith, dear, cheaper))
-stuck_cost cost (inr (other_mode, (suc (suc (suc k)), h, e), least)) = absurd (omega arith)
-
-least_stuck : (other : ℕ) → HasFailure stuck_twice 1 0 2 other → 4 ≤ other
-least_stuck other (zero, h, e) = omega (arith, ap (λ (f : Failure). f.cost) e)
-least_stuck other (suc zero, h, e) = absurd (omega (arith, ap (λ (f : Failure). f.source) e))
-least_stuck other (suc (suc zero), h, e) = omega (arith, ap (λ (f : Failure). f.cost) e)
-least_stuck other (suc (suc (suc k)), h, e) = absurd (omega arith)
-
-stuck_costs : Costs stuck_twice (0 ∷ 0 ∷ []) None (0 ∷ 2 ∷ []) 4
-stuck_costs = record {
-  state = record {
-    full = refl;
-    modes = below_two (λ c. HasMode stuck_twice c (slice_index (0 ∷ 2 ∷ []) c)) (omega arith) (omega arith);
-  };
-  nominal = 0 ∷ 0 ∷ [];
-  is_nominal = inr (λ move h. none-some move.command h.command, refl);
-  parts = 0 ∷ 4 ∷ [];
-  full = refl;
-  each = below_two (λ c. ChangeCosts stuck_twice c (slice_index (0 ∷ 0 ∷ []) c) (slice_index (0 ∷ 0 ∷ []) c) (slice_index (0 ∷ 2 ∷ []) c) (slice_index (0 ∷ 4 ∷ []) c))
-      (inl (refl, refl)) (inr (λ e. absurd (omega (arith, e)), (0, omega arith, refl), least_stuck));
-  total = refl;
-}
-
--- the cost is that of the component's change to the mode, where these are the nominal modes
-abbrev StuckFrom : ℕ → ℕ → ℕ → List ℕ → Type 0
-StuckFrom c to cost nominal = ChangeCosts stuck_twice c 0 (slice_index nominal c) to cost
-
+-- of two failures between the same modes the cheaper counts
 pub lesser_failure_counts : LesserFailureCounts
-lesser_failure_counts cost = (
-  λ h.
-      let e : h.nominal ≡ 0 ∷ 0 ∷ [] = unmoved stuck_twice (0 ∷ 0 ∷ []) h.nominal h.is_nominal in
-      let a : slice_index h.parts 0 ≡ 0 =
-      free stuck_twice 0 0 0 (slice_index h.parts 0) (subst (StuckFrom 0 0 (slice_index h.parts 0)) e (h.each 0 (omega arith))) in
-      let b : slice_index h.parts 1 ≡ 4 =
-      stuck_cost (slice_index h.parts 1) (subst (StuckFrom 1 2 (slice_index h.parts 1)) e (h.each 1 (omega arith))) in
-      h.total ∙ sum_two h.parts h.full ∙ omega arith,
-  λ e. subst (Costs stuck_twice (0 ∷ 0 ∷ []) None (0 ∷ 2 ∷ [])) (sym e) stuck_costs,
-)
+lesser_failure_counts = costs_of_two stuck_twice None (0 ∷ 0 ∷ []) (0 ∷ 0 ∷ []) (0 ∷ 2 ∷ []) 0 4
+    (record { full = refl; modes = below_two (λ c. HasMode stuck_twice c (slice_index (0 ∷ 2 ∷ []) c)) (omega arith) (omega arith) }) refl
+    (stays stuck_twice (0 ∷ 0 ∷ [])) (unmoved stuck_twice (0 ∷ 0 ∷ [])) (nominal_costs stuck_twice 0 0 0)
+    (failure_costs stuck_twice 1 0 0 2 4 (λ e. omega (arith, e)) (0, omega arith, refl) (λ other h. leb-true 4 other (each_failure stuck_twice (nat_le 4) 1 0 2 refl other h)))
 
 -- ---- the estimate
 
@@ -219,29 +99,14 @@ weigh a b zero more h k l e (inl x) = inl (omega (arith, x.0, x.1), omega (arith
 weigh a b zero more h k l e (inr x) = absurd (omega arith)
 weigh a b (suc c) more h k l e x = inr (omega arith)
 
--- each change from ok costs its failure
-pub change : (m : PlantModel) (c to cost n : ℕ) → to < 2 → ((k : ℕ) → HasFailure m c 0 1 k → k ≡ n) → ChangeCosts m c 0 0 to cost → cost ≡ n * to
-change m c zero cost n h only x = elim x [ inl y ↦ omega (arith, y.1) | inr y ↦ absurd (y.0 refl) ]
-change m c (suc zero) cost n h only x = elim x [ inl y ↦ absurd (omega (arith, y.0)) | inr y ↦ only cost y.1 ∙ omega arith ]
-change m c (suc (suc to)) cost n h only x = absurd (omega arith)
-
 p_cost : (k : ℕ) → HasFailure three 0 0 1 k → k ≡ 4
-p_cost k (zero, h, e) = sym (ap (λ (f : Failure). f.cost) e)
-p_cost k (suc zero, h, e) = absurd (omega (arith, ap (λ (f : Failure). f.component) e))
-p_cost k (suc (suc zero), h, e) = absurd (omega (arith, ap (λ (f : Failure). f.component) e))
-p_cost k (suc (suc (suc i)), h, e) = absurd (omega arith)
+p_cost k h = eqb-true k 4 (each_failure three (λ x. x == 4) 0 0 1 refl k h)
 
 q_cost : (k : ℕ) → HasFailure three 1 0 1 k → k ≡ 6
-q_cost k (zero, h, e) = absurd (omega (arith, ap (λ (f : Failure). f.component) e))
-q_cost k (suc zero, h, e) = sym (ap (λ (f : Failure). f.cost) e)
-q_cost k (suc (suc zero), h, e) = absurd (omega (arith, ap (λ (f : Failure). f.component) e))
-q_cost k (suc (suc (suc i)), h, e) = absurd (omega arith)
+q_cost k h = eqb-true k 6 (each_failure three (λ x. x == 6) 1 0 1 refl k h)
 
 r_cost : (k : ℕ) → HasFailure three 2 0 1 k → k ≡ 11
-r_cost k (zero, h, e) = absurd (omega (arith, ap (λ (f : Failure). f.component) e))
-r_cost k (suc zero, h, e) = absurd (omega (arith, ap (λ (f : Failure). f.component) e))
-r_cost k (suc (suc zero), h, e) = sym (ap (λ (f : Failure). f.cost) e)
-r_cost k (suc (suc (suc i)), h, e) = absurd (omega arith)
+r_cost k h = eqb-true k 11 (each_failure three (λ x. x == 11) 2 0 1 refl k h)
 
 three_of : (s : List ℕ) → length s ≡ 3 → s ≡ slice_index s 0 ∷ slice_index s 1 ∷ slice_index s 2 ∷ []
 three_of [] e = absurd (omega arith)
@@ -258,17 +123,14 @@ guessed other more h =
     let x : ℕ = slice_index other 0 in
     let y : ℕ = slice_index other 1 in
     let z : ℕ = slice_index other 2 in
-    let stays : h.costs.nominal ≡ 0 ∷ 0 ∷ 0 ∷ [] = unmoved three (0 ∷ 0 ∷ 0 ∷ []) h.costs.nominal h.costs.is_nominal in
     let full : length other ≡ 3 = h.costs.state.full in
     let lx : x < 2 = h.costs.state.modes 0 (omega arith) in
     let ly : y < 2 = h.costs.state.modes 1 (omega arith) in
     let lz : z < 2 = h.costs.state.modes 2 (omega arith) in
-    let px : slice_index h.costs.parts 0 ≡ 4 * x =
-    change three 0 x (slice_index h.costs.parts 0) 4 lx p_cost (subst (λ (n : List ℕ). ChangeCosts three 0 0 (slice_index n 0) x (slice_index h.costs.parts 0)) stays (h.costs.each 0 (omega arith))) in
-    let py : slice_index h.costs.parts 1 ≡ 6 * y =
-    change three 1 y (slice_index h.costs.parts 1) 6 ly q_cost (subst (λ (n : List ℕ). ChangeCosts three 1 0 (slice_index n 1) y (slice_index h.costs.parts 1)) stays (h.costs.each 1 (omega arith))) in
-    let pz : slice_index h.costs.parts 2 ≡ 11 * z =
-    change three 2 z (slice_index h.costs.parts 2) 11 lz r_cost (subst (λ (n : List ℕ). ChangeCosts three 2 0 (slice_index n 2) z (slice_index h.costs.parts 2)) stays (h.costs.each 2 (omega arith))) in
+    let part = part_from_start three (0 ∷ 0 ∷ 0 ∷ []) other more h.costs in
+    let px : slice_index h.costs.parts 0 ≡ 4 * x = part 0 4 (omega (arith, full)) refl lx p_cost in
+    let py : slice_index h.costs.parts 1 ≡ 6 * y = part 1 6 (omega (arith, full)) refl ly q_cost in
+    let pz : slice_index h.costs.parts 2 ≡ 11 * z = part 2 11 (omega (arith, full)) refl lz r_cost in
     let total : more ≡ 4 * x + 6 * y + 11 * z =
     h.costs.total ∙ sum_three h.costs.parts (h.costs.full ∙ full) ∙ omega arith in
     let seen : slice_index h.world 0 ≡ 1 = value_at h.world 0 1 (h.agrees 0 (record { item = 0; value = 0 }) (omega arith)) in
@@ -296,7 +158,7 @@ two_for_one = record {
     costs = record {
       state = record { full = refl; modes = below_three (λ c. HasMode three c (slice_index (1 ∷ 1 ∷ 0 ∷ []) c)) (omega arith) (omega arith) (omega arith) };
       nominal = 0 ∷ 0 ∷ 0 ∷ [];
-      is_nominal = inr (λ move h. none-some move.command h.command, refl);
+      is_nominal = stays three (0 ∷ 0 ∷ 0 ∷ []);
       parts = 4 ∷ 6 ∷ 0 ∷ [];
       full = refl;
       each = below_three (λ c. ChangeCosts three c (slice_index (0 ∷ 0 ∷ 0 ∷ []) c) (slice_index (0 ∷ 0 ∷ 0 ∷ []) c) (slice_index (1 ∷ 1 ∷ 0 ∷ []) c) (slice_index (4 ∷ 6 ∷ 0 ∷ []) c))

@@ -14,6 +14,7 @@ use Rattle.cca_laws.proofs.RightExamples.{observed, one_rises}
 use Rattle.cca_laws.specs.ValveExamples.{valve_model, flow_rule}
 use Rattle.cca_laws.specs.MirrorExamples.{some_flow}
 use Rattle.cca_laws.specs.MoreExamples.{right_moment}
+use Rattle.cca_laws.specs.CauseExamples.{open_wanted}
 use Rattle.cca_laws.specs.ExcuseExamples.{wrong_with_goal, wrong_second, driver_moment, driver_started, dear_moment, wrong_when_cleared, second_moment, stuck_moment, NewGoalIsNoExcuse, GoalBetweenIsNoExcuse, ClearIsNoExcuse, RightIsFree, LastEstimateIsWrong, PlantIsSeen}
 
 nothing_rises : IsRising []
@@ -74,7 +75,7 @@ pub last_estimate_is_wrong : LastEstimateIsWrong
 last_estimate_is_wrong ways order bounds h =
     not_off
     (h 1 (second_moment (0 ∷ 0 ∷ []) 0) refl (inr (0, driver_moment, refl, refl, refl, quiet))
-    ([], 0 ∷ [], observed driver_started refl nothing_rises, closed_world, agrees_with_none (0 ∷ []))).0
+    ([], 0 ∷ [], observed (driver_started open_wanted) refl nothing_rises, closed_world, agrees_with_none (0 ∷ []))).0
 
 not_open : ◌≡◌ {A = List ℕ} (1 ∷ 2 ∷ []) (1 ∷ 1 ∷ []) → ⊥
 not_open e = absurd cc

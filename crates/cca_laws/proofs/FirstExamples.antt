@@ -1,23 +1,21 @@
 -- What comes first.
-use Rattle.std.proofs.Common.{◌≡◌, ◌<◌, ◌≤◌, ◌⊎◌, ◌+◌, ◌*◌, ℕ, zero, suc, Bool, inl, inr, true, not, List, [], ◌∷◌, length, Some, None, refl, sym, ap, subst, ◌∙◌, arith}
+use Rattle.std.proofs.Common.{◌≡◌, ◌==◌, ◌<◌, ◌≤◌, ◌⊎◌, ◌+◌, ◌*◌, ℕ, zero, suc, Bool, inl, inr, true, not, List, [], ◌∷◌, length, Some, None, refl, sym, ap, subst, ◌∙◌, arith}
 use Rattle.std.specs.Prelude.{slice_get, slice_index, IsTrue, if◌then◌else◌}
 use Rattle.std.specs.List.{list_all}
-use Rattle.std.proofs.lemmas.Bool.{false≢true}
-use Rattle.std.proofs.lemmas.Option.{none-some}
+use Rattle.std.proofs.lemmas.Bool.{false≢true, eqb-true}
 use Rattle.list_laws.proofs.Places.{value_at}
 use Rattle.cca_base.specs.declared.cube.Pair.{Pair}
-use Rattle.cca_base.specs.declared.model.Failure.{Failure}
 use Rattle.cca_base.specs.Formula.{truth}
 use Rattle.cca_base.specs.Sets.{has}
 use Rattle.cca_base.specs.Model.{HasMode}
 use Rattle.cca_base.specs.State.{HasValue, Extends}
-use Rattle.cca_base.specs.Successors.{ChangeCosts, HasFailure}
+use Rattle.cca_base.specs.Successors.{HasFailure}
 use Rattle.cca_base.specs.Estimates.{Consistent, IsEarlier}
 use Rattle.cca_laws.proofs.Tiny.{one_at, below_one, below_two}
 use Rattle.cca_laws.proofs.EstimateLaws.{one_estimate}
 use Rattle.cca_laws.proofs.FormulaExamples.{truth_mode, truth_iff, truth_both}
 use Rattle.cca_laws.proofs.ValveExamples.{truth_flow}
-use Rattle.cca_laws.proofs.CostExamples.{sum_two, unmoved, change}
+use Rattle.cca_laws.proofs.SmallCosts.{sum_two, nominal_costs, failure_costs, each_failure, stays, unmoved, part_from_start, costs_of_two}
 use Rattle.cca_laws.proofs.ObservedExamples.{world}
 use Rattle.cca_laws.specs.FormulaExamples.{mode_in, both}
 use Rattle.cca_laws.specs.ValveExamples.{flow_in}
@@ -65,14 +63,10 @@ pipe_is s w =
     truth_iff s w (flow_in 2) (both (mode_in 0 1) (mode_in 1 1)) _ _ (truth_flow s w 2) (truth_both s w (mode_in 0 1) (mode_in 1 1) _ _ (truth_mode s w 0 1) (truth_mode s w 1 1))
 
 pump_cost : (k : ℕ) → HasFailure pumping 0 0 1 k → k ≡ 5
-pump_cost k (zero, h, e) = sym (ap (λ (f : Failure). f.cost) e)
-pump_cost k (suc zero, h, e) = absurd (omega (arith, ap (λ (f : Failure). f.component) e))
-pump_cost k (suc (suc i), h, e) = absurd (omega arith)
+pump_cost k h = eqb-true k 5 (each_failure pumping (λ x. x == 5) 0 0 1 refl k h)
 
 pipe_cost : (k : ℕ) → HasFailure pumping 1 0 1 k → k ≡ 5
-pipe_cost k (zero, h, e) = absurd (omega (arith, ap (λ (f : Failure). f.component) e))
-pipe_cost k (suc zero, h, e) = sym (ap (λ (f : Failure). f.cost) e)
-pipe_cost k (suc (suc i), h, e) = absurd (omega arith)
+pipe_cost k h = eqb-true k 5 (each_failure pumping (λ x. x == 5) 1 0 1 refl k h)
 
 -- where nothing flows one of them has failed; at cost 5 only one
 one_failed : (a b cost : ℕ) → a < 2 → b < 2 → cost ≡ 5 * a + 5 * b → not (flows a b) ≡ true
@@ -89,14 +83,12 @@ guessed : (other : List ℕ) (cost : ℕ) → Consistent pumping (0 ∷ 0 ∷ []
 guessed other cost h =
     let a : ℕ = slice_index other 0 in
     let b : ℕ = slice_index other 1 in
-    let stays : h.costs.nominal ≡ 0 ∷ 0 ∷ [] = unmoved pumping (0 ∷ 0 ∷ []) h.costs.nominal h.costs.is_nominal in
     let full : length other ≡ 2 = h.costs.state.full in
     let la : a < 2 = h.costs.state.modes 0 (omega arith) in
     let lb : b < 2 = h.costs.state.modes 1 (omega arith) in
-    let pa : slice_index h.costs.parts 0 ≡ 5 * a =
-    change pumping 0 a (slice_index h.costs.parts 0) 5 la pump_cost (subst (λ (n : List ℕ). ChangeCosts pumping 0 0 (slice_index n 0) a (slice_index h.costs.parts 0)) stays (h.costs.each 0 (omega arith))) in
-    let pb : slice_index h.costs.parts 1 ≡ 5 * b =
-    change pumping 1 b (slice_index h.costs.parts 1) 5 lb pipe_cost (subst (λ (n : List ℕ). ChangeCosts pumping 1 0 (slice_index n 1) b (slice_index h.costs.parts 1)) stays (h.costs.each 1 (omega arith))) in
+    let part = part_from_start pumping (0 ∷ 0 ∷ []) other cost h.costs in
+    let pa : slice_index h.costs.parts 0 ≡ 5 * a = part 0 5 (omega (arith, full)) refl la pump_cost in
+    let pb : slice_index h.costs.parts 1 ≡ 5 * b = part 1 5 (omega (arith, full)) refl lb pipe_cost in
     let total : cost ≡ 5 * a + 5 * b = h.costs.total ∙ sum_two h.costs.parts (h.costs.full ∙ full) ∙ omega arith in
     let seen : slice_index h.world 0 ≡ 0 = value_at h.world 0 0 (h.agrees 0 (record { item = 0; value = 0 }) (omega arith)) in
     let off : not (flows a b) ≡ true = subst (λ (v : ℕ). (if has 2 v then flows a b else not (flows a b)) ≡ true) seen (sym (pipe_is other h.world) ∙ h.is_world.rules 0 pipe_rule (omega arith)) in
@@ -125,16 +117,10 @@ first other (inr x) before = absurd (omega arith)
 pub pipe_is_burst : PipeIsBurst
 pipe_is_burst = record {
   consistent = record {
-    costs = record {
-      state = record { full = refl; modes = below_two (λ c. HasMode pumping c (slice_index (0 ∷ 1 ∷ []) c)) (omega arith) (omega arith) };
-      nominal = 0 ∷ 0 ∷ [];
-      is_nominal = inr (λ move h. none-some move.command h.command, refl);
-      parts = 0 ∷ 5 ∷ [];
-      full = refl;
-      each = below_two (λ c. ChangeCosts pumping c (slice_index (0 ∷ 0 ∷ []) c) (slice_index (0 ∷ 0 ∷ []) c) (slice_index (0 ∷ 1 ∷ []) c) (slice_index (0 ∷ 5 ∷ []) c))
-          (inl (refl, refl)) (inr (λ e. absurd (omega (arith, e)), (1, omega arith, refl), λ other h. omega (arith, pipe_cost other h)));
-      total = refl;
-    };
+    costs = (costs_of_two pumping None (0 ∷ 0 ∷ []) (0 ∷ 0 ∷ []) (0 ∷ 1 ∷ []) 0 5
+        (record { full = refl; modes = below_two (λ c. HasMode pumping c (slice_index (0 ∷ 1 ∷ []) c)) (omega arith) (omega arith) }) refl
+        (stays pumping (0 ∷ 0 ∷ [])) (unmoved pumping (0 ∷ 0 ∷ [])) (nominal_costs pumping 0 0 0)
+        (failure_costs pumping 1 0 0 1 5 (λ e. omega (arith, e)) (1, omega arith, refl) (λ other h. omega (arith, pipe_cost other h))) 5).1 refl;
     world = 0 ∷ [];
     is_world = record {
       full = refl;

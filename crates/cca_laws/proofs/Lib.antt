@@ -15,6 +15,7 @@ pub mod SmallModels
 pub mod FormulaExamples
 pub mod ValveExamples
 pub mod ValveWellFormed
+pub mod SmallCosts
 pub mod CostExamples
 pub mod EdgeExamples
 pub mod OrderExamples

@@ -65,7 +65,7 @@ mended = record {
   each = below_two (λ c. IsInChain mending.moves c (slice_index (0 ∷ 0 ∷ []) c) (slice_index (1 ∷ 0 ∷ []) c)) (1, (1, record { repair = reset_move; of_model = (0, omega arith, refl); mends = refl; target = refl }, refl)) (0, refl);
 }
 
-pub go_allowed : Allowed mending (0 ∷ 0 ∷ []) 3 (0 ∷ 1 ∷ [])
+go_allowed : Allowed mending (0 ∷ 0 ∷ []) 3 (0 ∷ 1 ∷ [])
 go_allowed = record { step = go_step 0; back = inr (0 ∷ 1 ∷ 4 ∷ 2 ∷ [], 1 ∷ 0 ∷ [], there_and_back, mended) }
 
 -- ---- no way to the start

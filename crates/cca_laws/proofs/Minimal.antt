@@ -31,7 +31,7 @@ search_list {X} A each (x ∷ xs) = both (each x) (search_list A each xs)
       | inr there ↦ none y there a
     ])
 
-abbrev pub Rises : List Pair → Type 0
+abbrev Rises : List Pair → Type 0
 Rises = AllPairs (λ p q. p.item < q.item)
 
 pub pairs_rise : (k : ℕ) (s : List ℕ) → Rises (pairs_from k s)

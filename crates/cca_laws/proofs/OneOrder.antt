@@ -21,7 +21,7 @@ use Rattle.cca_base.specs.Orders.{numbers_below, TakesEffectsFirst, AreInOrder, 
 use Rattle.cca_laws.specs.Laws.{NoneTwice, ComesBefore}
 use Rattle.cca_base.proofs.Members.{contains_cases, contains_here, contains_there, contains_none, from_filter}
 
-abbrev pub SameElements : {X : Type 0} → List X → List X → Type 0
+abbrev SameElements : {X : Type 0} → List X → List X → Type 0
 SameElements {X} a b = ((x : X) → Contains a x → Contains b x) × ((x : X) → Contains b x → Contains a x)
 
 -- lists in one strict order with the same elements are one list

@@ -38,13 +38,13 @@ one_reply_at answers one s (Some goal) r t h k = one s goal r t h k
 pub one_seen : (m : PlantModel) (x : ExecutiveState) (a b : List Pair) → Observed m x a → Observed m x b → a ≡ b
 one_seen m x a b h k = one_union (Contains x.pending) (λ p. IsTrue (has x.mirrored p.item) × HasOneValue m x.plant p) a b h k
 
-abbrev after_tick : ExecutiveState → List ℕ → Reply → List ℕ → ExecutiveState
+abbrev pub after_tick : ExecutiveState → List ℕ → Reply → List ℕ → ExecutiveState
 after_tick x state reply plant = record x { estimate = state; command = command_of reply; plant = plant; pending = []; ticks = x.ticks + 1 }
 
 abbrev SameEnd : Shown → ExecutiveState → Shown → ExecutiveState → Type 0
 SameEnd shown y other z = (shown ≡ other) × (y ≡ z)
 
-both_going : {X : Type 0} (b : Bool) → b ≡ false → IsTrue b → X
+pub both_going : {X : Type 0} (b : Bool) → b ≡ false → IsTrue b → X
 both_going b h k = absurd (false≢true (sym h ∙ k))
 
 one_tick : (m : PlantModel) (answers : ReplyRule) → CommandsFit m.moves → IsOneReply answers → (x : ExecutiveState) (shown other : Shown) (y z : ExecutiveState)

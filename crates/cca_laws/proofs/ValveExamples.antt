@@ -2,12 +2,14 @@
 use Rattle.std.proofs.Common.{◌≡◌, ◌<◌, ℕ, zero, suc, Bool, inl, inr, true, false, List, [], ◌∷◌, Contains, slice_get, Some, Option, refl, sym, ap, subst, ◌∙◌, arith, not}
 use Rattle.std.specs.Prelude.{slice_index, slice_set, IsTrue, if◌then◌else◌}
 use Rattle.std.proofs.lemmas.Bool.{false≢true}
+use Rattle.std.proofs.lemmas.List.Elements.{All-contains}
 use Rattle.list_laws.proofs.Places.{value_at}
 use Rattle.cca_base.specs.declared.cube.Pair.{Pair}
 use Rattle.cca_base.specs.declared.formula.Formula.TheOpen.{Formula-F}
 use Rattle.cca_base.specs.declared.formula.Formula.TheFolds.{fold-roll-Formula}
 use Rattle.cca_base.specs.declared.formula.Subject.TheVariants.{Variable}
 use Rattle.cca_base.specs.declared.model.Move.{Move}
+use Rattle.cca_base.specs.PlantModel.{PlantModel}
 use Rattle.cca_base.specs.Sets.{has}
 use Rattle.cca_base.specs.Formula.{truth, truth_step}
 use Rattle.cca_base.specs.Model.{HasMode}
@@ -17,6 +19,7 @@ use Rattle.cca_base.specs.Repairs.{Mending}
 use Rattle.cca_base.specs.Model.{IsInChain}
 use Rattle.cca_base.proofs.NextModes.{next_broken}
 use Rattle.cca_laws.proofs.Tiny.{one_at, three_at, below_one, below_two, below_three}
+use Rattle.cca_laws.proofs.SmallModels.{the_one}
 use Rattle.cca_laws.proofs.FormulaExamples.{truth_mode, truth_iff}
 use Rattle.cca_laws.proofs.FreeMoves.{always}
 use Rattle.cca_laws.proofs.PlanLaws.{mends_itself}
@@ -83,12 +86,7 @@ does_not_follow h =
 
 -- the one move by the command for opening
 pub open_is_the_one : (move : Move) → move.command ≡ 2 → Contains valve_model.moves move → open_move ≡ move
-open_is_the_one move own (zero, h, e) = absurd (omega (arith, ap (λ (y : Move). y.command) e))
-open_is_the_one move own (suc zero, h, e) = absurd (omega (arith, ap (λ (y : Move). y.command) e))
-open_is_the_one move own (suc (suc zero), h, e) = e
-open_is_the_one move own (suc (suc (suc zero)), h, e) = absurd (omega (arith, ap (λ (y : Move). y.command) e))
-open_is_the_one move own (suc (suc (suc (suc zero))), h, e) = absurd (omega (arith, ap (λ (y : Move). y.command) e))
-open_is_the_one move own (suc (suc (suc (suc (suc k)))), h, e) = absurd (omega arith)
+open_is_the_one = the_one valve_model.moves refl open_move 2 refl
 
 pub opening_needs_driver : OpeningNeedsDriver
 opening_needs_driver = (
@@ -138,13 +136,7 @@ arming_does_not_follow h =
 
 -- the one move by the command for arming
 arm_is_the_one : (move : Move) → move.command ≡ 5 → Contains engine_model.moves move → arm_move ≡ move
-arm_is_the_one move own (zero, h, e) = absurd (omega (arith, ap (λ (y : Move). y.command) e))
-arm_is_the_one move own (suc zero, h, e) = absurd (omega (arith, ap (λ (y : Move). y.command) e))
-arm_is_the_one move own (suc (suc zero), h, e) = absurd (omega (arith, ap (λ (y : Move). y.command) e))
-arm_is_the_one move own (suc (suc (suc zero)), h, e) = absurd (omega (arith, ap (λ (y : Move). y.command) e))
-arm_is_the_one move own (suc (suc (suc (suc zero))), h, e) = absurd (omega (arith, ap (λ (y : Move). y.command) e))
-arm_is_the_one move own (suc (suc (suc (suc (suc zero)))), h, e) = e
-arm_is_the_one move own (suc (suc (suc (suc (suc (suc k))))), h, e) = absurd (omega arith)
+arm_is_the_one = the_one engine_model.moves refl arm_move 5 refl
 
 pub stuck_is_not_leaned_on : StuckIsNotLeanedOn
 stuck_is_not_leaned_on = (
@@ -166,15 +158,22 @@ closed_is_leaned_on = record {
 
 -- ---- without a way back
 
-opening : Step no_way_back (1 ∷ 0 ∷ []) 2 (1 ∷ 1 ∷ [])
-opening = record {
-  move = open_move;
-  of_model = (2, omega arith, refl);
+-- a step of a component while the driver is on, in any model that has the move and may lean on the driver
+driven_step : (m : PlantModel) (s : List ℕ) (c from to k : ℕ) (repair : Bool)
+    → let move : Move = record { component = c; source = from; target = to; command = k; repair = repair; guard = driver_on } in
+    Contains m.moves move → slice_get s c ≡ Some from → Contains (support m s move) (record { item = 0; value = 1 }) → Step m s k (slice_set s c to)
+driven_step m s0 c from to k repair of_model at leaned = record {
+  move = record { component = c; source = from; target = to; command = k; repair = repair; guard = driver_on };
+  of_model = of_model;
   command = refl;
-  source = refl;
-  guard = λ s state extends w world. truth_mode s w 0 2 ∙ ap (has 2) (value_at s 0 1 (extends 1 (record { item = 0; value = 0 }) (omega arith)));
+  source = at;
+  guard = λ s state extends w world. truth_mode s w 0 2
+      ∙ ap (has 2) (value_at s 0 1 (All-contains (λ (p : Pair). slice_get s p.item ≡ Some p.value) (support m s0 (record { component = c; source = from; target = to; command = k; repair = repair; guard = driver_on })) (record { item = 0; value = 1 }) extends leaned));
   gives = refl;
 }
+
+opening : Step no_way_back (1 ∷ 0 ∷ []) 2 (1 ∷ 1 ∷ [])
+opening = driven_step no_way_back (1 ∷ 0 ∷ []) 1 0 1 2 false (2, omega arith, refl) refl (1, omega arith, refl)
 
 other_stays : (s : List ℕ) (v : ℕ) → slice_get (slice_set s 0 v) 1 ≡ slice_get s 1
 other_stays [] v = refl
@@ -202,13 +201,6 @@ runs_stay_open : (s ks s2 : List ℕ) → slice_get s 1 ≡ Some 1 → Run no_wa
 runs_stay_open s [] s2 h e = ap (λ (x : List ℕ). slice_get x 1) e ∙ h
 runs_stay_open s (k ∷ ks) s2 h (mid, step, rest) = runs_stay_open mid ks s2 (stays_open s mid k h step step.of_model) rest
 
-opens : (move : Move) → move.command ≡ 2 → Contains no_way_back.moves move → open_move ≡ move
-opens move own (zero, h, e) = absurd (omega (arith, ap (λ (y : Move). y.command) e))
-opens move own (suc zero, h, e) = absurd (omega (arith, ap (λ (y : Move). y.command) e))
-opens move own (suc (suc zero), h, e) = e
-opens move own (suc (suc (suc zero)), h, e) = absurd (omega (arith, ap (λ (y : Move). y.command) e))
-opens move own (suc (suc (suc (suc k))), h, e) = absurd (omega arith)
-
 no_mending : (s2 : List ℕ) → slice_get s2 1 ≡ Some 1 → Mending no_way_back (1 ∷ 0 ∷ []) s2 → ⊥
 no_mending s2 h mending = along (mending.each 1 (omega arith))
   where
@@ -219,7 +211,7 @@ no_mending s2 h mending = along (mending.each 1 (omega arith))
 not_allowed : (s : List ℕ) → Allowed no_way_back (1 ∷ 0 ∷ []) 2 s → ⊥
 not_allowed s allowed =
     let step : Step no_way_back (1 ∷ 0 ∷ []) 2 s = allowed.step in
-    let e : open_move ≡ step.move = opens step.move step.command step.of_model in
+    let e : open_move ≡ step.move = the_one no_way_back.moves refl open_move 2 refl step.move step.command step.of_model in
     let result : s ≡ 1 ∷ 1 ∷ [] = step.gives ∙ ap (λ (y : Move). slice_set (1 ∷ 0 ∷ []) y.component y.target) (sym e) in
     elim allowed.back [
       | inl repair ↦ false≢true (ap (λ (y : Move). y.repair) e ∙ repair)
@@ -232,24 +224,10 @@ opening_for_good = (opening, not_allowed)
 -- ---- with a way back
 
 opening_step : Step valve_model (1 ∷ 0 ∷ []) 2 (1 ∷ 1 ∷ [])
-opening_step = record {
-  move = open_move;
-  of_model = (2, omega arith, refl);
-  command = refl;
-  source = refl;
-  guard = λ s state extends w world. truth_mode s w 0 2 ∙ ap (has 2) (value_at s 0 1 (extends 1 (record { item = 0; value = 0 }) (omega arith)));
-  gives = refl;
-}
+opening_step = driven_step valve_model (1 ∷ 0 ∷ []) 1 0 1 2 false (2, omega arith, refl) refl (1, omega arith, refl)
 
 closing_step : Step valve_model (1 ∷ 1 ∷ []) 3 (1 ∷ 0 ∷ [])
-closing_step = record {
-  move = record { component = 1; source = 1; target = 0; command = 3; repair = false; guard = driver_on };
-  of_model = (3, omega arith, refl);
-  command = refl;
-  source = refl;
-  guard = λ s state extends w world. truth_mode s w 0 2 ∙ ap (has 2) (value_at s 0 1 (extends 1 (record { item = 0; value = 0 }) (omega arith)));
-  gives = refl;
-}
+closing_step = driven_step valve_model (1 ∷ 1 ∷ []) 1 1 0 3 false (3, omega arith, refl) refl (1, omega arith, refl)
 
 pub opening_is_allowed : OpeningIsAllowed
 opening_is_allowed = record { step = opening_step; back = inr (3 ∷ [], 1 ∷ 0 ∷ [], (1 ∷ 0 ∷ [], closing_step, refl), mends_itself valve_model (1 ∷ 0 ∷ [])) }

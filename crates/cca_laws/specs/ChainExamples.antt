@@ -1,31 +1,23 @@
 -- A unit that is power-cycled and then reset: what chains of repairs are, and what they are not.
-use Rattle.std.specs.Prelude.{◌≡◌, ◌⊎◌, ◌↔◌, true, false, ℕ, List, [], ◌∷◌, codes}
+use Rattle.std.specs.Prelude.{◌≡◌, ◌⊎◌, ◌↔◌, ℕ, List, [], ◌∷◌, codes}
 use Rattle.cca_base.specs.declared.model.Move.{Move}
 use Rattle.cca_base.specs.PlantModel.{PlantModel}
 use Rattle.cca_base.specs.Model.{WellFormed, IsComplete, IsNext, IsMended, IsInChain, RepairsFit}
 use Rattle.cca_base.specs.Repairs.{Mending, sound_pairs}
 use Rattle.cca_base.specs.Steps.{AllowedPlan}
-use Rattle.cca_laws.specs.Examples.{always_true}
+use Rattle.cca_laws.specs.Examples.{component_of, free_move, free_repair, moving}
 
 -- the repair from hung to latched
 abbrev pub power_move : Move
-power_move = record { component = 0; source = 2; target = 1; command = 0; repair = true; guard = always_true }
+power_move = free_repair 0 2 1 0
 
 -- the repair from latched to ok
 abbrev pub reset_move : Move
-reset_move = record { component = 0; source = 1; target = 0; command = 1; repair = true; guard = always_true }
+reset_move = free_repair 0 1 0 1
 
 -- the unit is ok, latched or hung, and starts hung
 abbrev pub unit : PlantModel
-unit = record {
-  version = 2;
-  components = record { name = codes "dev"; modes = codes "ok" ∷ codes "latched" ∷ codes "hung" ∷ []; start = 2 } ∷ [];
-  variables = [];
-  rules = [];
-  commands = codes "d_power" ∷ codes "d_reset" ∷ [];
-  moves = power_move ∷ reset_move ∷ [];
-  failures = [];
-}
+unit = moving 2 (record (component_of (codes "dev") (codes "ok" ∷ codes "latched" ∷ codes "hung" ∷ [])) { start = 2 } ∷ []) (codes "d_power" ∷ codes "d_reset" ∷ []) (power_move ∷ reset_move ∷ [])
 
 -- it is well formed, and each command is used
 abbrev pub UnitIsWellFormed : Type 0
@@ -73,37 +65,26 @@ TwoCommandsMend = AllowedPlan unit (2 ∷ []) (0 ∷ 1 ∷ []) (0 ∷ [])
 
 -- ---- what no version allows
 
+-- no version allows the move beside the unit's two repairs
+abbrev pub IsRefused : Move → Type 0
+IsRefused move = (version : ℕ) → RepairsFit version (power_move ∷ reset_move ∷ move ∷ []) → ⊥
+
 -- a repair from ok to hung: the chain would go round
-abbrev pub loop_move : Move
-loop_move = record { component = 0; source = 0; target = 2; command = 2; repair = true; guard = always_true }
-
 abbrev pub NoChainGoesRound : Type 0
-NoChainGoesRound = (version : ℕ) → RepairsFit version (power_move ∷ reset_move ∷ loop_move ∷ []) → ⊥
+NoChainGoesRound = IsRefused (free_repair 0 0 2 2)
 
--- a repair from hung to hung
-abbrev pub stay_move : Move
-stay_move = record { component = 0; source = 2; target = 2; command = 0; repair = true; guard = always_true }
-
+-- a repair from hung to hung, alone
 abbrev pub NoRepairStays : Type 0
-NoRepairStays = (version : ℕ) → RepairsFit version (stay_move ∷ []) → ⊥
+NoRepairStays = (version : ℕ) → RepairsFit version (free_repair 0 2 2 0 ∷ []) → ⊥
 
 -- a repair from hung to ok, beside that to latched
-abbrev pub short_move : Move
-short_move = record { component = 0; source = 2; target = 0; command = 2; repair = true; guard = always_true }
-
 abbrev pub OneNextMode : Type 0
-OneNextMode = (version : ℕ) → RepairsFit version (power_move ∷ reset_move ∷ short_move ∷ []) → ⊥
+OneNextMode = IsRefused (free_repair 0 2 0 2)
 
 -- an ordinary move from ok into the middle of the chain
-abbrev pub break_move : Move
-break_move = record { component = 0; source = 0; target = 1; command = 2; repair = false; guard = always_true }
-
 abbrev pub OnlyRepairsEnter : Type 0
-OnlyRepairsEnter = (version : ℕ) → RepairsFit version (power_move ∷ reset_move ∷ break_move ∷ []) → ⊥
+OnlyRepairsEnter = IsRefused (free_move 0 0 1 2)
 
 -- an ordinary move from the middle of the chain to ok
-abbrev pub leave_move : Move
-leave_move = record { component = 0; source = 1; target = 0; command = 2; repair = false; guard = always_true }
-
 abbrev pub OnlyRepairsLeave : Type 0
-OnlyRepairsLeave = (version : ℕ) → RepairsFit version (power_move ∷ reset_move ∷ leave_move ∷ []) → ⊥
+OnlyRepairsLeave = IsRefused (free_move 0 1 0 2)

@@ -8,7 +8,7 @@ use Rattle.cca_base.specs.declared.events.Reply.TheVariants.{Unreachable}
 use Rattle.cca_base.specs.PlantModel.{PlantModel}
 use Rattle.cca_base.specs.Goals.{IsGoodReply}
 use Rattle.cca_base.specs.Choice.{IsChosen}
-use Rattle.cca_laws.specs.Examples.{on_move, off_move, lamp}
+use Rattle.cca_laws.specs.Examples.{component_of, moving, on_move, off_move, lamp}
 use Rattle.cca_laws.specs.FormulaExamples.{mode_in, either}
 use Rattle.cca_laws.specs.CostExamples.{three}
 
@@ -57,19 +57,11 @@ either_move = record { component = 2; source = 0; target = 1; command = 0; repai
 
 -- a component that is off or on
 abbrev pub switch : List ℕ → Component
-switch name = record { name = name; modes = codes "off" ∷ codes "on" ∷ []; start = 0 }
+switch name = component_of name (codes "off" ∷ codes "on" ∷ [])
 
 -- a, b and c are each off or on
 abbrev pub either_model : PlantModel
-either_model = record {
-  version = 1;
-  components = switch (codes "a") ∷ switch (codes "b") ∷ switch (codes "c") ∷ [];
-  variables = [];
-  rules = [];
-  commands = codes "c_on" ∷ [];
-  moves = either_move ∷ [];
-  failures = [];
-}
+either_model = moving 1 (switch (codes "a") ∷ switch (codes "b") ∷ switch (codes "c") ∷ []) (codes "c_on" ∷ []) (either_move ∷ [])
 
 -- a is on
 abbrev pub a_is_on : Pair

@@ -1,11 +1,12 @@
 -- What successors of small models cost, and an estimate.
-use Rattle.std.specs.Prelude.{◌≡◌, ◌↔◌, true, ℕ, [], ◌∷◌, codes, Some, None}
+use Rattle.std.specs.Prelude.{◌≡◌, ◌↔◌, ℕ, [], ◌∷◌, codes, Some, None}
 use Rattle.cca_base.specs.declared.formula.Formula.{Formula, roll-Formula}
 use Rattle.cca_base.specs.declared.formula.Formula.TheOpen.{Formula-F}
 use Rattle.cca_base.specs.PlantModel.{PlantModel}
 use Rattle.cca_base.specs.Model.{with_failure}
 use Rattle.cca_base.specs.Successors.{Costs}
 use Rattle.cca_base.specs.Estimates.{Estimate}
+use Rattle.cca_laws.specs.Examples.{component_of, variable_of}
 use Rattle.cca_laws.specs.FormulaExamples.{mode_in, both, either}
 use Rattle.cca_laws.specs.ValveExamples.{flow_in, valve_model}
 
@@ -46,9 +47,9 @@ abbrev pub three : PlantModel
 three = record {
   version = 1;
   components =
-      record { name = codes "p"; modes = codes "ok" ∷ codes "bad" ∷ []; start = 0 } ∷ record { name = codes "q"; modes = codes "ok" ∷ codes "bad" ∷ []; start = 0 }
-      ∷ record { name = codes "r"; modes = codes "ok" ∷ codes "bad" ∷ []; start = 0 } ∷ [];
-  variables = record { name = codes "out"; values = codes "good" ∷ codes "poor" ∷ []; sensed = true } ∷ [];
+      component_of (codes "p") (codes "ok" ∷ codes "bad" ∷ []) ∷ component_of (codes "q") (codes "ok" ∷ codes "bad" ∷ [])
+      ∷ component_of (codes "r") (codes "ok" ∷ codes "bad" ∷ []) ∷ [];
+  variables = variable_of (codes "out") (codes "good" ∷ codes "poor" ∷ []) ∷ [];
   rules = poor_rule ∷ [];
   commands = [];
   moves = [];

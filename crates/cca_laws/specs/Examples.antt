@@ -1,13 +1,15 @@
 -- Small models and what they do.
-use Rattle.std.specs.Prelude.{false, List, [], ◌∷◌, codes}
+use Rattle.std.specs.Prelude.{ℕ, true, false, List, [], ◌∷◌, codes}
 use Rattle.cca_base.specs.declared.cube.Pair.{Pair}
 use Rattle.cca_base.specs.declared.formula.Formula.{Formula, roll-Formula}
 use Rattle.cca_base.specs.declared.formula.Formula.TheOpen.{Formula-F}
+use Rattle.cca_base.specs.declared.model.Component.{Component}
+use Rattle.cca_base.specs.declared.model.Variable.{Variable}
 use Rattle.cca_base.specs.declared.model.Move.{Move}
 use Rattle.cca_base.specs.declared.events.Event.TheVariants as event
 use Rattle.cca_base.specs.declared.events.Reply.TheVariants.{Idle, Send, Achieved}
 use Rattle.cca_base.specs.declared.events.Shown.TheVariants.{Estimated}
-use Rattle.cca_base.specs.PlantModel.{PlantModel}
+use Rattle.cca_base.specs.PlantModel.{PlantModel, plant_model}
 use Rattle.cca_base.specs.Model.{empty_model}
 use Rattle.cca_base.specs.Accepted.{CompiledModel, IsCompiled}
 use Rattle.cca_base.specs.Choice.{IsChosenReply}
@@ -26,25 +28,37 @@ EmptyTicks = IsCompiled nothing_compiled
 abbrev pub always_true : Formula
 always_true = roll-Formula Formula-F.True
 
+-- the component with this name and these modes, which starts in the first
+abbrev pub component_of : List ℕ → List (List ℕ) → Component
+component_of name modes = record { name = name; modes = modes; start = 0 }
+
+-- the variable with this name and these values, which may be observed
+abbrev pub variable_of : List ℕ → List (List ℕ) → Variable
+variable_of name values = record { name = name; values = values; sensed = true }
+
+-- the move of a component from a mode to another by a command, which nothing guards
+abbrev pub free_move : ℕ → ℕ → ℕ → ℕ → Move
+free_move component source target command = record { component = component; source = source; target = target; command = command; repair = false; guard = always_true }
+
+-- the same as a repair
+abbrev pub free_repair : ℕ → ℕ → ℕ → ℕ → Move
+free_repair component source target command = record (free_move component source target command) { repair = true }
+
+-- the model of this version with these components, commands and moves, and with nothing else
+abbrev pub moving : ℕ → List Component → List (List ℕ) → List Move → PlantModel
+moving version components commands moves = plant_model version components [] [] commands moves []
+
 -- the move that switches a lamp on
 abbrev pub on_move : Move
-on_move = record { component = 0; source = 0; target = 1; command = 0; repair = false; guard = always_true }
+on_move = free_move 0 0 1 0
 
 -- its way back
 abbrev pub off_move : Move
-off_move = record { component = 0; source = 1; target = 0; command = 1; repair = false; guard = always_true }
+off_move = free_move 0 1 0 1
 
 -- the lamp
 abbrev pub lamp : PlantModel
-lamp = record {
-  version = 1;
-  components = record { name = codes "lamp"; modes = codes "off" ∷ codes "on" ∷ []; start = 0 } ∷ [];
-  variables = [];
-  rules = [];
-  commands = codes "lamp_on" ∷ codes "lamp_off" ∷ [];
-  moves = on_move ∷ off_move ∷ [];
-  failures = [];
-}
+lamp = moving 1 (component_of (codes "lamp") (codes "off" ∷ codes "on" ∷ []) ∷ []) (codes "lamp_on" ∷ codes "lamp_off" ∷ []) (on_move ∷ off_move ∷ [])
 
 -- the lamp, compiled
 abbrev pub lamp_compiled : CompiledModel

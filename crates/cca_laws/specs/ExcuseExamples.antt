@@ -48,14 +48,14 @@ driver_moment = record wrong_with_goal {
 }
 
 -- then the plant's driver is on, and the last estimate is that it was off
-abbrev pub driver_started : ExecutiveState
-driver_started = record (start valve_model 1) { command = Some 0; plant = 1 ∷ 0 ∷ []; goal = Some open_wanted }
+abbrev pub driver_started : List Pair → ExecutiveState
+driver_started goal = record (start valve_model 1) { command = Some 0; plant = 1 ∷ 0 ∷ []; goal = Some goal }
 
 -- the second tick, after the goal was cleared; it takes the valve to be stuck
 abbrev pub wrong_when_cleared : TickRecord
 wrong_when_cleared = record {
   since = event.Clear ∷ [];
-  before = record driver_started { goal = None };
+  before = record (driver_started open_wanted) { goal = None };
   report = record { tick = 2; shown = Estimated 4 (record { modes = 1 ∷ 2 ∷ [] }) Idle };
 }
 
@@ -79,7 +79,7 @@ RightIsFree = BreaksPromise (dear_moment ∷ [])
 abbrev pub second_moment : List ℕ → ℕ → TickRecord
 second_moment modes k = record {
   since = [];
-  before = driver_started;
+  before = driver_started open_wanted;
   report = record { tick = 2; shown = Estimated 0 (record { modes = modes }) (Send k) };
 }
 

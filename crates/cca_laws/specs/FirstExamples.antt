@@ -1,10 +1,11 @@
 -- Which of two worlds is the first, and which of two states of one cost is the estimate.
-use Rattle.std.specs.Prelude.{ℕ, true, [], ◌∷◌, codes, None}
+use Rattle.std.specs.Prelude.{ℕ, [], ◌∷◌, codes, None}
 use Rattle.cca_base.specs.declared.formula.Formula.{Formula, roll-Formula}
 use Rattle.cca_base.specs.declared.formula.Formula.TheOpen.{Formula-F}
 use Rattle.cca_base.specs.PlantModel.{PlantModel}
 use Rattle.cca_base.specs.Estimates.{Estimate}
 use Rattle.cca_base.specs.Plans.{IsFirstWorld}
+use Rattle.cca_laws.specs.Examples.{component_of, variable_of}
 use Rattle.cca_laws.specs.FormulaExamples.{mode_in, both}
 use Rattle.cca_laws.specs.ValveExamples.{flow_in}
 use Rattle.cca_laws.specs.ObservedExamples.{loose, y_high}
@@ -27,8 +28,8 @@ abbrev pub pumping : PlantModel
 pumping = record {
   version = 1;
   components =
-      record { name = codes "pump"; modes = codes "on" ∷ codes "dead" ∷ []; start = 0 } ∷ record { name = codes "pipe"; modes = codes "fine" ∷ codes "burst" ∷ []; start = 0 } ∷ [];
-  variables = record { name = codes "flow"; values = codes "none" ∷ codes "some" ∷ []; sensed = true } ∷ [];
+      component_of (codes "pump") (codes "on" ∷ codes "dead" ∷ []) ∷ component_of (codes "pipe") (codes "fine" ∷ codes "burst" ∷ []) ∷ [];
+  variables = variable_of (codes "flow") (codes "none" ∷ codes "some" ∷ []) ∷ [];
   rules = pipe_rule ∷ [];
   commands = [];
   moves = [];

@@ -1,5 +1,5 @@
 -- A component that a reset mends, and one that goes back only while the other stands in its last mode.
-use Rattle.std.specs.Prelude.{◌≡◌, ◌↔◌, true, false, ℕ, List, [], ◌∷◌, codes}
+use Rattle.std.specs.Prelude.{◌≡◌, ◌↔◌, false, ℕ, List, [], ◌∷◌, codes}
 use Rattle.cca_base.specs.declared.cube.Pair.{Pair}
 use Rattle.cca_base.specs.declared.events.PlanEnd.TheVariants.{Plan}
 use Rattle.cca_base.specs.declared.model.Move.{Move}
@@ -7,24 +7,24 @@ use Rattle.cca_base.specs.PlantModel.{PlantModel}
 use Rattle.cca_base.specs.Accepted.{CompiledModel, IsCompiled}
 use Rattle.cca_base.specs.Plans.{IsBackGoal, IsRoute}
 use Rattle.cca_base.specs.Steps.{Run, Allowed}
-use Rattle.cca_laws.specs.Examples.{always_true}
+use Rattle.cca_laws.specs.Examples.{component_of, free_move, free_repair, moving}
 use Rattle.cca_laws.specs.FormulaExamples.{mode_in}
 
 -- the repair of c, from m to ok
 abbrev pub reset_move : Move
-reset_move = record { component = 0; source = 0; target = 1; command = 0; repair = true; guard = always_true }
+reset_move = free_repair 0 0 1 0
 
 -- the move of c from ok to z
 abbrev pub z_move : Move
-z_move = record { component = 0; source = 1; target = 2; command = 1; repair = false; guard = always_true }
+z_move = free_move 0 1 2 1
 
 -- its way back
 abbrev pub ok_move : Move
-ok_move = record { component = 0; source = 2; target = 1; command = 2; repair = false; guard = always_true }
+ok_move = free_move 0 2 1 2
 
 -- the move of b from x to y
 abbrev pub go_move : Move
-go_move = record { component = 1; source = 0; target = 1; command = 3; repair = false; guard = always_true }
+go_move = free_move 1 0 1 3
 
 -- its way back, while c is z
 abbrev pub back_move : Move
@@ -32,16 +32,9 @@ back_move = record { component = 1; source = 1; target = 0; command = 4; repair 
 
 -- c is m, ok or z, and starts broken; b is x or y
 abbrev pub mending : PlantModel
-mending = record {
-  version = 1;
-  components =
-      record { name = codes "c"; modes = codes "m" ∷ codes "ok" ∷ codes "z" ∷ []; start = 0 } ∷ record { name = codes "b"; modes = codes "x" ∷ codes "y" ∷ []; start = 0 } ∷ [];
-  variables = [];
-  rules = [];
-  commands = codes "c_reset" ∷ codes "c_z" ∷ codes "c_ok" ∷ codes "b_go" ∷ codes "b_back" ∷ [];
-  moves = reset_move ∷ z_move ∷ ok_move ∷ go_move ∷ back_move ∷ [];
-  failures = [];
-}
+mending =
+    moving 1 (component_of (codes "c") (codes "m" ∷ codes "ok" ∷ codes "z" ∷ []) ∷ component_of (codes "b") (codes "x" ∷ codes "y" ∷ []) ∷ [])
+    (codes "c_reset" ∷ codes "c_z" ∷ codes "c_ok" ∷ codes "b_go" ∷ codes "b_back" ∷ []) (reset_move ∷ z_move ∷ ok_move ∷ go_move ∷ back_move ∷ [])
 
 -- c = ok
 abbrev pub c_is_ok : Pair

@@ -1,5 +1,5 @@
 -- What is observed, and how a goal is kept.
-use Rattle.std.specs.Prelude.{◌≡◌, true, List, [], ◌∷◌, Some, codes}
+use Rattle.std.specs.Prelude.{◌≡◌, List, [], ◌∷◌, Some, codes}
 use Rattle.cca_base.specs.declared.cube.Pair.{Pair}
 use Rattle.cca_base.specs.declared.events.Event.TheVariants as event
 use Rattle.cca_base.specs.PlantModel.{PlantModel}
@@ -8,6 +8,7 @@ use Rattle.cca_base.specs.Accepted.{CompiledModel}
 use Rattle.cca_base.specs.Choice.{IsChosenReply}
 use Rattle.cca_base.specs.Trace.{ExecutiveState, start, Changes, Observed}
 use Rattle.cca_base.specs.Runs.{TickRecord, Ticks}
+use Rattle.cca_laws.specs.Examples.{variable_of}
 use Rattle.cca_laws.specs.ValveExamples.{valve_model}
 
 -- two sensed variables that nothing ties
@@ -16,7 +17,7 @@ loose = record {
   version = 1;
   components = [];
   variables =
-      record { name = codes "x"; values = codes "low" ∷ codes "high" ∷ []; sensed = true } ∷ record { name = codes "y"; values = codes "low" ∷ codes "high" ∷ []; sensed = true }
+      variable_of (codes "x") (codes "low" ∷ codes "high" ∷ []) ∷ variable_of (codes "y") (codes "low" ∷ codes "high" ∷ [])
       ∷ [];
   rules = [];
   commands = [];

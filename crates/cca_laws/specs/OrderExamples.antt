@@ -6,6 +6,7 @@ use Rattle.cca_base.specs.declared.model.Move.{Move}
 use Rattle.cca_base.specs.PlantModel.{PlantModel}
 use Rattle.cca_base.specs.Implicants.{PrimeImplicant, Needs}
 use Rattle.cca_base.specs.Orders.{IsEffectsFirst}
+use Rattle.cca_laws.specs.Examples.{component_of, moving}
 use Rattle.cca_laws.specs.FormulaExamples.{mode_in, both, either}
 
 -- (a = p and b = q) or (a = r and b = q)
@@ -18,17 +19,10 @@ wordy_move = record { component = 2; source = 0; target = 1; command = 0; repair
 
 -- a is p or r, b is n or q, and c is off or on
 abbrev pub wordy : PlantModel
-wordy = record {
-  version = 1;
-  components =
-      record { name = codes "a"; modes = codes "p" ∷ codes "r" ∷ []; start = 0 } ∷ record { name = codes "b"; modes = codes "n" ∷ codes "q" ∷ []; start = 0 }
-      ∷ record { name = codes "c"; modes = codes "off" ∷ codes "on" ∷ []; start = 0 } ∷ [];
-  variables = [];
-  rules = [];
-  commands = codes "c_on" ∷ [];
-  moves = wordy_move ∷ [];
-  failures = [];
-}
+wordy =
+    moving 1
+    (component_of (codes "a") (codes "p" ∷ codes "r" ∷ []) ∷ component_of (codes "b") (codes "n" ∷ codes "q" ∷ []) ∷ component_of (codes "c") (codes "off" ∷ codes "on" ∷ []) ∷ [])
+    (codes "c_on" ∷ []) (wordy_move ∷ [])
 
 -- b = q
 abbrev pub b_is_q : Pair

@@ -8,7 +8,7 @@ use Rattle.cca_base.specs.PlantModel.{PlantModel}
 use Rattle.cca_base.specs.Model.{WellFormed, IsComplete, is_broken, IsMended, with_component, with_command, with_move}
 use Rattle.cca_base.specs.State.{Holds, Follows}
 use Rattle.cca_base.specs.Steps.{Step, Allowed, support}
-use Rattle.cca_laws.specs.Examples.{always_true}
+use Rattle.cca_laws.specs.Examples.{component_of, variable_of, free_move}
 use Rattle.cca_laws.specs.FormulaExamples.{mode_in}
 
 -- the flow is in the set
@@ -21,11 +21,11 @@ driver_on = mode_in 0 2
 
 -- the move that switches the driver on
 abbrev pub on_move : Move
-on_move = record { component = 0; source = 0; target = 1; command = 0; repair = false; guard = always_true }
+on_move = free_move 0 0 1 0
 
 -- its way back
 abbrev pub off_move : Move
-off_move = record { component = 0; source = 1; target = 0; command = 1; repair = false; guard = always_true }
+off_move = free_move 0 1 0 1
 
 -- the move that opens the valve
 abbrev pub open_move : Move
@@ -40,9 +40,8 @@ abbrev pub valve_model : PlantModel
 valve_model = record {
   version = 1;
   components =
-      record { name = codes "drv"; modes = codes "off" ∷ codes "on" ∷ []; start = 0 }
-      ∷ record { name = codes "valve"; modes = codes "closed" ∷ codes "open" ∷ codes "stuck" ∷ []; start = 0 } ∷ [];
-  variables = record { name = codes "flow"; values = codes "none" ∷ codes "some" ∷ []; sensed = true } ∷ [];
+      component_of (codes "drv") (codes "off" ∷ codes "on" ∷ []) ∷ component_of (codes "valve") (codes "closed" ∷ codes "open" ∷ codes "stuck" ∷ []) ∷ [];
+  variables = variable_of (codes "flow") (codes "none" ∷ codes "some" ∷ []) ∷ [];
   rules = flow_rule ∷ [];
   commands = codes "drv_on" ∷ codes "drv_off" ∷ codes "v_open" ∷ codes "v_close" ∷ codes "v_reset" ∷ [];
   moves =
@@ -75,7 +74,7 @@ arm_move = record { component = 2; source = 0; target = 1; command = 5; repair =
 -- the valve with an engine
 abbrev pub engine_model : PlantModel
 engine_model =
-    with_move (with_command (with_component valve_model (record { name = codes "eng"; modes = codes "off" ∷ codes "armed" ∷ []; start = 0 })) (codes "eng_arm")) arm_move
+    with_move (with_command (with_component valve_model (component_of (codes "eng") (codes "off" ∷ codes "armed" ∷ []))) (codes "eng_arm")) arm_move
 
 -- behind a stuck valve nothing flows, yet arming is no step: it would lean on the stuck valve
 abbrev pub StuckIsNotLeanedOn : Type 0

@@ -9,6 +9,7 @@ use Rattle.cca_base.specs.Bounds.{stated_number}
 use Rattle.cca_base.specs.Trace.{start}
 use Rattle.cca_base.specs.Runs.{TickRecord, Within}
 use Rattle.cca_laws.specs.ValveExamples.{valve_model}
+use Rattle.cca_laws.specs.ExcuseExamples.{driver_started}
 use Rattle.cca_laws.specs.RightExamples.{no_flow}
 use Rattle.cca_laws.specs.MendExamples.{mending, mending_compiled, c_is_z}
 
@@ -30,12 +31,7 @@ sent_moment = record {
 abbrev pub again_moment : TickRecord
 again_moment = record {
   since = event.Observe no_flow ∷ [];
-  before = record (start valve_model 1) {
-    command = Some 0;
-    plant = 1 ∷ 0 ∷ [];
-    pending = no_flow;
-    goal = Some driver_wanted;
-  };
+  before = record (driver_started driver_wanted) { pending = no_flow };
   report = record { tick = 2; shown = Estimated 0 (record { modes = 1 ∷ 0 ∷ [] }) (Send 2) };
 }
 

@@ -6,9 +6,8 @@ use Rattle.cca_base.specs.declared.events.Event.TheVariants as event
 use Rattle.cca_base.specs.Cube.{IsUnion, IsRising}
 use Rattle.cca_base.specs.PlantModel.{PlantModel}
 use Rattle.cca_base.specs.Trace.{ExecutiveState, MayCome, Changes}
-use Rattle.plan_checker.specs.Checked.{AsGiven}
 use Rattle.plan_checker.specs.Standing.{FitsModel}
-use Rattle.trace_laws.specs.Events.{PendingAfter, mirrored_after}
+use Rattle.trace_laws.specs.Events.{AsGiven, PendingAfter, mirrored_after}
 use Rattle.trace_laws.proofs.PendingKnown.{one_pending}
 use Rattle.check_form.specs.CheckScript.{ScriptSoFar, with_event}
 use Rattle.check_form.specs.CheckStages.{ComeInTurn, KeepsScript, Advances}

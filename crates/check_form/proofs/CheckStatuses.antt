@@ -10,11 +10,12 @@ use Rattle.model_form.specs.Answers.{Answer}
 use Rattle.model_form.specs.ModelTexts.{ModelText, EndsModel}
 use Rattle.model_form.proofs.FormEnds.{form_is_fixed}
 use Rattle.check_form.specs.CheckEnds.{EndsByModel, IsJudged, IsAllYes, HasFirstNo, HasFirstRefusal}
-use Rattle.check_form.specs.CheckForm.{check_form, check_machine, check_first, judged, IsCheck}
+use Rattle.check_form.specs.CheckForm.{check_form, check_machine, judged, IsCheck}
 use Rattle.check_form.specs.CheckMachine.{checking_machine}
 use Rattle.check_form.specs.CheckOneStep.{begins_one_way, check_steps_are_one, check_closes_are_one}
 use Rattle.check_form.specs.CheckTrace.{CheckEnd, AllYes, FirstNo, FirstRefusal}
 use Rattle.check_form.proofs.CheckTexts.{checks_are_judged}
+use Rattle.model_form.specs.FormStates.{form_first}
 
 -- a state and a line lead to one state and one text
 pub check_fixed : IsFixed check_machine
@@ -57,7 +58,7 @@ module _ (input text : List ℕ) (model : ModelText) (reads : EndsModel input mo
 
   of_end : (e : End) (end : CheckEnd) → IsCheck model e text → IsJudged input end → e ≡ (judged end).end
   of_end e end is (other, reads', so) =
-      (text_is_one check_machine check_first check_fixed input text (judged end).text e (judged end).end (checks_are_judged.comes input e text model reads is) (checks_are_judged.comes input (judged end).end (judged end).text other reads' (end, so, refl))).0
+      (text_is_one check_machine (form_first (record {})) check_fixed input text (judged end).text e (judged end).end (checks_are_judged.comes input e text model reads is) (checks_are_judged.comes input (judged end).end (judged end).text other reads' (end, so, refl))).0
 
   pub ends_all_yes : (e : End) → IsCheck model e text → IsAllYes input → e ≡ Ended
   ends_all_yes e is (ticks, h) = of_end e (AllYes ticks) is h

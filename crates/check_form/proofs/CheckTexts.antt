@@ -15,11 +15,11 @@ use Rattle.model_form.specs.Acceptance.{Acceptance, AcceptedAs, RefusedFor, IsAc
 use Rattle.check_form.specs.CheckEnds.{EndsByScript, EndsByAcceptance}
 use Rattle.check_form.specs.CheckForm.{check_form, judged, IsCheck, ChecksAreJudged}
 use Rattle.model_form.specs.Answers.{Answer, answer, AnswersByAcceptance, AnswersByEnd, PrintsBehind, TextsAreAnswers}
-use Rattle.model_form.specs.ModelTexts.{ModelText, Scripted, EndsModel}
+use Rattle.model_form.specs.ModelTexts.{ModelText, WholeModel, EndsModel}
 use Rattle.model_form.specs.ModelTexts as models
 use Rattle.model_form.proofs.TextsAreAnswers.{texts_are_answers}
 use Rattle.check_form.specs.CheckMachine.{CheckState, InScript, InTrace, ScriptSteps, TraceSteps, TraceCloses, checking_machine}
-use Rattle.check_form.specs.CheckScript.{ScriptSoFar, ScriptOutcome, Reads, Ends, Refuses, ScriptLeads, ScriptText, Traced, Stopped, LeadsByCode, After, ReadsScript, no_events}
+use Rattle.check_form.specs.CheckScript.{ScriptSoFar, ScriptOutcome, Reads, Ends, Refuses, ScriptLeads, ScriptText, Traced, RefusedScript, LeadsByCode, After, ReadsScript, no_events}
 use Rattle.check_form.specs.CheckTrace.{TraceSoFar, TraceOutcome, Follows, Fails, TraceLeads, CheckEnd, FirstRefusal, JudgesByCode, JudgesLines, end_behind, no_to, trace_line_code}
 use Rattle.model_form.specs.Limits.{line_code}
 use Rattle.trace_text.specs.Json.{refusal_text}
@@ -140,7 +140,7 @@ module _ (b : CompiledModel) (compiled : IsCompiled b) where
     refused_ends : (c : Option ℕ) (code : ℕ) (u : Next CheckState) (a : List ℕ) (e : End) (rest : List ℕ) → c ≡ line_code (n + 1) l → LeadsByCode c m s l (Refuses code) → (u ≡ Stops ends.Refused) × (a ≡ refusal_text false m (n + 1) (bare code))
         → Completes checking_machine u (n + 1) ls e rest → ScriptEnds s n (l ∷ ls) (answer e (a ++ rest))
     refused_ends c code u a e rest f leads by d = record {
-      text = Stopped (n + 1) (bare code);
+      text = RefusedScript (n + 1) (bare code);
       reads = (Refuses code, subst (λ (z : Option ℕ). LeadsByCode z m s l (Refuses code)) f leads, refl);
       end = FirstRefusal m (n + 1) (bare code);
       ends_so = refl;
@@ -177,14 +177,14 @@ module _ (b : CompiledModel) (compiled : IsCompiled b) where
   script_says : (ls : List (List ℕ)) (s : ScriptSoFar) (n : ℕ) (e : End) (text : List ℕ) → Completes checking_machine (GoesOn (InScript b s)) n ls e text → ScriptEnds s n ls (answer e text)
   script_says [] s n e text c =
       let p = at_end checking_machine (GoesOn (InScript b s)) n e text c in
-      record { text = Stopped n (bare ENDS_EARLY); reads = refl; end = FirstRefusal m n (bare ENDS_EARLY); ends_so = refl; is = same_answer p.0 p.1 }
+      record { text = RefusedScript n (bare ENDS_EARLY); reads = refl; end = FirstRefusal m n (bare ENDS_EARLY); ends_so = refl; is = same_answer p.0 p.1 }
   script_says (l ∷ ls) s n e text c =
       let t = first_line checking_machine (InScript b s) n l ls e text c in
       subst (λ (z : List ℕ). ScriptEnds s n (l ∷ ls) (answer e z)) (sym t.parts)
       (script_line_ends s n l ls (line_code (n + 1) l) t.next t.first e t.rest refl t.takes t.completes (λ y d. script_says ls y (n + 1) e t.rest d))
 
   -- and the other way round
-  stopped_comes : (s : ScriptSoFar) (n : ℕ) (ls : List (List ℕ)) (text : ScriptText) (line : ℕ) (r : Refusal) (end : CheckEnd) → text ≡ Stopped line r → EndsByScript m text end → Comes (GoesOn (InScript b s)) n ls (judged (FirstRefusal m line r)) → Comes (GoesOn (InScript b s)) n ls (judged end)
+  stopped_comes : (s : ScriptSoFar) (n : ℕ) (ls : List (List ℕ)) (text : ScriptText) (line : ℕ) (r : Refusal) (end : CheckEnd) → text ≡ RefusedScript line r → EndsByScript m text end → Comes (GoesOn (InScript b s)) n ls (judged (FirstRefusal m line r)) → Comes (GoesOn (InScript b s)) n ls (judged end)
   stopped_comes s n ls text line r end is so c =
       let same : end ≡ FirstRefusal m line r = subst (λ (t : ScriptText). EndsByScript m t end) is so in
       subst (λ (z : CheckEnd). Comes (GoesOn (InScript b s)) n ls (judged z)) (sym same) c
@@ -196,11 +196,11 @@ module _ (b : CompiledModel) (compiled : IsCompiled b) where
     takes_script_line : (o : ScriptOutcome) (u : Next CheckState) (a : List ℕ) → None ≡ line_code (n + 1) l → ScriptLeads m s l o → ScriptSteps o b s (n + 1) u a → Transition checking_machine (InScript b s) (n + 1) l u a
     takes_script_line o u a f leads by = subst (λ (c : Option ℕ). TransitionByCode checking_machine c (InScript b s) (n + 1) l u a) f (compiled, o, leads, by)
 
-    refused_comes : (code : ℕ) → text ≡ Stopped (n + 1) (bare code) → Transition checking_machine (InScript b s) (n + 1) l (Stops ends.Refused) (refusal_text false m (n + 1) (bare code)) → Comes (GoesOn (InScript b s)) n (l ∷ ls) (judged end)
+    refused_comes : (code : ℕ) → text ≡ RefusedScript (n + 1) (bare code) → Transition checking_machine (InScript b s) (n + 1) l (Stops ends.Refused) (refusal_text false m (n + 1) (bare code)) → Comes (GoesOn (InScript b s)) n (l ∷ ls) (judged end)
     refused_comes code is takes =
         stopped_comes s n (l ∷ ls) text (n + 1) (bare code) end is so (stop_comes (InScript b s) n l ls ends.Refused (refusal_text false m (n + 1) (bare code)) takes)
 
-    outcome_comes : (o : ScriptOutcome) → None ≡ line_code (n + 1) l → ScriptLeads m s l o → After o (λ t. ReadsScript m t (n + 1) ls text) (text ≡ Traced s.events (n + 1) ls) (λ code. text ≡ Stopped (n + 1) (bare code))
+    outcome_comes : (o : ScriptOutcome) → None ≡ line_code (n + 1) l → ScriptLeads m s l o → After o (λ t. ReadsScript m t (n + 1) ls text) (text ≡ Traced s.events (n + 1) ls) (λ code. text ≡ RefusedScript (n + 1) (bare code))
         → ((t : ScriptSoFar) → ReadsScript m t (n + 1) ls text → Comes (GoesOn (InScript b t)) (n + 1) ls (judged end)) → Comes (GoesOn (InScript b s)) n (l ∷ ls) (judged end)
     outcome_comes (Refuses code) f leads is on = refused_comes code is (takes_script_line (Refuses code) (Stops ends.Refused) (refusal_text false m (n + 1) (bare code)) f leads (refl, refl))
     outcome_comes (Reads t) f leads reads on =
@@ -211,10 +211,10 @@ module _ (b : CompiledModel) (compiled : IsCompiled b) where
         let r = trace_comes ls x (n + 1) end judges in
         line_comes (InScript b s) n l ls (GoesOn (InTrace b x)) [] r.end r.text (judged end) (takes_script_line Ends (GoesOn (InTrace b x)) [] f leads (x, comes, (refl, refl))) r.completes r.is
 
-    script_line_comes : (c : Option ℕ) (o : ScriptOutcome) → c ≡ line_code (n + 1) l → LeadsByCode c m s l o → After o (λ t. ReadsScript m t (n + 1) ls text) (text ≡ Traced s.events (n + 1) ls) (λ code. text ≡ Stopped (n + 1) (bare code))
+    script_line_comes : (c : Option ℕ) (o : ScriptOutcome) → c ≡ line_code (n + 1) l → LeadsByCode c m s l o → After o (λ t. ReadsScript m t (n + 1) ls text) (text ≡ Traced s.events (n + 1) ls) (λ code. text ≡ RefusedScript (n + 1) (bare code))
         → ((t : ScriptSoFar) → ReadsScript m t (n + 1) ls text → Comes (GoesOn (InScript b t)) (n + 1) ls (judged end)) → Comes (GoesOn (InScript b s)) n (l ∷ ls) (judged end)
     script_line_comes (Some code) o f leads after on =
-        refused_comes code (subst (λ (z : ScriptOutcome). After z (λ t. ReadsScript m t (n + 1) ls text) (text ≡ Traced s.events (n + 1) ls) (λ k. text ≡ Stopped (n + 1) (bare k))) leads after) (takes_script_code code f)
+        refused_comes code (subst (λ (z : ScriptOutcome). After z (λ t. ReadsScript m t (n + 1) ls text) (text ≡ Traced s.events (n + 1) ls) (λ k. text ≡ RefusedScript (n + 1) (bare k))) leads after) (takes_script_code code f)
     script_line_comes None o f leads after on = outcome_comes o f leads after on
 
   script_comes : (ls : List (List ℕ)) (s : ScriptSoFar) (n : ℕ) (text : ScriptText) (end : CheckEnd) → ReadsScript m s n ls text → EndsByScript m text end → Comes (GoesOn (InScript b s)) n ls (judged end)
@@ -233,7 +233,7 @@ of_model b k n ls text end e h = subst (λ (m : PlantModel). ReadsScript m no_ev
 abbrev Prints : CompiledModel → ℕ → List (List ℕ) → End → List ℕ → Type 0
 Prints b n ls e text = PrintsBehind check_form checking_machine (record {}) b n ls e text
 
-behind_says : (v : Acceptance) (k : PlantModel) (n : ℕ) (ls : List (List ℕ)) (e : End) (text : List ℕ) → IsAcceptanceOf k v → AnswersByAcceptance false Prints v k n ls e text → IsCheck (Scripted k n ls) e text
+behind_says : (v : Acceptance) (k : PlantModel) (n : ℕ) (ls : List (List ℕ)) (e : End) (text : List ℕ) → IsAcceptanceOf k v → AnswersByAcceptance false Prints v k n ls e text → IsCheck (WholeModel k n ls) e text
 behind_says (AcceptedAs b) k n ls e text is p =
     let r = script_says b is.0 ls no_events n e p.rest (subst (λ (v : Next CheckState). Completes checking_machine v n ls e p.rest) p.begins.0 p.completes) in
     let own = of_model b k n ls r.text r.end is.1 (r.reads, r.ends_so) in
@@ -242,8 +242,8 @@ behind_says (AcceptedAs b) k n ls e text is p =
 behind_says (RefusedFor r) k n ls e text is h = (FirstRefusal k n r, (RefusedFor r, is, refl), same_answer h.0 h.1)
 
 model_says : (m : ModelText) (e : End) (text : List ℕ) → AnswersByEnd false Prints m e text → IsCheck m e text
-model_says (Scripted k n ls) e text (v, is, h) = behind_says v k n ls e text is h
-model_says (models.Stopped k line r) e text h = (FirstRefusal k line r, refl, same_answer h.0 h.1)
+model_says (WholeModel k n ls) e text (v, is, h) = behind_says v k n ls e text is h
+model_says (models.RefusedModel k line r) e text h = (FirstRefusal k line r, refl, same_answer h.0 h.1)
 
 -- a refusal is printed as one
 refused_as : (k : PlantModel) (line : ℕ) (r : Refusal) (e : End) (text : List ℕ) (end : CheckEnd) → end ≡ FirstRefusal k line r → answer e text ≡ judged end → (e ≡ ends.Refused) × (text ≡ refusal_text false k line r)
@@ -266,8 +266,8 @@ behind_comes (AcceptedAs b) k n ls end e text is (script, reads, so) same =
 behind_comes (RefusedFor r) k n ls end e text is so same = refused_as k n r e text end so same
 
 model_comes : (m : ModelText) (e : End) (text : List ℕ) → IsCheck m e text → AnswersByEnd false Prints m e text
-model_comes (Scripted k n ls) e text (end, (v, is, so), same) = (v, is, behind_comes v k n ls end e text is so same)
-model_comes (models.Stopped k line r) e text (end, so, same) = refused_as k line r e text end so same
+model_comes (WholeModel k n ls) e text (end, (v, is, so), same) = (v, is, behind_comes v k n ls end e text is so same)
+model_comes (models.RefusedModel k line r) e text (end, so, same) = refused_as k line r e text end so same
 
 pub checks_are_judged : ChecksAreJudged
 checks_are_judged =

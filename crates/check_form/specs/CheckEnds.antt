@@ -3,7 +3,7 @@ use Rattle.std.specs.Prelude.{◌≡◌, ℕ, List}
 use Rattle.cca_base.specs.declared.events.Refusal.{Refusal}
 use Rattle.cca_base.specs.PlantModel.{PlantModel}
 use Rattle.model_form.specs.Acceptance.{Acceptance, AcceptedAs, RefusedFor, IsAcceptanceOf}
-use Rattle.check_form.specs.CheckScript.{ScriptText, Traced, Stopped, ReadsScript, no_events}
+use Rattle.check_form.specs.CheckScript.{ScriptText, Traced, RefusedScript, ReadsScript, no_events}
 use Rattle.check_form.specs.CheckTrace.{CheckEnd, AllYes, FirstNo, FirstRefusal, JudgesTrace}
 use Rattle.model_form.specs.ModelTexts.{ModelText, EndsModel}
 use Rattle.model_form.specs.ModelTexts as models
@@ -11,7 +11,7 @@ use Rattle.model_form.specs.ModelTexts as models
 -- by how the script ends
 abbrev pub EndsByScript : PlantModel → ScriptText → CheckEnd → Type 0
 EndsByScript m (Traced events n ls) end = JudgesTrace m events n ls end
-EndsByScript m (Stopped line r) end = end ≡ FirstRefusal m line r
+EndsByScript m (RefusedScript line r) end = end ≡ FirstRefusal m line r
 
 -- by what becomes of the model, whose script stands behind n lines
 abbrev pub EndsByAcceptance : Acceptance → PlantModel → ℕ → List (List ℕ) → CheckEnd → Type 0
@@ -20,8 +20,8 @@ EndsByAcceptance (RefusedFor r) m n ls end = end ≡ FirstRefusal m n r
 
 -- by how the model ends
 abbrev pub EndsByModel : ModelText → CheckEnd → Type 0
-EndsByModel (models.Scripted m n ls) end = (v : Acceptance) × IsAcceptanceOf m v × EndsByAcceptance v m n ls end
-EndsByModel (models.Stopped m line r) end = end ≡ FirstRefusal m line r
+EndsByModel (models.WholeModel m n ls) end = (v : Acceptance) × IsAcceptanceOf m v × EndsByAcceptance v m n ls end
+EndsByModel (models.RefusedModel m line r) end = end ≡ FirstRefusal m line r
 
 -- the input is judged so
 abbrev pub IsJudged : List ℕ → CheckEnd → Type 0

@@ -23,10 +23,6 @@ check_form = record { is_json = λ f. false; begins = λ f. Begins }
 abbrev pub check_machine : Ghosts (FormState Check CheckState)
 check_machine = form_machine check_form checking_machine
 
--- its first state
-abbrev pub check_first : FormState Check CheckState
-check_first = form_first (record {})
-
 -- what is printed of how a check ends
 abbrev pub judged : CheckEnd → Answer
 judged (AllYes ticks) = answer Ended (checked_line ticks)
@@ -39,5 +35,5 @@ IsCheck m e text = (end : CheckEnd) × EndsByModel m end × (answer e text ≡ j
 
 -- the texts of the machine are what is printed of how the input is judged, both ways
 pub record ChecksAreJudged : Type 0 where
-  pub says : (input : List ℕ) (e : End) (text : List ℕ) → IsText check_machine check_first input e text → (m : ModelText) × EndsModel input m × IsCheck m e text
-  pub comes : (input : List ℕ) (e : End) (text : List ℕ) (m : ModelText) → EndsModel input m → IsCheck m e text → IsText check_machine check_first input e text
+  pub says : (input : List ℕ) (e : End) (text : List ℕ) → IsText check_machine (form_first (record {})) input e text → (m : ModelText) × EndsModel input m × IsCheck m e text
+  pub comes : (input : List ℕ) (e : End) (text : List ℕ) (m : ModelText) → EndsModel input m → IsCheck m e text → IsText check_machine (form_first (record {})) input e text

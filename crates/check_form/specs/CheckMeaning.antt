@@ -2,14 +2,15 @@
 use Rattle.std.specs.Prelude.{None}
 use Rattle.model_form.specs.FormMeaning.{FormMeaning}
 use Rattle.check_form.specs.CheckEnds.{IsAllYes, HasFirstNo, HasFirstRefusal}
-use Rattle.check_form.specs.CheckForm.{IsCheck, check_machine, check_first}
+use Rattle.check_form.specs.CheckForm.{IsCheck, check_machine}
+use Rattle.model_form.specs.FormStates.{form_first}
 
 -- `check` reads its whole input, and alone says No
 abbrev pub check_meaning : FormMeaning
 check_meaning = record {
   State = _;
   machine = check_machine;
-  first = check_first;
+  first = form_first (record {});
   made = None;
   says = IsCheck;
   nothing_refused = IsAllYes;

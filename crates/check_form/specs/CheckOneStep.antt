@@ -14,12 +14,12 @@ use Rattle.cca_base.proofs.NominalLaws.{one_nominal}
 use Rattle.cca_laws.proofs.OneOrder.{one_union}
 use Rattle.line_machine.specs.Next.{Next, GoesOn}
 use Rattle.line_machine.specs.declared.machine.End.{End}
-use Rattle.plan_checker.specs.Checked.{AsGiven, Takes}
+use Rattle.plan_checker.specs.Checked.{Takes}
 use Rattle.plan_checker.specs.Reasons.{Printed, IsVerdict}
 use Rattle.plan_checker.specs.declared.verdict.Verdict.{Verdict}
 use Rattle.plan_checker.specs.declared.verdict.Verdict.TheVariants.{Yes, No}
 use Rattle.script_reader.specs.EventLines.{event_line}
-use Rattle.trace_laws.specs.Events.{IsTick}
+use Rattle.trace_laws.specs.Events.{AsGiven, IsTick}
 use Rattle.trace_laws.proofs.PendingKnown.{one_pending}
 use Rattle.trace_text.specs.declared.trace_line.TraceLine.{TraceLine}
 use Rattle.trace_text.proofs.OneTextEach.{lines_are_told_apart}

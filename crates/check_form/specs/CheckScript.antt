@@ -61,7 +61,7 @@ ScriptLeads m s l o = LeadsUnless (is_trace_line l) (event_line m s.pending s.mi
 -- how a script ends: with the line `trace`, which is of this number, before the lines of the trace; or at a line that is refused
 pub data ScriptText : Type 0 where
   Traced : (events : List Event) → (line : ℕ) → (rest : List (List ℕ)) → ScriptText
-  Stopped : (line : ℕ) → (refusal : Refusal) → ScriptText
+  RefusedScript : (line : ℕ) → (refusal : Refusal) → ScriptText
 
 -- its length and its number come before all that a line says
 abbrev pub LeadsByCode : Option ℕ → PlantModel → ScriptSoFar → List ℕ → ScriptOutcome → Type 0
@@ -76,6 +76,6 @@ After (Refuses code) goes_on trace refused = refused code
 
 -- the lines that stand behind n lines of an input, behind a part of its script, end the script so; it has to end before the input does
 abbrev pub ReadsScript : PlantModel → ScriptSoFar → ℕ → List (List ℕ) → ScriptText → Type 0
-ReadsScript m s n [] end = end ≡ Stopped n (bare ENDS_EARLY)
+ReadsScript m s n [] end = end ≡ RefusedScript n (bare ENDS_EARLY)
 ReadsScript m s n (l ∷ ls) end = (o : ScriptOutcome) × LeadsByCode (line_code (n + 1) l) m s l o
-    × After o (λ t. ReadsScript m t (n + 1) ls end) (end ≡ Traced s.events (n + 1) ls) (λ code. end ≡ Stopped (n + 1) (bare code))
+    × After o (λ t. ReadsScript m t (n + 1) ls end) (end ≡ Traced s.events (n + 1) ls) (λ code. end ≡ RefusedScript (n + 1) (bare code))

@@ -7,6 +7,7 @@ use Rattle.cca_base.specs.declared.events.Stop.{Stop}
 use Rattle.cca_base.specs.declared.events.Stop.TheVariants as stops
 use Rattle.cca_base.specs.Accepted.{CompiledModel}
 use Rattle.cca_base.specs.Cube.{IsRising}
+use Rattle.cca_base.specs.State.{HasWorlds}
 use Rattle.cca_base.specs.PlantModel.{PlantModel}
 use Rattle.cca_base.specs.Trace.{MayCome, ExecutiveState}
 use Rattle.line_machine.specs.declared.machine.End.TheVariants as ends
@@ -26,7 +27,7 @@ use Rattle.check_form.specs.declared.check_trace.TraceCheck.{TraceCheck}
 
 -- what code keeps of a script
 abbrev pub script_of : ScriptEvents → ScriptSoFar
-script_of s = record { events = s.events.items; pending = s.pending.pairs; mirrored = s.mirrored }
+script_of s = record { events = s.events.items; pending = s.known.pending.pairs; mirrored = s.known.mirrored }
 
 -- what code keeps of a trace
 abbrev pub trace_of : TraceCheck → TraceSoFar
@@ -64,6 +65,13 @@ MayComeBehind m x behind = IfSome behind (MayComeInTurn m [] x.mirrored)
 pub record KeepsTrace (m : PlantModel) (x : TraceSoFar) : Type 0 where
   pub fits : FitsModel m x.state
   pub come : MayComeBehind m x.state x.behind
+
+-- every state has a world, the checker fits the model, and its next tick may be judged, behind which these events come
+pub record MayJudge (m : PlantModel) (t : TraceCheck) (events : List Event) : Type 0 where
+  pub worlds : HasWorlds m
+  pub fits : FitsModel m t.checker
+  pub moved : t.behind ≡ None
+  pub come : MayComeInTurn m [] t.checker.mirrored events
 
 -- what is kept in each part
 abbrev pub KeepsPart : PlantModel → Part → Type 0

@@ -7,12 +7,12 @@ use Rattle.cca_base.specs.PlantModel.{PlantModel}
 use Rattle.cca_base.specs.Refusals.{bare}
 use Rattle.cca_base.specs.Trace.{ExecutiveState, Changes, Observed, start}
 use Rattle.line_machine.specs.Runs.{length_code}
-use Rattle.plan_checker.specs.Checked.{AsGiven, TakesAtYes}
+use Rattle.plan_checker.specs.Checked.{TakesAtYes}
 use Rattle.plan_checker.specs.Reasons.{Printed, OnEstimate, IsVerdict}
 use Rattle.plan_checker.specs.declared.reasons.TheConstants.{LINE}
 use Rattle.plan_checker.specs.declared.verdict.Verdict.{Verdict}
 use Rattle.plan_checker.specs.declared.verdict.Verdict.TheVariants.{Yes, No}
-use Rattle.trace_laws.specs.Events.{IsTick}
+use Rattle.trace_laws.specs.Events.{AsGiven, IsTick}
 use Rattle.trace_text.specs.TraceLines.{FitsLine, trace_line}
 use Rattle.trace_text.specs.declared.trace_line.TraceLine.{TraceLine}
 use Rattle.check_form.specs.TickLines.{TickLines, NotNext, More, Whole, next_lines}

@@ -1,12 +1,10 @@
 //! The form `check`.
 
 ghost use Rattle.std.specs.Prelude.{◌≡◌, IfOk};
-ghost use Rattle.check_form.specs.CheckForm.{check_first};
+ghost use Rattle.model_form.specs.FormStates.{form_first};
 
 use crate::checking::Checking;
-use cca_base::{Compiled, Name, Subject};
-use indexmap::IndexMap;
-use model_form::{ModelForm, Opened, Opening, WithModel};
+use model_form::{Accepted, Begun, ModelForm, Opened, Opening, WithModel};
 use std::alloc::{AllocError, Global};
 
 /// The form `check`.
@@ -31,23 +29,17 @@ impl ModelForm<Checking> for Check {
         false
     }
 
-    fn begin(
-        &self,
-        alloc: Global,
-        compiled: Compiled,
-        names: IndexMap<Name, Subject>,
-        _number: u64,
-    ) -> Result<Opening<Checking>, AllocError> {
+    fn begin(&self, alloc: Global, accepted: Accepted, _number: u64) -> Begun<Checking> {
         Ok(Opening {
             text: Vec::new(alloc),
-            opened: Opened::Lines(Checking::open(alloc, compiled, names)),
+            opened: Opened::Lines(Checking::open(alloc, accepted)),
         })
     }
 }
 
 /// The machine before the first line.
 pub fn open_check(alloc: Global) -> Result<CheckMachine, AllocError>
-    ensures { IfOk result (λ w. w ≡ check_first) }
+    ensures { IfOk result (λ w. w ≡ form_first (record {})) }
 {
     WithModel::open(alloc, Check)
 }

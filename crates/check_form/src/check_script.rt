@@ -2,25 +2,22 @@
 
 ghost use Rattle.std.specs.Prelude.{◌≡◌, IfOk, OnOk};
 ghost use Rattle.cca_base.specs.Trace.{MayCome};
-ghost use Rattle.formula_syntax.specs.Lookups.{NamesFit};
 ghost use Rattle.trace_laws.specs.Events.{PendingAfter};
 ghost use Rattle.check_form.specs.CheckScript.{is_trace_line, no_events, with_event};
 ghost use Rattle.check_form.specs.CheckStages.{AnswersScript, KeepsScript, script_of};
 
-use cca_base::{Event, Model, Name, Seen, Stop, Subject, VarSet};
-use indexmap::IndexMap;
-use script_reader::read_named_event;
+use cca_base::{Event, Model, Stop};
+use script_reader::{NamedModel, read_named_event};
 use std::alloc::{AllocError, Global};
 use std::collections::VecDeque;
 use text_base::{Kind, TokenFault, is_lexeme, tokens};
-use trace_laws::{known_after, nothing_seen};
+use trace_laws::Known;
 
 /// The events of a script so far, and what they leave pending and mirrored.
 #[derive(Debug, Drop)]
 pub struct ScriptEvents {
     pub events: VecDeque<Event>,
-    pub pending: Seen,
-    pub mirrored: VarSet,
+    pub known: Known,
 }
 
 /// Whether a line of the script ends it.
@@ -54,8 +51,7 @@ impl ScriptEvents {
     {
         ScriptEvents {
             events: VecDeque::new(alloc),
-            pending: nothing_seen(alloc),
-            mirrored: VarSet::empty(),
+            known: Known::nothing(alloc),
         }
     }
 
@@ -69,10 +65,9 @@ impl ScriptEvents {
             × (script_of self.new ≡ with_event (script_of self.old) event after)) }
         ensures keeps { KeepsScript model.now (script_of self.new) }
     {
-        let (pending, mirrored) = known_after(alloc, model, &self.pending, self.mirrored, &event)?;
+        let known = self.known.after(alloc, model, &event)?;
         self.events.push_back(event)?;
-        self.pending = pending;
-        self.mirrored = mirrored;
+        self.known = known;
         Ok(())
     }
 
@@ -80,20 +75,20 @@ impl ScriptEvents {
     pub fn line(
         &mut self,
         alloc: Global,
-        model: &Model,
-        names: &IndexMap<Name, Subject>,
+        named: NamedModel<'_>,
         line: &[u8],
     ) -> Result<ScriptEnd, Stop>
-        requires fit { NamesFit names.now model.now }
-        requires keeps { KeepsScript model.now (script_of self.old) }
-        ensures answer { AnswersScript result model.now (script_of self.old) line.now
+        requires keeps { KeepsScript named (script_of self.old) }
+        ensures answer { AnswersScript result named.entry (script_of self.old) line.now
             (script_of self.new) }
-        ensures keeps { KeepsScript model.now (script_of self.new) }
+        ensures keeps { KeepsScript named.entry (script_of self.new) }
     {
+        let model = named.model();
         if is_trace_line(alloc, line)? {
             return Ok(ScriptEnd::Trace);
         }
-        let event = read_named_event(alloc, line, model, names, &self.pending, self.mirrored)?;
+        let Known { pending, mirrored } = &self.known;
+        let event = read_named_event(alloc, line, named, pending, *mirrored)?;
         if let Some(event) = event {
             self.keep(alloc, model, event)?;
         }

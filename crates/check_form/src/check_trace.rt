@@ -8,7 +8,7 @@ ghost use Rattle.cca_base.specs.Trace.{start};
 ghost use Rattle.line_machine.specs.Next.{next_of};
 ghost use Rattle.plan_checker.specs.Standing.{FitsModel};
 ghost use Rattle.check_form.specs.CheckMachine.{TraceCloses};
-ghost use Rattle.check_form.specs.CheckStages.{KeepsTrace, MayComeBehind, MayComeInTurn, SaysOf, trace_of, waiting};
+ghost use Rattle.check_form.specs.CheckStages.{KeepsTrace, MayComeBehind, MayComeInTurn, MayJudge, SaysOf, trace_of, waiting};
 ghost use Rattle.check_form.specs.CheckTrace.{ByLines, ComesTo, SaysLine, TraceLeads, before_tick};
 ghost use Rattle.check_form.specs.TickLines.{Whole, printed_of};
 
@@ -114,10 +114,7 @@ impl TraceCheck {
         tick: &PrintedTick,
         events: VecDeque<Event>,
     ) -> Result<Said, AllocError>
-        requires worlds { HasWorlds model.now }
-        requires fits { FitsModel model.now self.old.checker }
-        requires moved { self.old.behind ≡ None }
-        requires come { MayComeInTurn model.now [] self.old.checker.mirrored events.items }
+        requires may { MayJudge model.now self.old events.items }
         ensures says { IfOk result (λ said.
             SaysOf (ByLines (Whole (printed_of tick.now)) model.now (waiting self.old events.items)
             events.items) (waiting self.old events.items) (trace_of self.new) said) }
@@ -147,10 +144,7 @@ impl TraceCheck {
         line: &[u8],
         events: VecDeque<Event>,
     ) -> Result<Said, AllocError>
-        requires worlds { HasWorlds model.now }
-        requires fits { FitsModel model.now self.old.checker }
-        requires moved { self.old.behind ≡ None }
-        requires come { MayComeInTurn model.now [] self.old.checker.mirrored events.items }
+        requires may { MayJudge model.now self.old events.items }
         ensures says { IfOk result (λ said.
             SaysOf (TraceLeads model.now (waiting self.old events.items) line.now)
             (waiting self.old events.items) (trace_of self.new) said) }

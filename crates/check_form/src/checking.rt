@@ -3,16 +3,14 @@
 ghost use Rattle.std.specs.Prelude.{◌≡◌};
 ghost use Rattle.check_form.specs.CheckMachine.{InScript, model_of};
 ghost use Rattle.check_form.specs.CheckScript.{no_events};
-ghost use Rattle.formula_syntax.specs.Lookups.{NamesFit};
 
 use crate::check_script::{ScriptEnd, ScriptEvents};
 use crate::check_trace::TraceCheck;
 use crate::limits::MAX_TRACE_LINE;
 use cca_base::codes::ENDS_EARLY;
-use cca_base::{Compiled, Model, Name, Refusal, Subject};
-use indexmap::IndexMap;
+use cca_base::{Model, Refusal};
 use line_machine::{End, Machine, Said};
-use model_form::{MAX_LINE, nothing, refusal_of, refuse_stop};
+use model_form::{Accepted, MAX_LINE, nothing, refusal_of, refuse_stop};
 use std::alloc::{AllocError, Global};
 use std::mem;
 
@@ -28,36 +26,31 @@ pub enum Part {
 /// A check behind an accepted model.
 #[derive(Drop)]
 pub struct Checking {
-    compiled: Compiled,
-    names: IndexMap<Name, Subject>,
+    accepted: Accepted,
     part: Part,
 }
 
 impl std::marker::Model for Checking {
-    ghost use Rattle.formula_syntax.specs.Lookups.{NamesFit};
     ghost use Rattle.check_form.specs.CheckMachine.{CheckState};
     ghost use Rattle.check_form.specs.CheckStages.{KeepsPart, part_state};
-    ghost use Rattle.cca_base.specs.contracts.formula.Formula as formula;
-    ghost use Rattle.std.specs.Coded.{codes};
+    ghost use Rattle.cca_base.specs.Coded.{model_codes};
 
     ghost Value = { CheckState };
 
-    ghost coded = { Prim.hlevel (codes, formula.the_row.coded) };
+    ghost coded = { Prim.hlevel model_codes };
 
-    ghost view = { λ c. part_state c.compiled c.part };
+    ghost view = { λ c. part_state c.accepted c.part };
 
-    ghost invariant = { λ c. NamesFit c.names c.compiled.model × KeepsPart c.compiled.model c.part };
+    ghost invariant = { λ c. KeepsPart c.accepted.model c.part };
 }
 
 impl Checking {
     /// Before the first line of the script.
-    pub fn open(alloc: Global, compiled: Compiled, names: IndexMap<Name, Subject>) -> Checking
-        requires { NamesFit names compiled.model }
-        ensures { result ≡ InScript compiled no_events }
+    pub fn open(alloc: Global, accepted: Accepted) -> Checking
+        ensures { result ≡ InScript accepted no_events }
     {
         Checking {
-            compiled,
-            names,
+            accepted,
             part: Part::Script(ScriptEvents::new(alloc)),
         }
     }
@@ -66,7 +59,7 @@ impl Checking {
     fn model(&self) -> &Model
         ensures { result.now ≡ model_of self.now }
     {
-        self.compiled.model()
+        self.accepted.compiled().model()
     }
 }
 
@@ -105,24 +98,20 @@ impl Machine for Checking {
     }
 
     fn step(&mut self, alloc: Global, number: u64, line: &[u8]) -> Result<Said, AllocError> {
+        let model = self.accepted.compiled().model();
         match &mut self.part {
-            Part::Trace(trace) => trace.line(alloc, self.compiled.model(), line),
-            Part::Script(script) => {
-                match script.line(alloc, self.compiled.model(), &self.names, line) {
-                    Ok(ScriptEnd::Going) => Ok(nothing(alloc)),
-                    Ok(ScriptEnd::Trace) => {
-                        let read = mem::replace(script, ScriptEvents::new(alloc));
-                        let ScriptEvents { events, .. } = read;
-                        let trace = TraceCheck::open(alloc, self.compiled.model(), events)?;
-                        self.part = Part::Trace(trace);
-                        Ok(nothing(alloc))
-                    }
-                    Err(stop) => {
-                        let model = self.compiled.model();
-                        refuse_stop(alloc, false, model, number, &stop)
-                    }
+            Part::Trace(trace) => trace.line(alloc, model, line),
+            Part::Script(script) => match script.line(alloc, self.accepted.named(), line) {
+                Ok(ScriptEnd::Going) => Ok(nothing(alloc)),
+                Ok(ScriptEnd::Trace) => {
+                    let read = mem::replace(script, ScriptEvents::new(alloc));
+                    let ScriptEvents { events, .. } = read;
+                    let trace = TraceCheck::open(alloc, model, events)?;
+                    self.part = Part::Trace(trace);
+                    Ok(nothing(alloc))
                 }
-            }
+                Err(stop) => refuse_stop(alloc, false, model, number, &stop),
+            },
         }
     }
 

@@ -13,7 +13,7 @@ use Rattle.check_laws.proofs.StepsAgain.{step_again, run_again}
 
 -- ---- runs
 
-pub leads_join : (P : StepKind) (s t u : List ℕ) (ks ls : List ℕ) → Leads P s ks t → Leads P t ls u → Leads P s (ks ++ ls) u
+leads_join : (P : StepKind) (s t u : List ℕ) (ks ls : List ℕ) → Leads P s ks t → Leads P t ls u → Leads P s (ks ++ ls) u
 leads_join P s t u [] ls r q = subst (λ x. Leads P x ls u) r q
 leads_join P s t u (k ∷ ks) ls r q = (r.0, r.1, leads_join P r.0 t u ks ls r.2 q)
 

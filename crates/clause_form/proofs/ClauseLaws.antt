@@ -1,13 +1,13 @@
 -- Literals that hold more, and clauses that say less.
-use Rattle.std.proofs.Common.{◌≡◌, ℕ, ◌<◌, ◌==◌, ◌||◌, ◌&&◌, Bool, true, false, List, [], ◌∷◌, ◌++◌, length, All, bit_or, sym, ap, subst, ◌∙◌, refl, arith}
+use Rattle.std.proofs.Common.{◌≡◌, ℕ, ◌<◌, ◌==◌, ◌||◌, ◌&&◌, Bool, true, List, [], ◌∷◌, ◌++◌, length, All, bit_or, sym, ap, subst, ◌∙◌, arith}
 use Rattle.std.specs.List.{list_all}
 use Rattle.std.proofs.lemmas.Bool.{eqb-true, and_parts, and_from}
 use Rattle.std.proofs.lemmas.List.{length_push, length-append}
 use Rattle.std.proofs.lemmas.List.Elements.{All-take, All-get_or, All-push}
 use Rattle.std.proofs.lemmas.List.Folds.{list_all-append}
 use Rattle.std.proofs.Math.Seq.{get_or-append_seam, take-append_seam}
-use Rattle.std.proofs.Math.Bool.{and_assoc}
-use mathlib.Core.Bool.{and-true}
+use Rattle.std.proofs.Math.Bool.{and_assoc, or_assoc}
+use mathlib.Core.Bool.{and-true, or_comm, or-and_distrib_left}
 use Rattle.cca_base.proofs.SetLaws.{has-or}
 use Rattle.cca_base.specs.Sets.{has}
 
@@ -15,32 +15,12 @@ use Rattle.cca_base.specs.Sets.{has}
 pub within : (a b v : ℕ) → (bit_or a b == b) ≡ true → has a v ≡ true → has b v ≡ true
 within a b v h k = subst (λ s. has s v ≡ true) (eqb-true (bit_or a b) b h) (has-or a b v ∙ ap (λ x. x || has b v) k)
 
-and_true : (a : Bool) → (a && (true && true)) ≡ a
-and_true true = refl
-and_true false = refl
-
 pub or_swap : (a b c : Bool) → ((a || b) || c) ≡ ((a || c) || b)
-or_swap true b c = refl
-or_swap false true true = refl
-or_swap false true false = refl
-or_swap false false true = refl
-or_swap false false false = refl
+or_swap a b c = or_assoc a b c ∙ ap (λ x. a || x) (or_comm b c) ∙ sym (or_assoc a c b)
 
 -- one more clause of several that one literal list is put into
 pub row_step : (k o a b : Bool) → ((k && (o || a)) && (o || b)) ≡ (k && (o || (a && b)))
-row_step false o a b = refl
-row_step true true a b = refl
-row_step true false a b = refl
-
--- one more of several clauses that others are put into
-pub rows_step : (a b all : Bool) → ((a || all) && (b || all)) ≡ ((a && b) || all)
-rows_step true true all = refl
-rows_step true false false = refl
-rows_step true false true = refl
-rows_step false true true = refl
-rows_step false true false = refl
-rows_step false false true = refl
-rows_step false false false = refl
+row_step k o a b = and_assoc k (o || a) (o || b) ∙ ap (λ x. k && x) (sym (or-and_distrib_left o a b))
 
 -- ---- a list of clauses that keeps some of those gone through
 
@@ -53,7 +33,7 @@ fewer_push p kept more done x e h all =
     ap (list_all p) e ∙ (list_all-append p kept (x ∷ []) ∙ and_from _ _ (h parts.0) parts.1)
 
 pub kept_skip : {X : Type 0} (p : X → Bool) (kept done : List X) (x : X) → p x ≡ true → list_all p kept ≡ list_all p done → list_all p kept ≡ list_all p (done ++ x ∷ [])
-kept_skip p kept done x px h = h ∙ sym (list_all-append p done (x ∷ []) ∙ (ap (λ v. list_all p done && (v && true)) px ∙ and_true (list_all p done)))
+kept_skip p kept done x px h = h ∙ sym (list_all-append p done (x ∷ []) ∙ (ap (λ v. list_all p done && (v && true)) px ∙ and-true (list_all p done)))
 
 pub fewer_skip : {X : Type 0} (p : X → Bool) (kept done : List X) (x : X) → (list_all p done ≡ true → list_all p kept ≡ true) → list_all p (done ++ x ∷ []) ≡ true → list_all p kept ≡ true
 fewer_skip p kept done x h all = h (and_parts (list_all p done) (list_all p (x ∷ [])) (sym (list_all-append p done (x ∷ [])) ∙ all)).0

@@ -1,5 +1,5 @@
 -- What a well-formed model's counts are.
-use Rattle.std.proofs.Common.{◌≡◌, ℕ, ◌+◌, ◌-◌, ◌<◌, ◌≤◌, ◌++◌, ◌&&◌, true, false, not, List, [], Option, length, map, All, slice_index, sym, ap, subst, ◌∙◌, inl, inr, arith}
+use Rattle.std.proofs.Common.{◌≡◌, ℕ, ◌+◌, ◌-◌, ◌<◌, ◌≤◌, ◌++◌, ◌&&◌, true, false, not, List, [], Option, length, All, slice_index, sym, ap, subst, ◌∙◌, inl, inr, arith}
 use Rattle.std.proofs.lemmas.Bool.{cases_lt}
 use Rattle.std.proofs.lemmas.List.{length-map, length-append, get_or_append_left, get_or-append-add}
 use Rattle.std.proofs.lemmas.List.Elements.{All-append, All-map, All-weaker}
@@ -54,16 +54,13 @@ both_values a b modes values h k =
       ];
     }
 
--- counts put behind counts
-pub counts_are : (m : PlantModel) (empty one two : List ℕ) (xs : List Component) (ys : List Variable) → empty ≡ [] → one ≡ empty ++ map (λ (c : Component). length c.modes) xs → xs ≡ m.components
-    → two ≡ one ++ map (λ (v : Variable). length v.values) ys → ys ≡ m.variables → two ≡ mode_counts m ++ value_counts m
-counts_are m empty one two xs ys e f x g y =
-    g ∙ (ap (λ (s : List Variable). one ++ map (λ (v : Variable). length v.values) s) y
-    ∙ ap (λ (s : List ℕ). s ++ value_counts m) (f ∙ (ap (λ (s : List ℕ). s ++ map (λ (c : Component). length c.modes) xs) e ∙ ap (λ (s : List Component). map (λ (c : Component). length c.modes) s) x)))
+-- the number of subjects
+pub subjects_counted : (m : PlantModel) → length (mode_counts m ++ value_counts m) ≡ length m.components + length m.variables
+subjects_counted m = omega (arith, length-append (mode_counts m) (value_counts m), length-map m.components (λ c. length c.modes), length-map m.variables (λ v. length v.values))
 
 -- how many components there are among the counts, and how many are left
 components_counted : (m : PlantModel) → length (mode_counts m ++ value_counts m) - length m.components ≡ length m.variables
-components_counted m = omega (arith, length-append (mode_counts m) (value_counts m), length-map m.components (λ c. length c.modes), length-map m.variables (λ v. length v.values))
+components_counted m = omega (arith, subjects_counted m)
 
 -- the clauses of the rules, the fixed pair and the denied formula, one after the other
 pub asked : (m : PlantModel) (fixed : Option Pair) (denied : Option Formula) (components : ℕ) (sizes : List ℕ) (rules : List Formula) (c0 c1 c2 c3 : List Clause)

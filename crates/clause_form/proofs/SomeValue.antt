@@ -1,6 +1,6 @@
 -- Tests that some number below a size passes.
 use Rattle.std.proofs.Common.{◌≡◌, ℕ, zero, suc, ◌+◌, ◌<◌, Bool, true, false, ◌&&◌, ◌||◌, refl, sym, subst, arith, add-one, inl, inr, ◌⊎◌}
-use mathlib.Core.Bool.{or-true, and-false}
+use mathlib.Core.Bool.{or-true, and-false, and-or_distrib_left}
 use Rattle.clause_form.specs.Clauses.{any_below}
 
 pub any_below-step : (n : ℕ) (t : ℕ → Bool) → any_below (n + 1) t ≡ (any_below n t || t n)
@@ -10,14 +10,10 @@ pub any_same : (n : ℕ) (t s : ℕ → Bool) → ((v : ℕ) → t v ≡ s v) �
 any_same zero t s e = refl
 any_same (suc n) t s e = rw (any_same n t s e, e n)
 
-spread : (a b c : Bool) → ((a && b) || (a && c)) ≡ (a && (b || c))
-spread true b c = refl
-spread false b c = refl
-
 -- a fact that doesn't depend on the number
 pub any_and : (n : ℕ) (a : Bool) (t : ℕ → Bool) → any_below n (λ v. a && t v) ≡ (a && any_below n t)
 any_and zero a t = sym (and-false a)
-any_and (suc n) a t = rw (any_and n a t) (spread a (any_below n t) (t n))
+any_and (suc n) a t = rw (any_and n a t) (sym (and-or_distrib_left a (any_below n t) (t n)))
 
 any_case : (n : ℕ) (t : ℕ → Bool) (a b : Bool) → any_below n t ≡ a → t n ≡ b → (a || b) ≡ true → ((any_below n t ≡ true → (v : ℕ) × (v < n) × (t v ≡ true))) → (v : ℕ) × (v < suc n) × (t v ≡ true)
 any_case n t true b e f h ih = let r = ih e in (r.0, omega (arith, r.1), r.2)

@@ -1,8 +1,7 @@
 -- What clauses say of values, one for each subject.
-use Rattle.std.specs.Prelude.{◌≡◌, ◌==◌, ◌<◌, ◌≤◌, ◌||◌, ℕ, zero, suc, Bool, false, List, length, slice_index, take, All}
+use Rattle.std.specs.Prelude.{◌≡◌, ◌==◌, ◌<◌, ◌||◌, ℕ, zero, suc, Bool, false, List, length, slice_index, take, All}
 use Rattle.std.specs.List.{list_any, list_all}
 use Rattle.cca_base.specs.Sets.{has}
-use Rattle.cca_base.specs.declared.limits.TheConstants.{MAX_CHOICES}
 use Rattle.clause_form.specs.declared.clause.Literal.{Literal}
 use Rattle.clause_form.specs.declared.clause.Clause.{Clause}
 use Rattle.clause_form.specs.declared.clause.Clauses.{Clauses}
@@ -57,7 +56,6 @@ abbrev pub any_below : ℕ → (ℕ → Bool) → Bool
 any_below zero test = false
 any_below (suc n) test = any_below n test || test n
 
--- each subject has no more values than a set can hold, and each clause speaks of the subjects alone
-pub record AreClauses (c : Clauses) : Type 0 where
-  pub few : All (λ n. n ≤ MAX_CHOICES) c.sizes
-  pub subjects : AllBelow (length c.sizes) c.clauses
+-- each clause speaks of the subjects alone
+abbrev pub AreClauses : Clauses → Type 0
+AreClauses c = AllBelow (length c.sizes) c.clauses

@@ -3,6 +3,7 @@
 ghost use Rattle.std.specs.Prelude.{◌≡◌, ◌==◌, IfOk};
 ghost use Rattle.clause_form.specs.Clauses.{names_one};
 
+use crate::sizes::Sizes;
 use cca_base::{List, ValueSet};
 use std::alloc::{AllocError, Global};
 
@@ -43,6 +44,6 @@ impl Clause {
 #[derive(Debug, Drop)]
 pub struct Clauses {
     /// How many values each subject has.
-    pub sizes: List<u8>,
+    pub sizes: Sizes,
     pub clauses: List<Clause>,
 }

@@ -1,13 +1,13 @@
 //! Clauses of two parts combined: all of both, or each of the one with each of the other, without subsumed ones.
 
-ghost use Rattle.std.specs.Prelude.{◌≡◌, ℕ, List, ◌&&◌, ◌||◌, ◌≤◌, length, All, IfOk, OnOk, IsTrue};
-ghost use Rattle.cca_base.specs.declared.limits.TheConstants.{MAX_CHOICES};
+ghost use Rattle.std.specs.Prelude.{◌≡◌, ℕ, List, ◌&&◌, ◌||◌, length, IfOk, OnOk, IsTrue};
 ghost use Rattle.clause_form.specs.Clauses.{AreValues, is_met, all_met, AreBelow, AllBelow, AreOthers, AllOthers};
 ghost use Rattle.clause_form.specs.Formulas.{combine};
 
 use crate::clause::{Clause, Literal};
 use crate::last::{last_literal, lengthened};
 use crate::literals::disjoined;
+use crate::sizes::Sizes;
 use crate::subsumption::{is_always_met, subsumes};
 use std::alloc::{AllocError, Global};
 
@@ -63,11 +63,10 @@ fn without_absorbed(
 /// The clauses with one more, without what is always met or absorbed.
 pub(crate) fn with_clause(
     alloc: Global,
-    sizes: &[u8],
+    sizes: &Sizes,
     clauses: Vec<Clause>,
     clause: Clause,
 ) -> Result<Vec<Clause>, AllocError>
-    requires few { All (λ n. n ≤ MAX_CHOICES) sizes.now }
     requires of_clause { AreBelow (length sizes.now) clause.literals }
     requires below { AllBelow (length sizes.now) clauses.items }
     ensures met { IfOk result (λ r.
@@ -89,12 +88,11 @@ pub(crate) fn with_clause(
 /// Adds each of the clauses, with what stands in the one.
 fn add_row(
     alloc: Global,
-    sizes: &[u8],
+    sizes: &Sizes,
     clauses: Vec<Clause>,
     one: &Clause,
     more: &[Clause],
 ) -> Result<Vec<Clause>, AllocError>
-    requires few { All (λ n. n ≤ MAX_CHOICES) sizes.now }
     requires of_one { AreBelow (length sizes.now) one.now.literals }
     requires of_more { AllBelow (length sizes.now) more.now }
     requires below { AllBelow (length sizes.now) clauses.items }
@@ -117,11 +115,10 @@ fn add_row(
 /// The clauses, and more of them one by one.
 fn with_all(
     alloc: Global,
-    sizes: &[u8],
+    sizes: &Sizes,
     clauses: Vec<Clause>,
     more: Vec<Clause>,
 ) -> Result<Vec<Clause>, AllocError>
-    requires few { All (λ n. n ≤ MAX_CHOICES) sizes.now }
     requires below { AllBelow (length sizes.now) clauses.items }
     requires of_more { AllBelow (length sizes.now) more.items }
     ensures met { IfOk result (λ r. (xs : List ℕ) → AreValues sizes.now xs
@@ -140,11 +137,10 @@ fn with_all(
 /// Each of the clauses joined with each of the others.
 fn distributed(
     alloc: Global,
-    sizes: &[u8],
+    sizes: &Sizes,
     clauses: &[Clause],
     more: &[Clause],
 ) -> Result<Vec<Clause>, AllocError>
-    requires few { All (λ n. n ≤ MAX_CHOICES) sizes.now }
     requires below { AllBelow (length sizes.now) clauses.now }
     requires of_more { AllBelow (length sizes.now) more.now }
     ensures met { IfOk result (λ r. (xs : List ℕ) → AreValues sizes.now xs
@@ -164,12 +160,11 @@ fn distributed(
 /// clause where it comes last there. The error is out of memory.
 pub fn combined(
     alloc: Global,
-    sizes: &[u8],
+    sizes: &Sizes,
     all: bool,
     clauses: Vec<Clause>,
     more: Vec<Clause>,
 ) -> Result<Vec<Clause>, AllocError>
-    requires few { All (λ n. n ≤ MAX_CHOICES) sizes.now }
     requires below { AllBelow (length sizes.now) clauses.items }
     requires of_more { AllBelow (length sizes.now) more.items }
     ensures met { IfOk result (λ r.

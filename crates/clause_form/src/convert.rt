@@ -1,6 +1,6 @@
 //! Formulas to clauses, by distribution, with subsumed clauses dropped as they come.
 
-ghost use Rattle.std.specs.Prelude.{◌≡◌, ℕ, List, ◌+◌, ◌-◌, ◌<◌, ◌≤◌, ◌^◌, length, IfOk, IsTrue, All, not, slice_index};
+ghost use Rattle.std.specs.Prelude.{◌≡◌, ℕ, List, ◌+◌, ◌-◌, ◌<◌, ◌≤◌, ◌^◌, length, IfOk, IsTrue, not, slice_index};
 ghost use Rattle.cca_base.specs.Formula.{is_within, subject_within};
 ghost use Rattle.cca_base.specs.Sets.{has};
 ghost use Rattle.cca_base.specs.declared.limits.TheConstants.{MAX_CHOICES, MAX_SUBJECTS};
@@ -9,6 +9,7 @@ ghost use Rattle.clause_form.specs.Formulas.{subject_number, Means, MeansAmong};
 
 use crate::clause::{Clause, Literal};
 use crate::combination::{combined, with_clause};
+use crate::sizes::Sizes;
 use cca_base::{Formula, List, Subject, ValueSet};
 use std::alloc::{AllocError, Global};
 
@@ -57,11 +58,10 @@ fn constant(alloc: Global, value: bool) -> Result<Vec<Clause>, AllocError>
 /// The clause that says that the subject has one of the values.
 fn single(
     alloc: Global,
-    sizes: &[u8],
+    sizes: &Sizes,
     subject: u16,
     values: ValueSet,
 ) -> Result<Vec<Clause>, AllocError>
-    requires few { All (λ n. n ≤ MAX_CHOICES) sizes.now }
     requires inside { subject < length sizes.now }
     ensures met { IfOk result (λ r.
         (xs : List ℕ) → AreValues sizes.now xs →
@@ -79,12 +79,11 @@ fn single(
 fn among(
     alloc: Global,
     components: u16,
-    sizes: &[u8],
+    sizes: &Sizes,
     subject: Subject,
     set: ValueSet,
     wanted: bool,
 ) -> Result<Vec<Clause>, AllocError>
-    requires few { All (λ n. n ≤ MAX_CHOICES) sizes.now }
     requires split { components ≤ length sizes.now }
     requires numbered { length sizes.now ≤ MAX_SUBJECTS }
     requires within { IsTrue (subject_within components (length sizes.now - components) subject) }
@@ -92,7 +91,7 @@ fn among(
     ensures below { IfOk result (λ r. AllBelow (length sizes.now) r.items) }
 {
     let subject = number(components, sizes.len(), subject);
-    let size = sizes[subject as usize];
+    let size = sizes.get(subject as usize);
     let values = if wanted {
         set.common(ValueSet::full(size))
     } else {
@@ -105,11 +104,10 @@ fn among(
 pub fn clauses_where(
     alloc: Global,
     components: u16,
-    sizes: &[u8],
+    sizes: &Sizes,
     formula: &Formula,
     wanted: bool,
 ) -> Result<Vec<Clause>, AllocError>
-    requires few { All (λ n. n ≤ MAX_CHOICES) sizes.now }
     requires split { components ≤ length sizes.now }
     requires numbered { length sizes.now ≤ MAX_SUBJECTS }
     requires within { IsTrue (is_within components (length sizes.now - components) formula.now) }

@@ -1,10 +1,10 @@
 //! A literal that comes last in the only clause, put there in place.
 
-ghost use Rattle.std.specs.Prelude.{◌≡◌, ◌==◌, ◌∷◌, [], ◌||◌, ◌<◌, ◌≤◌, ℕ, List, false, length, map, All, IfOk, IfSome};
-ghost use Rattle.cca_base.specs.declared.limits.TheConstants.{MAX_CHOICES};
+ghost use Rattle.std.specs.Prelude.{◌≡◌, ◌==◌, ◌∷◌, [], ◌||◌, ◌<◌, ℕ, List, false, length, map, IfOk, IfSome};
 ghost use Rattle.clause_form.specs.Clauses.{AllBelow, AllOthers, all_met, is_true};
 
 use crate::clause::{Clause, Literal};
+use crate::sizes::Sizes;
 use crate::subsumption::is_always_met;
 use std::alloc::AllocError;
 
@@ -17,8 +17,7 @@ fn is_behind(literals: &[Literal], subject: u16) -> bool {
 }
 
 /// The literal that is all of `more`, where it comes last in the only clause and isn't always true.
-pub(crate) fn last_literal(sizes: &[u8], clauses: &[Clause], more: &[Clause]) -> Option<Literal>
-    requires few { All (λ n. n ≤ MAX_CHOICES) sizes.now }
+pub(crate) fn last_literal(sizes: &Sizes, clauses: &[Clause], more: &[Clause]) -> Option<Literal>
     requires of_more { AllBelow (length sizes.now) more.now }
     ensures alone { IfSome result (λ _. length clauses.now ≡ 1) }
     ensures all { IfSome result (λ l. map (λ c. c.literals) more.now ≡ (l ∷ []) ∷ []) }

@@ -17,5 +17,5 @@ pub use clause::{Clause, Clauses, Literal};
 pub use combination::combined;
 pub use condition::given;
 pub use parted::{copies, keep_others, naming};
-pub use sizes::sizes_of;
+pub use sizes::{Sizes, sizes_of};
 pub use whole::{clauses_of, denied_clauses};

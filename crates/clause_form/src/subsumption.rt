@@ -1,11 +1,11 @@
 //! Subsumption of clauses, and clauses that are always true.
 
-ghost use Rattle.std.specs.Prelude.{◌≡◌, ℕ, List, ◌≤◌, length, All, IsTrue};
-ghost use Rattle.cca_base.specs.declared.limits.TheConstants.{MAX_CHOICES};
+ghost use Rattle.std.specs.Prelude.{◌≡◌, ℕ, List, length, IsTrue};
 ghost use Rattle.clause_form.specs.Clauses.{AreValues, is_true, is_met, AreBelow};
 
 use crate::clause::Literal;
 use crate::literals::skip;
+use crate::sizes::Sizes;
 use cca_base::ValueSet;
 
 /// Whether the second is of the same subject, and has the first one's values.
@@ -36,14 +36,13 @@ pub(crate) fn subsumes(narrow: &[Literal], wide: &[Literal]) -> bool
 }
 
 /// Whether some literal has every value of its subject.
-pub(crate) fn is_always_met(sizes: &[u8], literals: &[Literal]) -> bool
-    requires few { All (λ n. n ≤ MAX_CHOICES) sizes.now }
+pub(crate) fn is_always_met(sizes: &Sizes, literals: &[Literal]) -> bool
     requires below { AreBelow (length sizes.now) literals.now }
     ensures { IsTrue result → (xs : List ℕ) → AreValues sizes.now xs →
         IsTrue (is_met xs literals.now) }
 {
     for literal in literals {
-        let all = ValueSet::full(sizes[literal.subject as usize]);
+        let all = ValueSet::full(sizes.get(literal.subject as usize));
         if all.is_within(literal.values) {
             return true;
         }

@@ -11,7 +11,7 @@ ghost use Rattle.clause_form.specs.Clauses.{AllBelow};
 
 use crate::clause::{Clause, Clauses, Literal};
 use crate::convert::clauses_where;
-use crate::sizes::sizes_of;
+use crate::sizes::{Sizes, sizes_of};
 use cca_base::{Formula, List, Model, Pair, ValueSet};
 use std::alloc::{AllocError, Global};
 
@@ -19,12 +19,11 @@ use std::alloc::{AllocError, Global};
 fn add_formula(
     alloc: Global,
     components: u16,
-    sizes: &[u8],
+    sizes: &Sizes,
     formula: &Formula,
     wanted: bool,
     clauses: &mut List<Clause>,
 ) -> Result<(), AllocError>
-    requires few { All (λ n. n ≤ MAX_CHOICES) sizes.now }
     requires split { components ≤ length sizes.now }
     requires numbered { length sizes.now ≤ MAX_SUBJECTS }
     requires within { IsTrue (is_within components (length sizes.now - components) formula.now) }
@@ -43,11 +42,10 @@ fn add_formula(
 fn add_rules(
     alloc: Global,
     components: u16,
-    sizes: &[u8],
+    sizes: &Sizes,
     rules: &[Formula],
     clauses: &mut List<Clause>,
 ) -> Result<(), AllocError>
-    requires few { All (λ n. n ≤ MAX_CHOICES) sizes.now }
     requires split { components ≤ length sizes.now }
     requires numbered { length sizes.now ≤ MAX_SUBJECTS }
     requires within { All (λ rule.
@@ -67,7 +65,7 @@ fn add_rules(
 fn add_pair(
     alloc: Global,
     components: u16,
-    sizes: &[u8],
+    sizes: &Sizes,
     pair: Pair,
     clauses: &mut List<Clause>,
 ) -> Result<(), AllocError>
@@ -91,7 +89,7 @@ fn add_pair(
 fn add_fixed(
     alloc: Global,
     components: u16,
-    sizes: &[u8],
+    sizes: &Sizes,
     fixed: Option<Pair>,
     clauses: &mut List<Clause>,
 ) -> Result<(), AllocError>
@@ -112,11 +110,10 @@ fn add_fixed(
 fn add_denied(
     alloc: Global,
     components: u16,
-    sizes: &[u8],
+    sizes: &Sizes,
     denied: Option<&Formula>,
     clauses: &mut List<Clause>,
 ) -> Result<(), AllocError>
-    requires few { All (λ n. n ≤ MAX_CHOICES) sizes.now }
     requires split { components ≤ length sizes.now }
     requires numbered { length sizes.now ≤ MAX_SUBJECTS }
     requires within { ForSome denied (λ f.
@@ -149,16 +146,15 @@ pub fn clauses_of(
     let components = model.components().len() as u16;
     let sizes = sizes_of(alloc, model)?;
     let mut clauses = List::new(alloc);
-    let counts = sizes.as_slice();
     add_rules(
         alloc,
         components,
-        counts,
+        &sizes,
         model.rules().as_slice(),
         &mut clauses,
     )?;
-    add_fixed(alloc, components, counts, fixed, &mut clauses)?;
-    add_denied(alloc, components, counts, denied, &mut clauses)?;
+    add_fixed(alloc, components, &sizes, fixed, &mut clauses)?;
+    add_denied(alloc, components, &sizes, denied, &mut clauses)?;
     Ok(Clauses { sizes, clauses })
 }
 
@@ -176,7 +172,6 @@ pub fn denied_clauses(
     let components = model.components().len() as u16;
     let sizes = sizes_of(alloc, model)?;
     let mut clauses = List::new(alloc);
-    let counts = sizes.as_slice();
-    add_formula(alloc, components, counts, formula, false, &mut clauses)?;
+    add_formula(alloc, components, &sizes, formula, false, &mut clauses)?;
     Ok(Clauses { sizes, clauses })
 }

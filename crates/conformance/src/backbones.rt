@@ -9,13 +9,8 @@ use std::test::*;
 
 /// The values that these variables have in every world of the first state of these modes.
 fn forced_of(alloc: Global, model: &Model, modes: Pairs<'_>, vars: VarSet) -> Option<Seen> {
-    let Some(state) = first_state(alloc, model, modes) else {
-        return None;
-    };
-    match forced(alloc, model, &state, vars) {
-        Ok(answer) => Some(answer),
-        Err(_) => None,
-    }
+    let state = first_state(alloc, model, modes)?;
+    forced(alloc, model, &state, vars).ok()
 }
 
 fn is_forced(alloc: Global, model: &Model, modes: Pairs<'_>, vars: VarSet, pairs: &[Pair]) -> bool {

@@ -7,14 +7,9 @@ use std::test::*;
 
 /// A copy of the state of these modes.
 fn copied_state(alloc: Global, modes: &[u8]) -> Option<State> {
-    let Some(modes) = list_of(alloc, modes) else {
-        return None;
-    };
+    let modes = list_of(alloc, modes)?;
     let state = State { modes };
-    match state.copy(alloc) {
-        Ok(copy) => Some(copy),
-        Err(_) => None,
-    }
+    state.copy(alloc).ok()
 }
 
 /// Whether a copy of the state of these modes has them.
@@ -28,13 +23,8 @@ fn state_is_copied(alloc: Global, modes: &[u8]) -> bool {
 /// A copy of the cube of this pair.
 fn copied_cube(alloc: Global, pair: Pair) -> Option<Cube> {
     let mut cube = Cube::new(alloc);
-    let Ok(()) = cube.push(pair) else {
-        return None;
-    };
-    match cube.copy(alloc) {
-        Ok(copy) => Some(copy),
-        Err(_) => None,
-    }
+    cube.push(pair).ok()?;
+    cube.copy(alloc).ok()
 }
 
 /// Whether a copy of the cube of this pair has it.

@@ -14,16 +14,10 @@ fn state_of(alloc: Global, modes: &[u8]) -> Option<State> {
 
 /// Whether the state of these modes is a mending of the other's, in the model of this text.
 fn is_mending(alloc: Global, text: &str, from: &[u8], to: &[u8]) -> Option<bool> {
-    let Some(model) = model_of(alloc, text) else {
-        return None;
-    };
-    let Some(from) = state_of(alloc, from) else {
-        return None;
-    };
-    match state_of(alloc, to) {
-        Some(to) => Some(model.is_mending(&from, &to)),
-        None => None,
-    }
+    let model = model_of(alloc, text)?;
+    let from = state_of(alloc, from)?;
+    let to = state_of(alloc, to)?;
+    Some(model.is_mending(&from, &to))
 }
 
 #[test]

@@ -55,18 +55,14 @@ fn has_class(
 
 /// Whether the classes cover the state of these modes.
 fn is_covered(alloc: Global, classes: &Classes, modes: &[u8]) -> Option<bool> {
-    match state_of(alloc, classes.compiled().model(), modes) {
-        Some(state) => Some(classes.covers(&state)),
-        None => None,
-    }
+    let state = state_of(alloc, classes.compiled().model(), modes)?;
+    Some(classes.covers(&state))
 }
 
 /// Whether the model's classes around one state cover the other.
 fn covers(alloc: Global, (text, base): (&str, &[u8]), modes: &[u8]) -> Option<bool> {
-    match classes_of(alloc, text, base) {
-        Some(classes) => is_covered(alloc, &classes, modes),
-        None => None,
-    }
+    let classes = classes_of(alloc, text, base)?;
+    is_covered(alloc, &classes, modes)
 }
 
 /// The cell for a component from one mode to another.

@@ -20,16 +20,11 @@ type Literals<'a> = &'a [&'a [(u16, ValueSet)]];
 /// Clauses over the model's components, met by the states that have a world.
 fn states_of(alloc: Global, model: &Model) -> Option<Clauses> {
     let components = model.components().len();
-    let Ok(clauses) = clauses_of(alloc, model, None, None) else {
-        return None;
-    };
+    let clauses = clauses_of(alloc, model, None, None).ok()?;
     if components > clauses.sizes.len() || components > MAX_COMPONENTS {
         return None;
     }
-    match project(alloc, &clauses, components as u16) {
-        Ok(kept) => Some(kept),
-        Err(_) => None,
-    }
+    project(alloc, &clauses, components as u16).ok()
 }
 
 fn are_met(kept: &Clauses, states: &[[u8; 2]]) -> bool {
@@ -64,13 +59,8 @@ fn each_state_of_the_valve_meets_what_is_kept(rt: HostRuntime) {
 
 /// The cubes that the clauses over one subject of three values block minimally, if they are no more.
 fn primes_of(alloc: Global, rows: Literals<'_>, most: u32) -> Option<Primes> {
-    let Some(given) = clauses(alloc, &[3], rows) else {
-        return None;
-    };
-    match primes(alloc, &given, most) {
-        Ok(answer) => Some(answer),
-        Err(_) => None,
-    }
+    let given = clauses(alloc, &[3], rows)?;
+    primes(alloc, &given, most).ok()
 }
 
 /// Whether the cubes are these.
@@ -119,9 +109,7 @@ fn row_of(alloc: Global, numbers: &[u16], n: usize) -> Option<List<u16>>
         if *u as usize >= n {
             return None;
         }
-        let Ok(()) = row.push(*u) else {
-            return None;
-        };
+        row.push(*u).ok()?;
     }
     Some(row)
 }
@@ -136,28 +124,19 @@ fn rows_of(alloc: Global, lists: &[&[u16]]) -> Option<List<List<u16>>>
     }
     let mut rows = List::new(alloc);
     for list in lists {
-        let Some(row) = row_of(alloc, list, lists.len()) else {
-            return None;
-        };
-        let Ok(()) = rows.push(row) else {
-            return None;
-        };
+        let row = row_of(alloc, list, lists.len())?;
+        rows.push(row).ok()?;
     }
     Some(rows)
 }
 
 /// The ancestors of the component in these rows.
 fn ancestors_of(alloc: Global, lists: &[&[u16]], component: u16) -> Option<List<u16>> {
-    let Some(rows) = rows_of(alloc, lists) else {
-        return None;
-    };
+    let rows = rows_of(alloc, lists)?;
     if component as usize >= rows.len() {
         return None;
     }
-    match ancestors(alloc, &rows, component) {
-        Ok(list) => Some(list),
-        Err(_) => None,
-    }
+    ancestors(alloc, &rows, component).ok()
 }
 
 /// Whether the component has these ancestors in these rows.
@@ -202,30 +181,21 @@ pub fn pairs_of(alloc: Global, compiled: &Compiled, pairs: Pairs<'_>) -> Option<
         if p.0 as usize >= count || !lacks(list.as_slice(), p.0) {
             return None;
         }
-        let Ok(()) = list.push(pair(p.0, p.1)) else {
-            return None;
-        };
+        list.push(pair(p.0, p.1)).ok()?;
     }
     Some(list)
 }
 
 /// The goal of these pairs, sorted.
 fn sorted(alloc: Global, compiled: &Compiled, pairs: Pairs<'_>) -> Option<Goal> {
-    let Some(pairs) = pairs_of(alloc, compiled, pairs) else {
-        return None;
-    };
-    match sort_goal(alloc, compiled, &pairs) {
-        Ok(goal) => Some(goal),
-        Err(_) => None,
-    }
+    let pairs = pairs_of(alloc, compiled, pairs)?;
+    sort_goal(alloc, compiled, &pairs).ok()
 }
 
 /// The bound of the goal of these pairs.
 fn bound_of(alloc: Global, compiled: &Compiled, pairs: Pairs<'_>) -> Option<u64> {
-    match pairs_of(alloc, compiled, pairs) {
-        Some(pairs) => Some(compiled.bound_of_goal(&Goal { pairs })),
-        None => None,
-    }
+    let pairs = pairs_of(alloc, compiled, pairs)?;
+    Some(compiled.bound_of_goal(&Goal { pairs }))
 }
 
 fn sorts(alloc: Global, compiled: &Compiled, pairs: Pairs<'_>, wanted: &[Pair]) -> bool {
@@ -245,10 +215,8 @@ fn valve_sorts(alloc: Global, pairs: Pairs<'_>, wanted: &[Pair]) -> bool {
 
 /// The bound of the goal of these pairs on the powered valve.
 fn valve_bound(alloc: Global, pairs: Pairs<'_>) -> Option<u64> {
-    match compiled_of(alloc, POWERED_VALVE) {
-        Some(compiled) => bound_of(alloc, &compiled, pairs),
-        None => None,
-    }
+    let compiled = compiled_of(alloc, POWERED_VALVE)?;
+    bound_of(alloc, &compiled, pairs)
 }
 
 #[test]

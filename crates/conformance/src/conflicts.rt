@@ -13,24 +13,15 @@ fn conflict_of(
     modes: Pairs<'_>,
     observed: Pairs<'_>,
 ) -> Option<Option<Cube>> {
-    let Some(state) = first_state(alloc, model, modes) else {
-        return None;
-    };
-    let Some(observed) = seen(alloc, model, observed) else {
-        return None;
-    };
-    match conflict(alloc, model, &state, &observed) {
-        Ok(answer) => Some(answer),
-        Err(_) => None,
-    }
+    let state = first_state(alloc, model, modes)?;
+    let observed = seen(alloc, model, observed)?;
+    conflict(alloc, model, &state, &observed).ok()
 }
 
 /// The same of the model of this text.
 fn blame(alloc: Global, text: &str, modes: Pairs<'_>, observed: Pairs<'_>) -> Option<Option<Cube>> {
-    match model_of(alloc, text) {
-        Some(model) => conflict_of(alloc, &model, modes, observed),
-        None => None,
-    }
+    let model = model_of(alloc, text)?;
+    conflict_of(alloc, &model, modes, observed)
 }
 
 /// Whether the conflict of the first state of these modes with what is seen has these pairs.

@@ -15,24 +15,17 @@ use successors::{Plant, choices};
 fn next_choices(alloc: Global, compiled: &Compiled) -> Option<Choices>
     ensures { IfSome result (λ c. AreRows c.rows) }
 {
-    let Ok(mut plant) = Plant::open(alloc, compiled) else {
-        return None;
-    };
+    let mut plant = Plant::open(alloc, compiled).ok()?;
     plant.command(compiled, 0);
-    match choices(alloc, compiled, plant.state(), Some(2)) {
-        Ok(choices) => Some(choices),
-        Err(_) => None,
-    }
+    choices(alloc, compiled, plant.state(), Some(2)).ok()
 }
 
 /// What the valve may become where it is to open and its driver is on.
 fn opening(alloc: Global) -> Option<Choices>
     ensures { IfSome result (λ c. AreRows c.rows) }
 {
-    match compiled_of(alloc, STICKING_VALVE) {
-        Some(compiled) => next_choices(alloc, &compiled),
-        None => None,
-    }
+    let compiled = compiled_of(alloc, STICKING_VALVE)?;
+    next_choices(alloc, &compiled)
 }
 
 fn is_choice(choice: &Choice, wanted: (u8, u64)) -> bool {
@@ -78,13 +71,8 @@ fn a_valve_opens_or_sticks(rt: HostRuntime) {
 
 /// The search through what the valve may become.
 fn opening_search(alloc: Global) -> Option<Search> {
-    let Some(choices) = opening(alloc) else {
-        return None;
-    };
-    match Search::of(alloc, choices) {
-        Ok(search) => Some(search),
-        Err(_) => None,
-    }
+    let choices = opening(alloc)?;
+    Search::of(alloc, choices).ok()
 }
 
 /// Whether the search gives these modes with this cost next.
@@ -148,24 +136,15 @@ fn what_is_cut_is_not_given(rt: HostRuntime) {
 
 /// The estimate from the start modes without a command.
 fn estimated(alloc: Global, compiled: &Compiled, observed: Pairs<'_>) -> Option<Estimate> {
-    let Some(observed) = seen(alloc, compiled.model(), observed) else {
-        return None;
-    };
-    let Ok(plant) = Plant::open(alloc, compiled) else {
-        return None;
-    };
-    match estimate(alloc, compiled, plant.state(), None, &observed) {
-        Ok(answer) => Some(answer),
-        Err(_) => None,
-    }
+    let observed = seen(alloc, compiled.model(), observed)?;
+    let plant = Plant::open(alloc, compiled).ok()?;
+    estimate(alloc, compiled, plant.state(), None, &observed).ok()
 }
 
 /// The same of the model of this text.
 fn estimate_of(alloc: Global, text: &str, observed: Pairs<'_>) -> Option<Estimate> {
-    match compiled_of(alloc, text) {
-        Some(compiled) => estimated(alloc, &compiled, observed),
-        None => None,
-    }
+    let compiled = compiled_of(alloc, text)?;
+    estimated(alloc, &compiled, observed)
 }
 
 /// Whether what is observed is explained by these modes with this cost.

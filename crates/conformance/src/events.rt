@@ -3,25 +3,17 @@
 use crate::parts::{Pairs, model_of, reader_of, seen};
 use cca_base::*;
 use model_syntax::ModelReader;
-use script_reader::{read_event, read_named_event};
+use script_reader::{NamedModel, read_event, read_named_event};
 use std::alloc::Global;
 use std::test::*;
 
-/// A valve that sticks, with the driver that it needs, a sensor for the flow and one for heat, and a load that nothing senses.
+/// A driver and a valve, a sensor for the flow and one for heat, and a load that nothing senses.
 const SENSED_VALVE: &str = "titan 1
 component drv = off, on start off
 component valve = closed, open, stuck start closed
 var flow = none, some sensed
 var load = low, high
-var heat = low, high sensed
-rule flow = some iff valve = open
-move drv off -> on by drv_on when true
-move drv on -> off by drv_off when true
-move valve closed -> open by v_open when drv = on
-move valve open -> closed by v_close when drv = on
-repair valve stuck -> closed by v_reset when drv = on
-fail valve closed -> stuck cost 4
-fail valve open -> stuck cost 6";
+var heat = low, high sensed";
 
 /// What a line is answered.
 #[derive(Clone, Copy)]
@@ -116,9 +108,7 @@ fn valve_rows(
     mirrored: &[u16],
     rows: &[(&str, Answer<'_>)],
 ) -> Option<usize> {
-    let Some(model) = model_of(alloc, SENSED_VALVE) else {
-        return None;
-    };
+    let model = model_of(alloc, SENSED_VALVE)?;
     match seen(alloc, &model, pending) {
         Some(pending) => Some(rows_answered(alloc, &model, &pending, set_of(mirrored), rows)),
         None => None,
@@ -188,7 +178,8 @@ fn named_answers(alloc: Global, reader: ModelReader, row: (&str, Answer<'_>)) ->
         pairs: List::new(alloc),
     };
     let line = row.0.as_bytes();
-    let read = read_named_event(alloc, line, &model, &names, &pending, VarSet::empty());
+    let named = NamedModel::new(&model, &names);
+    let read = read_named_event(alloc, line, named, &pending, VarSet::empty());
     is_answer(&read, row.1)
 }
 

@@ -91,13 +91,8 @@ fn comes_of(
 pub fn opened(alloc: Global, text: &str) -> Option<Executive>
     ensures { IfSome result (λ executive. executive.state.ticks ≡ 0) }
 {
-    let Some(compiled) = compiled_of(alloc, text) else {
-        return None;
-    };
-    match Executive::open(alloc, compiled) {
-        Ok(executive) => Some(executive),
-        Err(_) => None,
-    }
+    let compiled = compiled_of(alloc, text)?;
+    Executive::open(alloc, compiled).ok()
 }
 
 /// Whether all of this comes one after the other, and at the end so many pairs were seen last.

@@ -8,10 +8,7 @@ use trace_text::{json_of, refusal_line};
 
 /// The line of a refusal with this code, as JSON.
 fn refusal_json(alloc: Global, model: &Model, code: u8) -> Option<List<u8>> {
-    match refusal_line(alloc, model, 7, &Refusal::bare(code), true) {
-        Ok(line) => Some(line),
-        Err(_) => None,
-    }
+    refusal_line(alloc, model, 7, &Refusal::bare(code), true).ok()
 }
 
 fn is_refused_so(alloc: Global, model: &Model, code: u8, wanted: &str) -> bool {

@@ -1,6 +1,6 @@
 //! Models, states and clauses that the tests share.
 
-ghost use Rattle.std.specs.Prelude.{◌≡◌, ◌<◌, ◌≤◌, ◌↔◌, All, IfSome, IsTrue, length};
+ghost use Rattle.std.specs.Prelude.{◌≡◌, ◌<◌, ◌↔◌, All, IfSome, IsTrue, length};
 ghost use Rattle.cca_base.specs.declared.limits.TheConstants.{MAX_CHOICES};
 ghost use Rattle.cca_base.specs.Cube.{Lacks};
 ghost use Rattle.cca_base.specs.Formula.{is_within, subject_within};
@@ -10,7 +10,7 @@ ghost use Rattle.clause_form.specs.Clauses.{AreClauses};
 
 use acceptance::accept;
 use cca_base::*;
-use clause_form::{Clause, Clauses, Literal};
+use clause_form::{Clause, Clauses, Literal, Sizes};
 use model_syntax::ModelReader;
 use std::alloc::Global;
 
@@ -31,9 +31,7 @@ fn takes(reader: &mut ModelReader, line: &str) -> bool {
 
 /// A reader that has read the model of this text.
 pub fn reader_of(alloc: Global, text: &str) -> Option<ModelReader> {
-    let Ok(mut reader) = ModelReader::open(alloc) else {
-        return None;
-    };
+    let mut reader = ModelReader::open(alloc).ok()?;
     for line in text.lines() {
         if !takes(&mut reader, line) {
             return None;
@@ -46,28 +44,21 @@ pub fn reader_of(alloc: Global, text: &str) -> Option<ModelReader> {
 pub fn model_of(alloc: Global, text: &str) -> Option<Model>
     ensures { IfSome result (λ m. IsComplete m) }
 {
-    match reader_of(alloc, text) {
-        Some(reader) => Some(reader.finish()),
-        None => None,
-    }
+    let reader = reader_of(alloc, text)?;
+    Some(reader.finish())
 }
 
 /// What is compiled of the model.
 fn accepted(alloc: Global, model: Model) -> Option<Compiled>
     requires { IsComplete model }
 {
-    match accept(alloc, model) {
-        Ok(compiled) => Some(compiled),
-        Err(_) => None,
-    }
+    accept(alloc, model).ok()
 }
 
 /// What is compiled of the model of this text.
 pub fn compiled_of(alloc: Global, text: &str) -> Option<Compiled> {
-    match model_of(alloc, text) {
-        Some(model) => accepted(alloc, model),
-        None => None,
-    }
+    let model = model_of(alloc, text)?;
+    accepted(alloc, model)
 }
 
 /// A valve that sticks, with the driver that it needs.
@@ -139,9 +130,7 @@ pub fn modes_of(alloc: Global, model: &Model, pairs: Pairs<'_>) -> Option<Cube>
         if !has_mode(model, p.0, p.1) || !lacks(cube.as_slice(), p.0) {
             return None;
         }
-        let Ok(()) = cube.push(pair(p.0, p.1)) else {
-            return None;
-        };
+        cube.push(pair(p.0, p.1)).ok()?;
     }
     Some(cube)
 }
@@ -155,9 +144,7 @@ pub fn seen(alloc: Global, model: &Model, pairs: Pairs<'_>) -> Option<Seen>
         if !has_value(model, p.0, p.1) {
             return None;
         }
-        let Ok(()) = list.push(pair(p.0, p.1)) else {
-            return None;
-        };
+        list.push(pair(p.0, p.1)).ok()?;
     }
     Some(Seen { pairs: list })
 }
@@ -186,12 +173,6 @@ pub fn is(model: &Model, subject: Subject, value: u8) -> Option<Formula>
     })
 }
 
-fn few(sizes: &[u8]) -> bool
-    ensures { IsTrue result → All (λ n. n ≤ MAX_CHOICES) sizes.now }
-{
-    sizes.iter().all(|n| *n as usize <= MAX_CHOICES)
-}
-
 fn inside(n: usize, literals: &[Literal]) -> bool
     ensures { IsTrue result → All (λ l. l.subject < n) literals.now }
 {
@@ -207,12 +188,12 @@ fn all_inside(n: usize, clauses: &[Clause]) -> bool
 fn clause(alloc: Global, row: &[(u16, ValueSet)]) -> Option<Clause> {
     let mut literals = List::new(alloc);
     for literal in row {
-        let Ok(()) = literals.push(Literal {
-            subject: literal.0,
-            values: literal.1,
-        }) else {
-            return None;
-        };
+        literals
+            .push(Literal {
+                subject: literal.0,
+                values: literal.1,
+            })
+            .ok()?;
     }
     Some(Clause { literals })
 }
@@ -220,12 +201,8 @@ fn clause(alloc: Global, row: &[(u16, ValueSet)]) -> Option<Clause> {
 fn clause_list(alloc: Global, rows: &[&[(u16, ValueSet)]]) -> Option<List<Clause>> {
     let mut list = List::new(alloc);
     for row in rows {
-        let Some(clause) = clause(alloc, row) else {
-            return None;
-        };
-        let Ok(()) = list.push(clause) else {
-            return None;
-        };
+        let clause = clause(alloc, row)?;
+        list.push(clause).ok()?;
     }
     Some(list)
 }
@@ -234,9 +211,7 @@ fn clause_list(alloc: Global, rows: &[&[(u16, ValueSet)]]) -> Option<List<Clause
 pub fn list_of(alloc: Global, numbers: &[u8]) -> Option<List<u8>> {
     let mut list = List::new(alloc);
     for number in numbers {
-        let Ok(()) = list.push(*number) else {
-            return None;
-        };
+        list.push(*number).ok()?;
     }
     Some(list)
 }
@@ -245,13 +220,10 @@ pub fn list_of(alloc: Global, numbers: &[u8]) -> Option<List<u8>> {
 pub fn clauses(alloc: Global, sizes: &[u8], rows: &[&[(u16, ValueSet)]]) -> Option<Clauses>
     ensures { IfSome result AreClauses }
 {
-    let Some(sizes) = list_of(alloc, sizes) else {
-        return None;
-    };
-    let Some(clauses) = clause_list(alloc, rows) else {
-        return None;
-    };
-    if few(sizes.as_slice()) && all_inside(sizes.len(), clauses.as_slice()) {
+    let counts = list_of(alloc, sizes)?;
+    let sizes = Sizes::of(counts)?;
+    let clauses = clause_list(alloc, rows)?;
+    if all_inside(sizes.len(), clauses.as_slice()) {
         return Some(Clauses { sizes, clauses });
     }
     None

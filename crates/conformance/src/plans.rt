@@ -1,5 +1,9 @@
 //! Whole plans and ways back.
 
+ghost use Rattle.std.specs.Prelude.{IfSome};
+ghost use Rattle.planner_step.specs.Planning.{AreReached, IsGoal};
+ghost use Rattle.reversibility.specs.ClassParts.{CoversState};
+
 use crate::parts::{HUNG_UNIT, Pairs, STICKING_VALVE};
 use crate::tabled::*;
 use cca_base::*;
@@ -8,55 +12,41 @@ use policy_tables::Tables;
 use std::alloc::Global;
 use std::test::*;
 
-/// The whole plan from the state of these modes to the goal of these pairs.
-fn planned(alloc: Global, tables: &Tables, modes: &[u8], pairs: Pairs<'_>) -> Option<PlanEnd> {
-    let Some(state) = covered(alloc, tables, modes) else {
-        return None;
-    };
-    let Some(goal) = goal_of(alloc, tables, pairs) else {
-        return None;
-    };
+/// The state of these modes and the goal of these pairs, if it is reached from there.
+fn reached(alloc: Global, tables: &Tables, modes: &[u8], pairs: Pairs<'_>) -> Option<(State, Goal)>
+    ensures covers { IfSome result (λ r. CoversState tables.now.classes r.0.modes) }
+    ensures goal { IfSome result (λ r. IsGoal tables.now.classes.compiled r.1.pairs) }
+    ensures reached { IfSome result (λ r.
+        AreReached tables.now.classes.compiled.model r.0.modes r.1.pairs) }
+{
+    let state = covered(alloc, tables, modes)?;
+    let goal = goal_of(alloc, tables, pairs)?;
     if !is_reached(tables, &state, &goal) {
         return None;
     }
-    match whole_plan(alloc, tables, &state, &goal) {
-        Ok(plan) => Some(plan),
-        Err(_) => None,
-    }
+    Some((state, goal))
+}
+
+/// The whole plan from the state of these modes to the goal of these pairs.
+fn planned(alloc: Global, tables: &Tables, modes: &[u8], pairs: Pairs<'_>) -> Option<PlanEnd> {
+    let (state, goal) = reached(alloc, tables, modes, pairs)?;
+    whole_plan(alloc, tables, &state, &goal).ok()
 }
 
 /// The way back from the state of these modes to the other's.
 fn returned(alloc: Global, tables: &Tables, from: &[u8], to: &[u8]) -> Option<PlanEnd> {
-    let Some(from) = covered(alloc, tables, from) else {
-        return None;
-    };
-    let Some(to) = covered(alloc, tables, to) else {
-        return None;
-    };
+    let from = covered(alloc, tables, from)?;
+    let to = covered(alloc, tables, to)?;
     if !stays_stuck(tables, &from, &to) {
         return None;
     }
-    match way_back(alloc, tables, &from, &to) {
-        Ok(plan) => Some(plan),
-        Err(_) => None,
-    }
+    way_back(alloc, tables, &from, &to).ok()
 }
 
 /// The whole plan from the state of these modes to the goal of these pairs, and the way back from its end.
 fn routed(alloc: Global, tables: &Tables, modes: &[u8], pairs: Pairs<'_>) -> Option<Route> {
-    let Some(state) = covered(alloc, tables, modes) else {
-        return None;
-    };
-    let Some(goal) = goal_of(alloc, tables, pairs) else {
-        return None;
-    };
-    if !is_reached(tables, &state, &goal) {
-        return None;
-    }
-    match route_of(alloc, tables, &state, &goal) {
-        Ok(route) => Some(route),
-        Err(_) => None,
-    }
+    let (state, goal) = reached(alloc, tables, modes, pairs)?;
+    route_of(alloc, tables, &state, &goal).ok()
 }
 
 fn plans(alloc: Global, tables: &Tables, modes: &[u8], pairs: Pairs<'_>, names: &[&str]) -> bool {

@@ -39,9 +39,7 @@ fn is_state(model: &Model, modes: &[u8]) -> bool
 pub fn state_of(alloc: Global, model: &Model, modes: &[u8]) -> Option<State>
     ensures { IfSome result (λ s. IsState model.now s.modes) }
 {
-    let Some(list) = list_of(alloc, modes) else {
-        return None;
-    };
+    let list = list_of(alloc, modes)?;
     if !is_state(model, list.as_slice()) {
         return None;
     }
@@ -50,46 +48,29 @@ pub fn state_of(alloc: Global, model: &Model, modes: &[u8]) -> Option<State>
 
 /// The classes of the compiled model around the state of these modes.
 fn classes_around(alloc: Global, compiled: &Rc<Compiled>, modes: &[u8]) -> Option<Classes> {
-    let Some(state) = state_of(alloc, compiled.model(), modes) else {
-        return None;
-    };
-    match Classes::of(alloc, compiled, &state) {
-        Ok(classes) => Some(classes),
-        Err(_) => None,
-    }
+    let state = state_of(alloc, compiled.model(), modes)?;
+    Classes::of(alloc, compiled, &state).ok()
 }
 
 fn shared(alloc: Global, compiled: Compiled) -> Option<Rc<Compiled>> {
-    match Rc::new(alloc, compiled) {
-        Ok(compiled) => Some(compiled),
-        Err(_) => None,
-    }
+    Rc::new(alloc, compiled).ok()
 }
 
 /// The classes of the model of this text around the state of these modes.
 pub fn classes_of(alloc: Global, text: &str, modes: &[u8]) -> Option<Classes> {
-    let Some(compiled) = compiled_of(alloc, text) else {
-        return None;
-    };
-    match shared(alloc, compiled) {
-        Some(compiled) => classes_around(alloc, &compiled, modes),
-        None => None,
-    }
+    let compiled = compiled_of(alloc, text)?;
+    let compiled = shared(alloc, compiled)?;
+    classes_around(alloc, &compiled, modes)
 }
 
 fn made(alloc: Global, classes: Classes) -> Option<Tables> {
-    match Tables::of(alloc, classes) {
-        Ok(tables) => Some(tables),
-        Err(_) => None,
-    }
+    Tables::of(alloc, classes).ok()
 }
 
 /// The tables of the model of this text around the state of these modes.
 pub fn tables_of(alloc: Global, text: &str, modes: &[u8]) -> Option<Tables> {
-    match classes_of(alloc, text, modes) {
-        Some(classes) => made(alloc, classes),
-        None => None,
-    }
+    let classes = classes_of(alloc, text, modes)?;
+    made(alloc, classes)
 }
 
 /// The state of these modes, which the tables cover.
@@ -97,9 +78,7 @@ pub fn covered(alloc: Global, tables: &Tables, modes: &[u8]) -> Option<State>
     ensures { IfSome result (λ s. CoversState tables.now.classes s.modes) }
 {
     let classes = tables.classes();
-    let Some(state) = state_of(alloc, classes.compiled().model(), modes) else {
-        return None;
-    };
+    let state = state_of(alloc, classes.compiled().model(), modes)?;
     if !classes.covers(&state) {
         return None;
     }
@@ -156,12 +135,8 @@ pub fn goal_of(alloc: Global, tables: &Tables, pairs: Pairs<'_>) -> Option<Goal>
     ensures { IfSome result (λ g. IsGoal tables.now.classes.compiled g.pairs) }
 {
     let compiled = tables.classes().compiled();
-    let Some(list) = pairs_of(alloc, compiled, pairs) else {
-        return None;
-    };
-    let Ok(goal) = sort_goal(alloc, compiled, &list) else {
-        return None;
-    };
+    let list = pairs_of(alloc, compiled, pairs)?;
+    let goal = sort_goal(alloc, compiled, &list).ok()?;
     if !are_sound(compiled.model(), goal.pairs.as_slice()) {
         return None;
     }

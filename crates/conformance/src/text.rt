@@ -54,9 +54,7 @@ fn answers(reader: &mut ModelReader, rows: &[(&str, u8)]) -> bool {
 
 /// How many failures the model of the lines has, if each line has its answer.
 fn failures_after(alloc: Global, rows: &[(&str, u8)]) -> Option<usize> {
-    let Ok(mut reader) = ModelReader::open(alloc) else {
-        return None;
-    };
+    let mut reader = ModelReader::open(alloc).ok()?;
     if !answers(&mut reader, rows) {
         return None;
     }

@@ -11,10 +11,7 @@ use trial_maker::trial;
 
 /// The document of a seed.
 fn document(alloc: Global, seed: u64) -> Option<List<u8>> {
-    match trial(alloc, seed) {
-        Ok(text) => Some(text),
-        Err(_) => None,
-    }
+    trial(alloc, seed).ok()
 }
 
 /// A checksum of some bytes: the digits of a number in base 31, of which 64 bits are kept.

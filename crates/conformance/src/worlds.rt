@@ -17,16 +17,9 @@ fn world_of(
     modes: Pairs<'_>,
     observed: Pairs<'_>,
 ) -> Option<Option<Found>> {
-    let Some(modes) = modes_of(alloc, model, modes) else {
-        return None;
-    };
-    let Some(observed) = seen(alloc, model, observed) else {
-        return None;
-    };
-    match find_world(alloc, model, &modes, &observed) {
-        Ok(answer) => Some(answer),
-        Err(_) => None,
-    }
+    let modes = modes_of(alloc, model, modes)?;
+    let observed = seen(alloc, model, observed)?;
+    find_world(alloc, model, &modes, &observed).ok()
 }
 
 /// The first state of these modes that has a world.
@@ -34,12 +27,8 @@ pub fn first_state(alloc: Global, model: &Model, modes: Pairs<'_>) -> Option<Sta
     ensures state { IfSome result (λ s. IsState model.now s.modes) }
     ensures world { IfSome result (λ s. HasWorld model.now s.modes) }
 {
-    let Some(modes) = modes_of(alloc, model, modes) else {
-        return None;
-    };
-    let Some(nothing) = seen(alloc, model, &[]) else {
-        return None;
-    };
+    let modes = modes_of(alloc, model, modes)?;
+    let nothing = seen(alloc, model, &[])?;
     match find_world(alloc, model, &modes, &nothing) {
         Ok(Some(found)) => Some(found.state),
         _ => None,
@@ -54,16 +43,9 @@ fn counter_of(
     subject: Subject,
     value: u8,
 ) -> Option<Option<Found>> {
-    let Some(modes) = modes_of(alloc, model, modes) else {
-        return None;
-    };
-    let Some(formula) = is(model, subject, value) else {
-        return None;
-    };
-    match find_counter(alloc, model, &modes, &formula) {
-        Ok(answer) => Some(answer),
-        Err(_) => None,
-    }
+    let modes = modes_of(alloc, model, modes)?;
+    let formula = is(model, subject, value)?;
+    find_counter(alloc, model, &modes, &formula).ok()
 }
 
 /// The numbers of a state's modes and of a world's values.
@@ -107,25 +89,18 @@ fn has_worlds(alloc: Global, text: &str, rows: &[Row<'_>]) -> bool {
 
 /// The clauses of the model's rules.
 fn rule_clauses(alloc: Global, model: &Model) -> Option<Clauses> {
-    match clauses_of(alloc, model, None, None) {
-        Ok(clauses) => Some(clauses),
-        Err(_) => None,
-    }
+    clauses_of(alloc, model, None, None).ok()
 }
 
 fn are_met(alloc: Global, model: &Model, values: &[u8]) -> Option<bool> {
-    match rule_clauses(alloc, model) {
-        Some(clauses) => Some(all_true(&clauses, values)),
-        None => None,
-    }
+    let clauses = rule_clauses(alloc, model)?;
+    Some(all_true(&clauses, values))
 }
 
 /// Whether these values of the model's subjects make each clause of its rules true.
 fn rules_hold(alloc: Global, text: &str, values: &[u8]) -> Option<bool> {
-    match model_of(alloc, text) {
-        Some(model) => are_met(alloc, &model, values),
-        None => None,
-    }
+    let model = model_of(alloc, text)?;
+    are_met(alloc, &model, values)
 }
 
 #[test]

@@ -1,8 +1,7 @@
 -- What fits and has a denied formula false, as what is asked of a caller's question.
-use Rattle.std.proofs.Common.{◌≡◌, ℕ, Bool, true, false, not, List, [], Option, Some, None, Result, IfOk, IfSome, IsNone, inl, inr, refl, sym, ap}
+use Rattle.std.proofs.Common.{◌≡◌, ℕ, Bool, true, false, not, List, [], Option, Some, None, Result, IfOk, IsNone, inl, inr, refl, sym, ap}
 use Rattle.std.proofs.lemmas.Bool.{cases_Bool}
 use Rattle.std.proofs.lemmas.List.Elements.{All-nil}
-use Rattle.std.proofs.lemmas.Option.{IfSome_then}
 use Rattle.std.proofs.lemmas.Result.{IfOk-weaker}
 use Rattle.std.specs.List.{slice_get}
 use Rattle.cca_base.specs.declared.cube.Pair.{Pair}
@@ -11,7 +10,7 @@ use Rattle.cca_base.specs.PlantModel.{PlantModel}
 use Rattle.cca_base.specs.Formula.{truth}
 use Rattle.cca_base.specs.State.{Follows}
 use Rattle.consistency.specs.declared.found.Found.{Found}
-use Rattle.consistency.specs.Found.{Fits, Counters, NoneFits, FitsAndDenies, IsFirstOf}
+use Rattle.consistency.specs.Found.{FitsSeen, Counters, FitsAndDenies, IsFirstFound, IsFirstOf}
 
 -- the first of what is the same
 first_same : (P Q : List ℕ → List ℕ → Type 0) → ((s w : List ℕ) → P s w → Q s w) → ((s w : List ℕ) → Q s w → P s w) → (s w : List ℕ) → IsFirstOf P s w → IsFirstOf Q s w
@@ -21,12 +20,13 @@ first_same P Q to from s w h = record {
   worlds = λ w2 k. h.worlds w2 (from s w2 k);
 }
 
-module _ {E : Type 0} (m : PlantModel) (modes seen : List Pair) (r : Result (Option Found) E) where
-  pub fits_found : IfOk r (λ o. IfSome o (λ f. IsFirstOf (FitsAndDenies m modes seen None) f.state.modes f.world.values)) → IfOk r (λ o. IfSome o (λ f. IsFirstOf (Fits m modes seen) f.state.modes f.world.values))
-  fits_found h = IfOk-weaker r _ _ (λ o k. IfSome_then o k (λ f. first_same (FitsAndDenies m modes seen None) (Fits m modes seen) (λ s w x. x.fits) (λ s w x. record { fits = x; denies = refl }) f.state.modes f.world.values)) h
+found_same : (P Q : List ℕ → List ℕ → Type 0) → ((s w : List ℕ) → P s w → Q s w) → ((s w : List ℕ) → Q s w → P s w) → (o : Option Found) → IsFirstFound P o → IsFirstFound Q o
+found_same P Q to from None none = λ s w q. none s w (from s w q)
+found_same P Q to from (Some f) h = first_same P Q to from f.state.modes f.world.values h
 
-  pub none_fit : IfOk r (λ o. IsNone o → (s w : List ℕ) → FitsAndDenies m modes seen None s w → ⊥) → IfOk r (λ o. IsNone o → NoneFits m modes seen)
-  none_fit h = IfOk-weaker r _ _ (λ o k e s w x. k e s w (record { fits = x; denies = refl })) h
+module _ {E : Type 0} (m : PlantModel) (modes seen : List Pair) (r : Result (Option Found) E) where
+  pub fits_found : IfOk r (IsFirstFound (FitsAndDenies m modes seen None)) → IfOk r (IsFirstFound (FitsSeen m modes seen))
+  fits_found h = IfOk-weaker r _ _ (found_same (FitsAndDenies m modes seen None) (FitsSeen m modes seen) (λ s w x. x.fits) (λ s w x. record { fits = x; denies = refl })) h
 
 module _ {E : Type 0} (m : PlantModel) (modes : List Pair) (formula : Formula) (r : Result (Option Found) E) where
   to_counter : (s w : List ℕ) → FitsAndDenies m modes [] (Some formula) s w → Counters m modes formula s w
@@ -41,11 +41,15 @@ module _ {E : Type 0} (m : PlantModel) (modes : List Pair) (formula : Formula) (
     denies = ap not h.is_false;
   }
 
-  pub counter_found : IfOk r (λ o. IfSome o (λ f. IsFirstOf (FitsAndDenies m modes [] (Some formula)) f.state.modes f.world.values)) → IfOk r (λ o. IfSome o (λ f. IsFirstOf (Counters m modes formula) f.state.modes f.world.values))
-  counter_found h = IfOk-weaker r _ _ (λ o k. IfSome_then o k (λ f. first_same (FitsAndDenies m modes [] (Some formula)) (Counters m modes formula) to_counter from_counter f.state.modes f.world.values)) h
+  pub counter_found : IfOk r (IsFirstFound (FitsAndDenies m modes [] (Some formula))) → IfOk r (IsFirstFound (Counters m modes formula))
+  counter_found h = IfOk-weaker r _ _ (found_same (FitsAndDenies m modes [] (Some formula)) (Counters m modes formula) to_counter from_counter) h
 
-  pub none_counters : IfOk r (λ o. IsNone o → (s w : List ℕ) → FitsAndDenies m modes [] (Some formula) s w → ⊥) → IfOk r (λ o. IsNone o → Follows m modes formula)
-  none_counters h = IfOk-weaker r _ _ (λ o k e s state extends w world. elim (cases_Bool (truth s w formula)) [
+  follows : (o : Option Found) → IsFirstFound (FitsAndDenies m modes [] (Some formula)) o → IsNone o → Follows m modes formula
+  follows (Some f) first e = absurd (cc)
+  follows None none e = λ s state extends w world. elim (cases_Bool (truth s w formula)) [
     | inl is ↦ is
-    | inr no_truth ↦ absurd (k e s w (from_counter s w (record { state = state; extends = extends; world = world; is_false = no_truth })))
-  ]) h
+    | inr no_truth ↦ absurd (none s w (from_counter s w (record { state = state; extends = extends; world = world; is_false = no_truth })))
+  ]
+
+  pub none_counters : IfOk r (IsFirstFound (FitsAndDenies m modes [] (Some formula))) → IfOk r (λ o. IsNone o → Follows m modes formula)
+  none_counters h = IfOk-weaker r _ _ follows h

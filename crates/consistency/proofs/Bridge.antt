@@ -15,39 +15,38 @@ use Rattle.cca_base.specs.declared.formula.Formula.{Formula}
 use Rattle.cca_base.specs.PlantModel.{PlantModel}
 use Rattle.cca_base.specs.Sets.{has}
 use Rattle.cca_base.specs.Formula.{truth}
-use Rattle.cca_base.specs.Model.{HasMode, mode_counts, value_counts}
+use Rattle.cca_base.specs.Model.{WellFormed, HasMode, mode_counts, value_counts}
 use Rattle.cca_base.specs.State.{IsState, IsWorld, Extends, HasValue}
 use Rattle.cca_base.proofs.Within.{mode_within, value_within}
 use Rattle.clause_form.specs.declared.clause.Clauses.{Clauses}
 use Rattle.clause_form.specs.Clauses.{AreValues, meets, all_met}
 use Rattle.clause_form.specs.Formulas.{AreClausesOf, is_denied}
-use Rattle.clause_form.proofs.ModelSizes.{both_values, state_values}
+use Rattle.clause_form.proofs.ModelSizes.{both_values, state_values, counts_few, subjects_counted}
 use Rattle.consistency.specs.Base.{allows, ArePairs, IsBase}
 use Rattle.consistency.specs.Search.{IsSolution, AreMet}
-use Rattle.consistency.specs.Found.{Fits, FitsAndDenies}
+use Rattle.consistency.specs.Found.{FitsSeen, FitsAndDenies}
 
--- the number of subjects
-pub subjects_counted : (m : PlantModel) → length (mode_counts m ++ value_counts m) ≡ length m.components + length m.variables
-subjects_counted m = omega (arith, length-append (mode_counts m) (value_counts m), length-map m.components (λ c. length c.modes), length-map m.variables (λ v. length v.values))
+sizes_few : (m : PlantModel) (sizes : List ℕ) → sizes ≡ mode_counts m ++ value_counts m → WellFormed m → All (λ n. n ≤ MAX_CHOICES) sizes
+sizes_few m sizes same good = subst (All (λ n. n ≤ MAX_CHOICES)) (sym same) (counts_few m good)
 
 -- modes are of the first subjects
-pub mode_pairs : (m : PlantModel) (sizes : List ℕ) (modes : List Pair) → sizes ≡ mode_counts m ++ value_counts m → All (λ n. n ≤ MAX_CHOICES) sizes
+pub mode_pairs : (m : PlantModel) (sizes : List ℕ) (modes : List Pair) → sizes ≡ mode_counts m ++ value_counts m → WellFormed m
     → All (λ p. HasMode m p.item p.value) modes → ArePairs (length sizes) 0 modes
-mode_pairs m sizes modes s few h =
+mode_pairs m sizes modes s good h =
     All-weaker (λ p. HasMode m p.item p.value) (λ p. (0 + p.item < length sizes) × (p.value < MAX_CHOICES))
     (λ p k.
     let inside : p.item < length m.components = mode_within m p.item p.value k in
     let here : 0 + p.item < length sizes = omega (arith, subjects_counted m, ap length s) in
     let full : p.item < length (mode_counts m) = omega (arith, length-map m.components (λ c. length c.modes)) in
     let count : slice_index sizes p.item ≡ slice_index (mode_counts m) p.item = ap (λ (xs : List ℕ). slice_index xs p.item) s ∙ get_or_append_left (mode_counts m) (value_counts m) 0 p.item full in
-    let most : slice_index sizes p.item ≤ MAX_CHOICES = few p.item 0 (omega (arith, here)) in
+    let most : slice_index sizes p.item ≤ MAX_CHOICES = sizes_few m sizes s good p.item 0 (omega (arith, here)) in
     (here, omega (arith, k, most, count)))
     modes h
 
 -- what is seen is of subjects behind the components
-pub seen_pairs : (m : PlantModel) (sizes : List ℕ) (components : ℕ) (seen : List Pair) → sizes ≡ mode_counts m ++ value_counts m → All (λ n. n ≤ MAX_CHOICES) sizes → components ≡ length m.components
+pub seen_pairs : (m : PlantModel) (sizes : List ℕ) (components : ℕ) (seen : List Pair) → sizes ≡ mode_counts m ++ value_counts m → WellFormed m → components ≡ length m.components
     → All (λ p. HasValue m p.item p.value) seen → ArePairs (length sizes) components seen
-seen_pairs m sizes components seen s few n h =
+seen_pairs m sizes components seen s good n h =
     All-weaker (λ p. HasValue m p.item p.value) (λ p. (components + p.item < length sizes) × (p.value < MAX_CHOICES))
     (λ p k.
     let inside : p.item < length m.variables = value_within m p.item p.value k in
@@ -56,7 +55,7 @@ seen_pairs m sizes components seen s few n h =
     let count : slice_index sizes (components + p.item) ≡ slice_index (value_counts m) p.item =
     ap (λ (xs : List ℕ). slice_index xs (components + p.item)) s
     ∙ (ap (λ (j : ℕ). slice_index (mode_counts m ++ value_counts m) (j + p.item)) full ∙ get_or-append-add (mode_counts m) (value_counts m) p.item 0) in
-    let most : slice_index sizes (components + p.item) ≤ MAX_CHOICES = few (components + p.item) 0 here in
+    let most : slice_index sizes (components + p.item) ≤ MAX_CHOICES = sizes_few m sizes s good (components + p.item) 0 here in
     (here, omega (arith, k, most, count)))
     seen h
 
@@ -218,7 +217,7 @@ module _ (m : PlantModel) (modes seen : List Pair) (denied : Option Formula) (c 
         full = values.full ∙ sym b.full;
         small = λ d k.
             (let k' : d < length c.sizes = subst (λ j. d < j) b.full k in
-            let most = of.proper.few d 0 k' in
+            let most = b.few d 0 k' in
             let less = values.values d k' in
             omega (arith, most, less));
         met = AllPass-from_list_all (meets xs) c.clauses
@@ -246,7 +245,7 @@ module _ (m : PlantModel) (modes seen : List Pair) (denied : Option Formula) (c 
 -- a solution's parts are a state and a world that fit
 pub parts_fit : (m : PlantModel) (modes seen : List Pair) (c : Clauses) (base : List ℕ) → AreClausesOf m None None c → IsBase c.sizes (length m.components) modes seen base
     → All (λ p. HasMode m p.item p.value) modes → All (λ p. HasValue m p.item p.value) seen
-    → (xs : List ℕ) → IsSolution c.clauses base xs → Fits m modes seen (take (length m.components) xs) (drop (length m.components) xs)
+    → (xs : List ℕ) → IsSolution c.clauses base xs → FitsSeen m modes seen (take (length m.components) xs) (drop (length m.components) xs)
 parts_fit m modes seen c base of b modes_in seen_in xs h =
     let n = length m.components in
     let full = h.full in

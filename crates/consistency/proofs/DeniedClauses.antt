@@ -23,11 +23,8 @@ denied_beside_rules m f d r h k =
     let same : length r.sizes ≡ length d.sizes = ap length (k.sizes ∙ sym h.sizes) in
     record {
       sizes = h.sizes;
-      proper = record {
-        few = h.proper.few;
-        subjects = All-append (λ (c : Clause). AreBelow (length d.sizes) c.literals) d.clauses r.clauses h.proper.subjects
-            (subst (λ (n : ℕ). (i : ℕ) (c : Clause) → i < length r.clauses → AreBelow n (slice_index_or r.clauses i c).literals) same k.proper.subjects);
-      };
+      proper = All-append (λ (c : Clause). AreBelow (length d.sizes) c.literals) d.clauses r.clauses h.proper
+          (subst (λ (n : ℕ). (i : ℕ) (c : Clause) → i < length r.clauses → AreBelow n (slice_index_or r.clauses i c).literals) same k.proper);
       meaning = λ modes values a b.
           list_all-append (meets (modes ++ values)) d.clauses r.clauses
           ∙ (ap (λ x. x && list_all (meets (modes ++ values)) r.clauses) (h.meaning modes values a b)

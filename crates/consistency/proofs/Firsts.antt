@@ -11,7 +11,8 @@ use Rattle.clause_form.specs.Formulas.{AreClausesOf}
 use Rattle.consistency.specs.Base.{IsBase}
 use Rattle.consistency.specs.Search.{IsSolution, IsFirst}
 use Rattle.consistency.specs.Found.{FitsAndDenies, IsFirstOf}
-use Rattle.consistency.proofs.Bridge.{subjects_counted, solution_fits, fits_solution}
+use Rattle.clause_form.proofs.ModelSizes.{subjects_counted}
+use Rattle.consistency.proofs.Bridge.{solution_fits, fits_solution}
 use Rattle.consistency.proofs.Orders.{earlier_front, earlier_behind, first_not_after}
 
 module _ (m : PlantModel) (modes seen : List Pair) (denied : Option Formula) (c : Clauses) (components : ℕ) (base : List ℕ)

@@ -1,5 +1,5 @@
 -- What one clause lets one narrow.
-use Rattle.std.proofs.Common.{◌≡◌, inl, inr, ℕ, ◌<◌, ◌&&◌, ◌||◌, Bool, true, false, List, length, slice_index, slice_index_or, slice_set, sym, ap, subst, ◌∙◌, arith, get_or-set_same, get_or-set_other, length-set}
+use Rattle.std.proofs.Common.{◌≡◌, ◌≢◌, inl, inr, ℕ, ◌<◌, ◌&&◌, ◌||◌, Bool, true, false, List, length, slice_index, slice_index_or, slice_set, sym, ap, subst, ◌∙◌, arith, get_or-set_same, get_or-set_other, length-set}
 use Rattle.std.proofs.lemmas.Bool.{cases_eq, true≢false, and_from}
 use Rattle.std.proofs.lemmas.List.{get_or_read}
 use Rattle.std.proofs.lemmas.List.Folds.{Any-from_list_any}
@@ -18,19 +18,24 @@ use Rattle.consistency.specs.Search.{AllMet, OthersFalse, HasReasons, Assumed, A
 met_at : (xs : List ℕ) (ls : List Literal) → is_met xs ls ≡ true → (i : ℕ) × (i < length ls) × ((l : Literal) → is_true xs (slice_index_or ls i l) ≡ true)
 met_at xs ls h = let any = Any-from_list_any (is_true xs) ls h in (any.0, any.2, at_read ls (λ l. is_true xs l ≡ true) any.0 any.1 any.2 (sym any.3) any.4)
 
+-- where no other literal is true it is the one at the place
+the_one : (xs : List ℕ) (ls : List Literal) (k : ℕ) → is_met xs ls ≡ true → ((i : ℕ) (l : Literal) → i < length ls → i ≢ k → is_true xs (slice_index_or ls i l) ≡ true → ⊥)
+    → (k < length ls) × ((l : Literal) → is_true xs (slice_index_or ls k l) ≡ true)
+the_one xs ls k met others =
+    let m = met_at xs ls met in
+    let l : Literal = record { subject = 0; values = 0 } in
+    elim (cases_eq m.0 k) [
+      | inl e ↦ subst (λ j. (j < length ls) × ((l : Literal) → is_true xs (slice_index_or ls j l) ≡ true)) e (m.1, m.2)
+      | inr ne ↦ absurd (others m.0 l m.1 ne (m.2 l))
+    ]
+
 -- where the others are false it is the one
 pub only_one : (ls : List Literal) (domains : List Domain) (k : ℕ) (reasons : SubjectSet) (held : Assumed) (xs : List ℕ) → AreBelow (length domains) ls → OthersFalse ls domains k → HasReasons ls domains k reasons
     → is_met xs ls ≡ true → Knows held domains xs → Agrees held reasons xs → (k < length ls) × ((l : Literal) → is_true xs (slice_index_or ls k l) ≡ true)
-only_one ls domains k reasons held xs below others given met knows agrees =
-    let m = met_at xs ls met in
-    elim (cases_eq m.0 k) [
-      | inl e ↦ subst (λ j. (j < length ls) × ((l : Literal) → is_true xs (slice_index_or ls j l) ≡ true)) e (m.1, m.2)
-      | inr ne ↦ (
-          let l : Literal = record { subject = 0; values = 0 } in
-          let s = (slice_index_or ls m.0 l).subject in
-          let in' : has (values_at domains s) (slice_index xs s) ≡ true = knows s (below m.0 l m.1) (λ d h. agrees d (given m.0 l m.1 ne d h)) in
-          absurd (true≢false (sym (m.2 l) ∙ others m.0 l m.1 ne (slice_index xs s) in')))
-    ]
+only_one ls domains k reasons held xs below others given met knows agrees = the_one xs ls k met (λ i l d ne is.
+    let s = (slice_index_or ls i l).subject in
+    let in' : has (values_at domains s) (slice_index xs s) ≡ true = knows s (below i l d) (λ x h. agrees x (given i l d ne x h)) in
+    true≢false (sym is ∙ others i l d ne (slice_index xs s) in'))
 
 pub or_l : (a b c : Bool) → c ≡ (a || b) → a ≡ true → c ≡ true
 or_l true b c e h = e
@@ -68,15 +73,9 @@ narrowed domains held xs s before values common because reason h is knows common
 
 -- where the others are out of the sets it is the one
 pub only_in : (ls : List Literal) (sets : List ℕ) (k : ℕ) (xs : List ℕ) → AreBelow (length sets) ls → OthersOut ls sets k → is_met xs ls ≡ true → AreIn sets xs → (k < length ls) × ((l : Literal) → is_true xs (slice_index_or ls k l) ≡ true)
-only_in ls sets k xs below others met inside =
-    let m = met_at xs ls met in
-    elim (cases_eq m.0 k) [
-      | inl e ↦ subst (λ j. (j < length ls) × ((l : Literal) → is_true xs (slice_index_or ls j l) ≡ true)) e (m.1, m.2)
-      | inr ne ↦ (
-          let l : Literal = record { subject = 0; values = 0 } in
-          let s = (slice_index_or ls m.0 l).subject in
-          absurd (true≢false (sym (m.2 l) ∙ others m.0 l m.1 ne (slice_index xs s) (inside s (below m.0 l m.1)))))
-    ]
+only_in ls sets k xs below others met inside = the_one xs ls k met (λ i l d ne is.
+    let s = (slice_index_or ls i l).subject in
+    true≢false (sym is ∙ others i l d ne (slice_index xs s) (inside s (below i l d))))
 
 -- one set narrowed to what it has in common with one in which the value is
 pub narrowed_in : (sets xs : List ℕ) (s before values common : ℕ) → s < length sets → before ≡ slice_index sets s → ((v : ℕ) → has common v ≡ (has before v && has values v))

@@ -1,5 +1,5 @@
 -- What each subject of a model may be, where components have given modes and variables given values.
-use Rattle.std.specs.Prelude.{◌≡◌, ◌==◌, ℕ, ◌+◌, ◌<◌, Bool, not, ◌||◌, ◌&&◌, nat_lt, List, length, slice_index, All}
+use Rattle.std.specs.Prelude.{◌≡◌, ◌==◌, ℕ, ◌+◌, ◌<◌, ◌≤◌, Bool, not, ◌||◌, ◌&&◌, nat_lt, List, length, slice_index, All}
 use Rattle.std.specs.List.{list_all}
 use Rattle.cca_base.specs.Sets.{has}
 use Rattle.cca_base.specs.declared.cube.Pair.{Pair}
@@ -13,7 +13,8 @@ allows first pairs d v = list_all (λ p. not (first + p.item == d) || p.value ==
 abbrev pub ArePairs : ℕ → ℕ → List Pair → Type 0
 ArePairs subjects first pairs = All (λ p. (first + p.item < subjects) × (p.value < MAX_CHOICES)) pairs
 
--- the sets have the subjects' values that all pairs allow
+-- the sets have the subjects' values that all pairs allow, and no subject has more than a set can hold
 pub record IsBase (sizes : List ℕ) (components : ℕ) (modes seen : List Pair) (base : List ℕ) : Type 0 where
+  pub few : All (λ n. n ≤ MAX_CHOICES) sizes
   pub full : length base ≡ length sizes
   pub values : (d v : ℕ) → d < length sizes → has (slice_index base d) v ≡ (nat_lt v (slice_index sizes d) && allows 0 modes d v && allows components seen d v)

@@ -24,6 +24,6 @@ abbrev pub LeavesAll : List Clause → List ℕ → List ℕ → Type 0
 LeavesAll clauses old new = (xs : List ℕ) → AllMet xs clauses → AreIn old xs → AreIn new xs
 
 -- each solution's values are in the sets
-pub record AreBounds (clauses : List Clause) (base : List ℕ) (sets : List ℕ) : Type 0 where
+pub record HoldSolutions (clauses : List Clause) (base : List ℕ) (sets : List ℕ) : Type 0 where
   pub full : length sets ≡ length base
   pub within : (xs : List ℕ) → IsSolution clauses base xs → AreIn sets xs

@@ -25,6 +25,11 @@ pub record IsSolution (clauses : List Clause) (base xs : List ℕ) : Type 0 wher
   pub within : (d : ℕ) → d < length base → has (slice_index base d) (slice_index xs d) ≡ true
   pub met : AllMet xs clauses
 
+-- a solution, or none where there is none
+abbrev pub IsSolutionOrNone : List Clause → List ℕ → Option (List ℕ) → Type 0
+IsSolutionOrNone clauses base None = (xs : List ℕ) → IsSolution clauses base xs → ⊥
+IsSolutionOrNone clauses base (Some xs) = IsSolution clauses base xs
+
 -- at the first place where they differ the one is less
 pub record IsLess (xs ys : List ℕ) : Type 0 where
   pub place : ℕ
@@ -129,6 +134,11 @@ IsClash clauses base prefix subjects = (xs : List ℕ) → AreMet clauses (lengt
 abbrev pub IsSearchResult : List Clause → List ℕ → List ℕ → SearchResult → Type 0
 IsSearchResult clauses base prefix (outcome.Found xs) = IsFirstFrom clauses base prefix xs
 IsSearchResult clauses base prefix (outcome.Clash subjects) = IsClash clauses base prefix subjects
+
+-- a solution, or subjects that are to blame that there is none
+abbrev pub IsSolutionOrClash : List Clause → List ℕ → SearchResult → Type 0
+IsSolutionOrClash clauses base (outcome.Found xs) = IsSolution clauses base xs
+IsSolutionOrClash clauses base (outcome.Clash subjects) = IsClash clauses base [] subjects
 
 -- what was known is known of the values that have one value more
 abbrev pub Chooses : List Domain → ℕ → ℕ → List Domain → Type 0

@@ -3,7 +3,7 @@
 
 ghost use Rattle.std.specs.Prelude.{◌≡◌, ◌+◌, ◌≤◌, ℕ, List, length, slice_index, All, IfOk};
 ghost use Rattle.cca_base.specs.State.{HasValue, HasWorld, IsState};
-ghost use Rattle.consistency.specs.Bounds.{AreBounds};
+ghost use Rattle.consistency.specs.Bounds.{HoldSolutions};
 ghost use Rattle.consistency.specs.Forced.{AreForced};
 ghost use Rattle.consistency.specs.Problem.{IsProblem};
 ghost use Rattle.consistency.specs.Search.{IsSolution, IsBackbone};
@@ -30,7 +30,7 @@ fn backbone(
     vars: VarSet,
 ) -> Result<List<Pair>, AllocError>
     requires proper { IsProblem problem.now.clauses base.now }
-    requires bounds { AreBounds problem.now.clauses base.now sets.now }
+    requires bounds { HoldSolutions problem.now.clauses base.now sets.now }
     requires solution { IsSolution problem.now.clauses base.now values.now }
     requires front { components ≤ length base.now }
     ensures { IfOk result (IsBackbone problem.now.clauses base.now components vars) }

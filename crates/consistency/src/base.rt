@@ -11,18 +11,19 @@ ghost use Rattle.consistency.specs.Base.{allows, ArePairs, IsBase};
 
 use crate::problem::Problem;
 use cca_base::{Model, Pair, ValueSet};
+use clause_form::Sizes;
 use std::alloc::{AllocError, Global};
 
 /// All values of each subject.
-fn whole_sets(alloc: Global, sizes: &[u8]) -> Result<Vec<ValueSet>, AllocError>
-    requires { All (λ n. n ≤ MAX_CHOICES) sizes.now }
+fn whole_sets(alloc: Global, sizes: &Sizes) -> Result<Vec<ValueSet>, AllocError>
+    ensures few { IfOk result (λ _. All (λ n. n ≤ MAX_CHOICES) sizes.now) }
     ensures full { IfOk result (λ r. length r.items ≡ length sizes.now) }
     ensures values { IfOk result (λ r.
         (d v : ℕ) → d < length sizes.now →
         has (slice_index r.items d) v ≡ nat_lt v (slice_index sizes.now d)) }
 {
     let mut sets = Vec::with_capacity(alloc, sizes.len())?;
-    for size in sizes {
+    for size in sizes.as_slice() {
         sets.push(ValueSet::full(*size))?;
     }
     Ok(sets)
@@ -47,12 +48,11 @@ fn restricted(sets: Vec<ValueSet>, first: usize, pairs: &[Pair]) -> Vec<ValueSet
 /// The values that each subject may have, where components have these modes and variables these values.
 fn base_of(
     alloc: Global,
-    sizes: &[u8],
+    sizes: &Sizes,
     components: usize,
     modes: &[Pair],
     seen: &[Pair],
 ) -> Result<Vec<ValueSet>, AllocError>
-    requires few { All (λ n. n ≤ MAX_CHOICES) sizes.now }
     requires modes { ArePairs (length sizes.now) 0 modes.now }
     requires seen { ArePairs (length sizes.now) components seen.now }
     ensures { IfOk result (λ r. IsBase sizes.now components modes.now seen.now r.items) }
@@ -79,5 +79,5 @@ pub fn model_base(
     ensures proper { IfOk result (λ r. IsProblem problem.now.clauses r.items) }
 {
     let components = model.components().len();
-    base_of(alloc, problem.sizes.as_slice(), components, modes, seen)
+    base_of(alloc, &problem.sizes, components, modes, seen)
 }

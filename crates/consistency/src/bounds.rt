@@ -4,7 +4,7 @@
 ghost use Rattle.std.specs.Prelude.{◌≡◌, ◌≤◌, length, IfOk, OnOk, IfSome};
 ghost use Rattle.clause_form.specs.Clauses.{AreBelow, AllBelow};
 ghost use Rattle.consistency.specs.Problem.{IsProblem};
-ghost use Rattle.consistency.specs.Bounds.{OthersOut, Leaves, LeavesAll, AreBounds};
+ghost use Rattle.consistency.specs.Bounds.{OthersOut, Leaves, LeavesAll, HoldSolutions};
 
 use crate::problem::Problem;
 use cca_base::ValueSet;
@@ -50,24 +50,7 @@ fn narrow(literals: &[Literal], sets: &mut [ValueSet]) -> Option<u16>
     Some(literal.subject)
 }
 
-/// Looks at every clause, and notes which subjects have fewer values left.
-fn narrow_all(
-    clauses: &[Clause],
-    sets: &mut [ValueSet],
-    changed: &mut Vec<u16>,
-) -> Result<(), AllocError>
-    requires { AllBelow (length sets.old) clauses.now }
-    ensures { OnOk result (LeavesAll clauses.now sets.old sets.new) }
-{
-    for clause in clauses {
-        if let Some(subject) = narrow(clause.literals.as_slice(), sets) {
-            changed.push(subject)?;
-        }
-    }
-    Ok(())
-}
-
-/// The same of the clauses at some places.
+/// Looks at the clauses at some places, and notes which subjects have fewer values left.
 fn narrow_places(
     clauses: &[Clause],
     places: &[usize],
@@ -114,7 +97,8 @@ fn narrow_whole(alloc: Global, problem: &Problem, sets: &mut [ValueSet]) -> Resu
     ensures { OnOk result (LeavesAll problem.now.clauses sets.old sets.new) }
 {
     let mut changed = Vec::with_capacity(alloc, sets.len())?;
-    narrow_all(problem.clauses.as_slice(), sets, &mut changed)?;
+    let clauses = problem.clauses.as_slice();
+    narrow_places(clauses, problem.all.as_slice(), sets, &mut changed)?;
     settle(problem, sets, &mut changed)
 }
 
@@ -125,7 +109,7 @@ pub fn bounds(
     base: &[ValueSet],
 ) -> Result<Vec<ValueSet>, AllocError>
     requires { IsProblem problem.now.clauses base.now }
-    ensures { IfOk result (λ r. AreBounds problem.now.clauses base.now r.items) }
+    ensures { IfOk result (λ r. HoldSolutions problem.now.clauses base.now r.items) }
 {
     let mut sets = Vec::from_slice(alloc, base)?;
     narrow_whole(alloc, problem, &mut sets)?;

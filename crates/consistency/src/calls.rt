@@ -6,7 +6,7 @@ ghost use Rattle.cca_base.specs.Model.{HasMode};
 ghost use Rattle.cca_base.specs.Shown.{CanShow, IsConflict};
 ghost use Rattle.cca_base.specs.State.{HasValue, HasWorld, Follows, IsState};
 ghost use Rattle.consistency.specs.Forced.{AreForced};
-ghost use Rattle.consistency.specs.Found.{Fits, Counters, NoneFits, IsFirstOf};
+ghost use Rattle.consistency.specs.Found.{FitsSeen, Counters, IsFirstFound};
 
 use crate::found::Found;
 use crate::worlds::Worlds;
@@ -23,10 +23,7 @@ pub fn find_world(
 ) -> Result<Option<Found>, AllocError>
     requires modes { All (λ p. HasMode model.now p.item p.value) modes.now }
     requires seen { All (λ p. HasValue model.now p.item p.value) seen.now.pairs }
-    ensures some { IfOk result (λ o.
-        IfSome o (λ f. IsFirstOf (Fits model.now modes.now seen.now.pairs) f.state.modes
-        f.world.values)) }
-    ensures none { IfOk result (λ o. IsNone o → NoneFits model.now modes.now seen.now.pairs) }
+    ensures { IfOk result (IsFirstFound (FitsSeen model.now modes.now seen.now.pairs)) }
 {
     let worlds = Worlds::of(alloc, model)?;
     worlds.find_world(alloc, model, modes, seen)
@@ -43,10 +40,8 @@ pub fn find_counter(
     requires modes { All (λ p. HasMode model.now p.item p.value) modes.now }
     requires formula { IsTrue (is_within (length model.now.components) (length model.now.variables)
         formula.now) }
-    ensures some { IfOk result (λ o.
-        IfSome o (λ f. IsFirstOf (Counters model.now modes.now formula.now) f.state.modes
-        f.world.values)) }
-    ensures none { IfOk result (λ o. IsNone o → Follows model.now modes.now formula.now) }
+    ensures first { IfOk result (IsFirstFound (Counters model.now modes.now formula.now)) }
+    ensures follows { IfOk result (λ o. IsNone o → Follows model.now modes.now formula.now) }
 {
     let worlds = Worlds::of(alloc, model)?;
     worlds.find_counter(alloc, model, modes, formula)

@@ -11,9 +11,9 @@ ghost use Rattle.consistency.specs.Cores.{IsCore, IsShowable};
 ghost use Rattle.consistency.specs.Worlds.{AreWorldsOf};
 
 use crate::base::model_base;
-use crate::guess::guessed;
+use crate::guess::solution_or_clash;
 use crate::pairs::{all_pairs, joined};
-use crate::search::{SearchResult, solve};
+use crate::search::SearchResult;
 use crate::subjects::{SubjectSet, has_subject};
 use crate::worlds::Worlds;
 use cca_base::{Cube, Model, Pair, Seen, State};
@@ -36,10 +36,7 @@ fn core_of(
 {
     let modes = modes.as_slice();
     let base = model_base(alloc, model, &worlds.rules, modes, seen.pairs.as_slice())?;
-    if let Some(_solution) = guessed(alloc, &worlds.rules, base.as_slice())? {
-        return Ok(None);
-    }
-    match solve(alloc, &worlds.rules, base.as_slice())? {
+    match solution_or_clash(alloc, &worlds.rules, base.as_slice())? {
         SearchResult::Found(_solution) => Ok(None),
         SearchResult::Clash(subjects) => Ok(Some(subjects)),
     }

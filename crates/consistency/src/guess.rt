@@ -1,15 +1,15 @@
 //! A solution that is guessed and tested: each subject takes the least value that propagation leaves it. Only where this fails
 //! is a search made.
 
-ghost use Rattle.std.specs.Prelude.{◌≡◌, ◌<◌, length, IfOk, IfSome, IsNone, ℕ, List};
+ghost use Rattle.std.specs.Prelude.{◌≡◌, ◌<◌, length, IfOk, IfSome};
 ghost use Rattle.cca_base.specs.declared.limits.TheConstants.{MAX_CHOICES};
 ghost use Rattle.clause_form.specs.Clauses.{AllBelow};
 ghost use Rattle.consistency.specs.Problem.{IsProblem};
-ghost use Rattle.consistency.specs.Search.{IsSolution};
+ghost use Rattle.consistency.specs.Search.{IsSolution, IsSolutionOrClash, IsSolutionOrNone};
 
 use crate::bounds::{bounds, settle};
 use crate::problem::Problem;
-use crate::search::first_solution;
+use crate::search::{SearchResult, first_solution, solve};
 use crate::solution::is_solution;
 use cca_base::{List, MAX_CHOICES, ValueSet};
 use std::alloc::{AllocError, Global};
@@ -90,17 +90,20 @@ fn guess(
     Ok(None)
 }
 
-/// Some solution, where a guess is one.
-pub fn guessed(
+/// Some solution, or the subjects that are to blame that there is none.
+pub fn solution_or_clash(
     alloc: Global,
     problem: &Problem,
     base: &[ValueSet],
-) -> Result<Option<List<u8>>, AllocError>
+) -> Result<SearchResult, AllocError>
     requires { IsProblem problem.now.clauses base.now }
-    ensures { IfOk result (λ o. IfSome o (IsSolution problem.now.clauses base.now)) }
+    ensures { IfOk result (IsSolutionOrClash problem.now.clauses base.now) }
 {
     let mut sets = bounds(alloc, problem, base)?;
-    guess(alloc, problem, base, &mut sets)
+    match guess(alloc, problem, base, &mut sets)? {
+        Some(solution) => Ok(SearchResult::Found(solution)),
+        None => solve(alloc, problem, base),
+    }
 }
 
 /// Some solution, sought first in the sets. None comes exactly where there is none.
@@ -112,9 +115,7 @@ pub fn solution_in(
 ) -> Result<Option<List<u8>>, AllocError>
     requires proper { IsProblem problem.now.clauses base.now }
     requires full { length sets.now ≡ length base.now }
-    ensures some { IfOk result (λ o. IfSome o (IsSolution problem.now.clauses base.now)) }
-    ensures none { IfOk result (λ o.
-        IsNone o → (xs : List ℕ) → IsSolution problem.now.clauses base.now xs → ⊥) }
+    ensures { IfOk result (IsSolutionOrNone problem.now.clauses base.now) }
 {
     let mut left = Vec::from_slice(alloc, sets)?;
     let guessed = guess(alloc, problem, base, &mut left)?;
@@ -131,13 +132,8 @@ pub fn any_solution(
     base: &[ValueSet],
 ) -> Result<Option<List<u8>>, AllocError>
     requires { IsProblem problem.now.clauses base.now }
-    ensures some { IfOk result (λ o. IfSome o (IsSolution problem.now.clauses base.now)) }
-    ensures none { IfOk result (λ o.
-        IsNone o → (xs : List ℕ) → IsSolution problem.now.clauses base.now xs → ⊥) }
+    ensures { IfOk result (IsSolutionOrNone problem.now.clauses base.now) }
 {
-    let guessed = guessed(alloc, problem, base)?;
-    if guessed.is_some() {
-        return Ok(guessed);
-    }
-    first_solution(alloc, problem, base)
+    let sets = bounds(alloc, problem, base)?;
+    solution_in(alloc, problem, base, sets.as_slice())
 }

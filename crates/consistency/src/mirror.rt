@@ -76,8 +76,8 @@ impl Worlds {
         Ok(())
     }
 
-    /// The same as `observed`, where what the mirrored variables show is kept for the next time. The error is out of
-    /// memory.
+    /// What is pending, and the variables of the set that have one value in all worlds of the plant's state. What the
+    /// mirrored variables show is kept for the next time. The error is out of memory.
     pub fn observed_by(
         &self,
         alloc: Global,

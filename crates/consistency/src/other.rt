@@ -4,7 +4,7 @@ ghost use Rattle.std.specs.Prelude.{◌≡◌, ◌≢◌, ◌==◌, ◌&&◌, �
 ghost use Rattle.cca_base.specs.declared.limits.TheConstants.{MAX_CHOICES};
 ghost use Rattle.cca_base.specs.Sets.{has};
 ghost use Rattle.consistency.specs.Problem.{IsProblem};
-ghost use Rattle.consistency.specs.Bounds.{AreBounds};
+ghost use Rattle.consistency.specs.Bounds.{HoldSolutions};
 ghost use Rattle.consistency.specs.Search.{IsSolution};
 
 use crate::guess::any_solution;
@@ -79,7 +79,7 @@ pub fn is_forced(
     value: u8,
 ) -> Result<bool, AllocError>
     requires proper { IsProblem problem.now.clauses base.now }
-    requires bounds { AreBounds problem.now.clauses base.now sets.now }
+    requires bounds { HoldSolutions problem.now.clauses base.now sets.now }
     requires subject { subject < length base.now }
     requires small { value < MAX_CHOICES }
     ensures yes { IfOk result (λ b.

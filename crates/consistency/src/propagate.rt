@@ -14,27 +14,7 @@ use cca_base::ValueSet;
 use clause_form::Clause;
 use std::alloc::{AllocError, Global};
 
-/// Looks at every clause, and notes which subjects have fewer values left. What comes is to blame for a clash.
-fn visit_all(
-    clauses: &[Clause],
-    domains: &mut [Domain],
-    changed: &mut Vec<u16>,
-) -> Result<Option<SubjectSet>, AllocError>
-    requires { AllBelow (length domains.old) clauses.now }
-    ensures keeps { OnOk result (KeepsAll clauses.now domains.old domains.new) }
-    ensures clash { IfOk result (IsClashOfAll clauses.now domains.old) }
-{
-    for clause in clauses {
-        match propagate_clause(clause.literals.as_slice(), domains) {
-            Visit::Same => {}
-            Visit::Narrowed(subject) => changed.push(subject)?,
-            Visit::Clash(because) => return Ok(Some(because)),
-        }
-    }
-    Ok(None)
-}
-
-/// The same of the clauses at some places.
+/// Looks at the clauses at some places, and notes which subjects have fewer values left. What comes is to blame for a clash.
 fn visit_places(
     clauses: &[Clause],
     places: &[usize],
@@ -120,7 +100,8 @@ pub fn assume_all(
     ensures clash { IfOk result (IsClashOfAssumed problem.now.clauses base.now domains.old) }
 {
     let mut changed = Vec::new(alloc);
-    if let Some(because) = visit_all(problem.clauses.as_slice(), domains, &mut changed)? {
+    let clauses = problem.clauses.as_slice();
+    if let Some(because) = visit_places(clauses, problem.all.as_slice(), domains, &mut changed)? {
         return Ok(Some(because));
     }
     for subject in (0..base.len() as u16).rev() {

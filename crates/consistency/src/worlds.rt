@@ -1,6 +1,6 @@
 //! The clauses of a model's rules, made once for many questions.
 
-ghost use Rattle.std.specs.Prelude.{◌≡◌, ◌++◌, length, All, IfOk, IfSome, IsNone, IsTrue, None, Option, List, ℕ};
+ghost use Rattle.std.specs.Prelude.{◌≡◌, ◌++◌, length, All, IfOk, IsNone, IsTrue, None, Option};
 ghost use Rattle.cca_base.specs.declared.formula.Formula.{Formula};
 ghost use Rattle.cca_base.specs.Formula.{is_within};
 ghost use Rattle.cca_base.specs.Model.{HasMode, mode_counts, value_counts};
@@ -8,7 +8,7 @@ ghost use Rattle.cca_base.specs.State.{HasValue, Follows};
 ghost use Rattle.clause_form.specs.Clauses.{AreClauses};
 ghost use Rattle.clause_form.specs.Formulas.{AreClausesOf};
 ghost use Rattle.consistency.specs.Problem.{clauses_in};
-ghost use Rattle.consistency.specs.Found.{Fits, Counters, NoneFits, FitsAndDenies, IsFirstOf};
+ghost use Rattle.consistency.specs.Found.{FitsSeen, Counters, FitsAndDenies, IsFirstFound};
 
 use crate::base::model_base;
 use crate::denied::denied_problem;
@@ -46,15 +46,9 @@ fn first_found(
     requires proper { AreClauses (clauses_in problem.now) }
     requires modes { All (λ p. HasMode model.now p.item p.value) modes.now }
     requires seen { All (λ p. HasValue model.now p.item p.value) seen.now }
-    ensures some { (denied : Option Formula) →
+    ensures { (denied : Option Formula) →
         AreClausesOf model.now None denied (clauses_in problem.now) →
-        IfOk result (λ o. IfSome o (λ f.
-        IsFirstOf (FitsAndDenies model.now modes.now seen.now denied) f.state.modes
-        f.world.values)) }
-    ensures none { (denied : Option Formula) →
-        AreClausesOf model.now None denied (clauses_in problem.now) →
-        IfOk result (λ o. IsNone o → (s w : List ℕ) →
-        FitsAndDenies model.now modes.now seen.now denied s w → ⊥) }
+        IfOk result (IsFirstFound (FitsAndDenies model.now modes.now seen.now denied)) }
 {
     let components = model.components().len();
     let base = model_base(alloc, model, problem, modes, seen)?;
@@ -88,10 +82,7 @@ impl Worlds {
         requires of { AreWorldsOf model.now self.now }
         requires modes { All (λ p. HasMode model.now p.item p.value) modes.now }
         requires seen { All (λ p. HasValue model.now p.item p.value) seen.now.pairs }
-        ensures some { IfOk result (λ o.
-            IfSome o (λ f. IsFirstOf (Fits model.now modes.now seen.now.pairs) f.state.modes
-            f.world.values)) }
-        ensures none { IfOk result (λ o. IsNone o → NoneFits model.now modes.now seen.now.pairs) }
+        ensures { IfOk result (IsFirstFound (FitsSeen model.now modes.now seen.now.pairs)) }
     {
         first_found(
             alloc,
@@ -116,10 +107,8 @@ impl Worlds {
         requires modes { All (λ p. HasMode model.now p.item p.value) modes.now }
         requires formula { IsTrue (is_within (length model.now.components)
             (length model.now.variables) formula.now) }
-        ensures some { IfOk result (λ o.
-            IfSome o (λ f. IsFirstOf (Counters model.now modes.now formula.now) f.state.modes
-            f.world.values)) }
-        ensures none { IfOk result (λ o. IsNone o → Follows model.now modes.now formula.now) }
+        ensures first { IfOk result (IsFirstFound (Counters model.now modes.now formula.now)) }
+        ensures follows { IfOk result (λ o. IsNone o → Follows model.now modes.now formula.now) }
     {
         let problem = denied_problem(alloc, model, &self.rules, formula)?;
         first_found(alloc, model, &problem, modes.as_slice(), &[])

@@ -8,7 +8,7 @@ use Rattle.std.proofs.lemmas.List.Sums.{sum_by-cons, sum_by-le-sum_by}
 use Rattle.cca_base.proofs.Members.{contains_cases, contains_none}
 use Rattle.cca_base.specs.declared.choice.Choice.{Choice}
 use Rattle.cost_search.specs.declared.costed.Costed.{Costed}
-use Rattle.cost_search.specs.Search.{Searched, IsNext, IsAfterLast, rank_cmp}
+use Rattle.cost_search.specs.Search.{Searched, IsFirstLeft, IsAfterLast, rank_cmp}
 use Rattle.cost_search.specs.Queue.{modes_of, cost_of}
 use Rattle.cost_search.specs.Left.{count_states, is_after_last, states_left}
 use Rattle.cost_search.proofs.Ranks.{before-trans, not_before_itself}
@@ -66,7 +66,7 @@ after_tested None picks h = refl
 after_tested (Some l) picks h = ap is_lt h
 
 -- after a state is given, fewer come after the last one given
-pub fewer_left : (v : Searched) (given : Costed) → IsNext v given.state.modes given.cost → states_left (record v { last = Some given }) < states_left v
+pub fewer_left : (v : Searched) (given : Costed) → IsFirstLeft v given.state.modes given.cost → states_left (record v { last = Some given }) < states_left v
 fewer_left v given n =
     let chosen = n.left.chosen in
     let picks = chosen.picks in

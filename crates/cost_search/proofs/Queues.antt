@@ -18,7 +18,7 @@ use Rattle.cost_search.specs.SearchParts.{IsPart, IsReplaced, AreInstead, KeepsF
 use Rattle.cost_search.specs.Search.{IsAfterLast}
 use Rattle.cca_base.specs.Choices.{AreRows}
 use Rattle.cost_search.proofs.Boxes.{length-modes}
-use Rattle.cost_search.specs.Queue.{Covers, IsOpen, IsBlocked, Replaces, modes_of, cost_of}
+use Rattle.cost_search.specs.Queue.{Covers, MayBeGiven, IsBlocked, Replaces, modes_of, cost_of}
 
 same_top : (rows : List (List Choice)) (last : Option Costed) (cuts : List (List Pair)) (old pieces new : List Part) (r : IsReplaced old pieces new) (p : Replaces rows last cuts old pieces)
     → r.top ≡ p.top
@@ -87,7 +87,7 @@ all_first b components picks long keeps all =
     (λ c h. All-contains (λ d. get_or picks d nothing ≡ get_or (heads b) d nothing) components c keeps (all c (omega arith)))
 
 blocked_closed : (rows : List (List Choice)) (last : Option Costed) (cuts : List (List Pair)) (p : Part) (components : List ℕ) (picks : List Choice) → IsPart rows p
-    → AllZip Contains (box_of rows p) picks → KeepsFirst (box_of rows p) components picks → IsBlocked last cuts p.modes p.cost components → IsOpen last cuts (modes_of picks) (cost_of picks) → ⊥
+    → AllZip Contains (box_of rows p) picks → KeepsFirst (box_of rows p) components picks → IsBlocked last cuts p.modes p.cost components → MayBeGiven last cuts (modes_of picks) (cost_of picks) → ⊥
 blocked_closed rows last cuts p components picks part has keeps (inl (given, all)) left =
     let b = box_of rows p in
     let long = length-picks b picks has in

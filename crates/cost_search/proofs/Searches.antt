@@ -9,9 +9,9 @@ use Rattle.cca_base.specs.State.{Extends}
 use Rattle.cca_base.specs.declared.choice.Choice.{Choice}
 use Rattle.cost_search.specs.declared.costed.Costed.{Costed}
 use Rattle.cost_search.specs.declared.part.Part.{Part}
-use Rattle.cost_search.specs.Search.{IsLeft, IsNext, NoneLeft, IsUpTo, IsBefore, IsAfterLast, IsUncut}
+use Rattle.cost_search.specs.Search.{IsLeft, IsFirstLeft, NoneLeft, IsUpTo, IsBefore, IsAfterLast, IsUncut}
 use Rattle.cost_search.specs.SearchParts.{IsPart, IsIn, heads, box_of, part_cmp}
-use Rattle.cost_search.specs.Queue.{IsSearch, IsQueue, IsOpen, Covers, modes_of, cost_of}
+use Rattle.cost_search.specs.Queue.{IsSearch, IsQueue, MayBeGiven, Covers, modes_of, cost_of}
 use Rattle.cost_search.proofs.Ranks.{heads_chosen, heads_upto, upto_from_test, upto-trans, before-trans}
 use Rattle.cost_search.proofs.Queues.{top-part}
 
@@ -54,7 +54,7 @@ next_none rows last cuts parts covers none t more left =
     absurd (omega arith)
 
 pub next_some : (rows : List (List Choice)) (last : Option Costed) (cuts : List (List Pair)) (parts : List Part) (p : Part) → IsSearch rows last cuts parts
-    → 0 < length parts → p ≡ get_or parts 0 p → IsUpperBound part_cmp p parts → IsOpen last cuts p.modes p.cost → IsNext (record { rows = rows; last = last; cuts = cuts }) p.modes p.cost
+    → 0 < length parts → p ≡ get_or parts 0 p → IsUpperBound part_cmp p parts → MayBeGiven last cuts p.modes p.cost → IsFirstLeft (record { rows = rows; last = last; cuts = cuts }) p.modes p.cost
 next_some rows last cuts parts p s some first greatest left =
     let part = top-part rows parts p s.queue.each some first in
     record {

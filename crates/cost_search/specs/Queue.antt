@@ -24,17 +24,17 @@ abbrev pub cost_of : List Choice → ℕ
 cost_of picks = sum_by (λ x. x.cost) picks
 
 -- a state is still to be given, as far as the last one given and the cubes say
-pub record IsOpen (last : Option Costed) (cuts : List (List Pair)) (modes : List ℕ) (cost : ℕ) : Type 0 where
+pub record MayBeGiven (last : Option Costed) (cuts : List (List Pair)) (modes : List ℕ) (cost : ℕ) : Type 0 where
   pub after : IsAfterLast last modes cost
   pub uncut : IsUncut cuts modes
 
 -- each such state of the rows is in a part
 abbrev pub Covers : List (List Choice) → Option Costed → List (List Pair) → List Part → Type 0
-Covers rows last cuts parts = (picks : List Choice) → AllZip Contains rows picks → IsOpen last cuts (modes_of picks) (cost_of picks) → IsIn rows parts picks
+Covers rows last cuts parts = (picks : List Choice) → AllZip Contains rows picks → MayBeGiven last cuts (modes_of picks) (cost_of picks) → IsIn rows parts picks
 
 -- if there is a first part, its first state is still to be given
-abbrev pub TopIsOpen : Option Costed → List (List Pair) → List Part → Type 0
-TopIsOpen last cuts parts = (d : Part) → 0 < length parts → IsOpen last cuts (slice_index_or parts 0 d).modes (slice_index_or parts 0 d).cost
+abbrev pub TopMayBeGiven : Option Costed → List (List Pair) → List Part → Type 0
+TopMayBeGiven last cuts parts = (d : Part) → 0 < length parts → MayBeGiven last cuts (slice_index_or parts 0 d).modes (slice_index_or parts 0 d).cost
 
 -- a state that agrees with these modes at these components was given or is cut
 abbrev pub IsBlocked : Option Costed → List (List Pair) → List ℕ → ℕ → List ℕ → Type 0
@@ -48,7 +48,7 @@ pub record Replaces (rows : List (List Choice)) (last : Option Costed) (cuts : L
   pub top : Part
   pub is_top : top ≡ slice_index_or old 0 top
   pub each : All (IsPart rows) pieces
-  pub covers : (picks : List Choice) → AllZip Contains (box_of rows top) picks → IsOpen last cuts (modes_of picks) (cost_of picks) → IsIn rows pieces picks
+  pub covers : (picks : List Choice) → AllZip Contains (box_of rows top) picks → MayBeGiven last cuts (modes_of picks) (cost_of picks) → IsIn rows pieces picks
   pub fewer : size_of rows pieces < size (box_of rows top)
 
 -- what holds of a search's fields

@@ -19,7 +19,7 @@ abbrev pub IsBefore : ℕ → List ℕ → ℕ → List ℕ → Type 0
 IsBefore cost s more t = rank_cmp cost s more t ≡ Less
 
 -- the modes of one choice of each row, which cost this together
-pub record IsChosen (rows : List (List Choice)) (s : List ℕ) (cost : ℕ) : Type 0 where
+pub record IsPicked (rows : List (List Choice)) (s : List ℕ) (cost : ℕ) : Type 0 where
   pub picks : List Choice
   pub each : AllZip Contains rows picks
   pub modes : s ≡ map (λ x. x.mode) picks
@@ -42,7 +42,7 @@ IsUncut cuts s = All (λ cube. Extends s cube → ⊥) cuts
 
 -- a state that is still to be given
 pub record IsLeft (v : Searched) (s : List ℕ) (cost : ℕ) : Type 0 where
-  pub chosen : IsChosen v.rows s cost
+  pub chosen : IsPicked v.rows s cost
   pub after : IsAfterLast v.last s cost
   pub uncut : IsUncut v.cuts s
 
@@ -51,7 +51,7 @@ abbrev pub IsUpTo : ℕ → List ℕ → ℕ → List ℕ → Type 0
 IsUpTo cost s more t = ((t ≡ s) × (more ≡ cost)) ⊎ IsBefore cost s more t
 
 -- the first of the states that are still to be given
-pub record IsNext (v : Searched) (s : List ℕ) (cost : ℕ) : Type 0 where
+pub record IsFirstLeft (v : Searched) (s : List ℕ) (cost : ℕ) : Type 0 where
   pub left : IsLeft v s cost
   pub first : (t : List ℕ) (more : ℕ) → IsLeft v t more → IsUpTo cost s more t
 

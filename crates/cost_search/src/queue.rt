@@ -5,7 +5,7 @@ ghost use Rattle.std.specs.BinaryHeap.{IsHeap, heap_items, heap_len};
 ghost use Rattle.cca_base.specs.declared.limits.TheConstants.{MAX_ROWS};
 ghost use Rattle.cca_base.specs.Relations.{numbers_below};
 ghost use Rattle.cost_search.specs.SearchParts.{IsPart, part_cmp};
-ghost use Rattle.cost_search.specs.Queue.{Covers, IsBlocked, IsOpen, IsQueue, Replaces, TopIsOpen};
+ghost use Rattle.cost_search.specs.Queue.{Covers, IsBlocked, MayBeGiven, IsQueue, Replaces, TopMayBeGiven};
 ghost use Rattle.cost_search.specs.Search.{IsAfterLast};
 ghost use Rattle.cca_base.specs.Choices.{AreRows};
 
@@ -69,7 +69,7 @@ fn blocked_by(
     ensures within { IfOk result (λ o.
         IfSome o (λ v. All (λ c. c < length part.now.modes) v.items)) }
     ensures none { IfOk result (λ o.
-        IsNone o → IsOpen last.now cuts.now part.now.modes part.now.cost) }
+        IsNone o → MayBeGiven last.now cuts.now part.now.modes part.now.cost) }
 {
     let modes = part.modes.as_slice();
     for cube in cuts {
@@ -97,7 +97,7 @@ fn pieces_of_top(
     ensures some { IfOk result (λ o.
         IfSome o (λ h. Replaces rows.now last.now cuts.now (heap_items parts.now) (heap_items h))) }
     ensures none { IfOk result (λ o.
-        IsNone o → TopIsOpen last.now cuts.now (heap_items parts.now)) }
+        IsNone o → TopMayBeGiven last.now cuts.now (heap_items parts.now)) }
 {
     let Some(top) = parts.peek() else {
         return Ok(None);
@@ -122,7 +122,7 @@ pub fn settle_part(
     ensures queue { IsQueue rows.now (heap_items parts.new) }
     ensures covers { Covers rows.now last.now cuts.now (heap_items parts.old) →
         Covers rows.now last.now cuts.now (heap_items parts.new) }
-    ensures ok { OnOk result (TopIsOpen last.now cuts.now (heap_items parts.new)) }
+    ensures ok { OnOk result (TopMayBeGiven last.now cuts.now (heap_items parts.new)) }
 {
     while let Some(mut pieces) = pieces_of_top(alloc, rows, parts, last, cuts)? {
         replace_top(parts, &mut pieces)?;

@@ -2,7 +2,7 @@
 
 ghost use Rattle.std.specs.Prelude.{◌≡◌, ◌<◌, ◌++◌, ◌∷◌, [], IfOk, IfSome, IsSome, IsNone, OnOk, OnErr, Some, None};
 ghost use Rattle.cost_search.specs.Left.{states_left};
-ghost use Rattle.cost_search.specs.Search.{IsNext, NoneLeft};
+ghost use Rattle.cost_search.specs.Search.{IsFirstLeft, NoneLeft};
 ghost use Rattle.cca_base.specs.Choices.{AreRows};
 
 use crate::costed::Costed;
@@ -34,11 +34,7 @@ impl Model for Search {
 
     ghost coded = { Prim.hlevel codes };
 
-    ghost view = { λ s. record {
-      rows = s.choices.rows;
-      last = s.last;
-      cuts = s.cuts;
-    } };
+    ghost view = { λ s. record { rows = s.choices.rows; last = s.last; cuts = s.cuts } };
 
     ghost invariant = { λ s. IsSearch s.choices.rows s.last s.cuts (heap_items s.parts) };
 }
@@ -62,7 +58,8 @@ impl Search {
     /// The first state, by cost and then in mode order, that comes after the last one given and holds no cut cube. None
     /// comes exactly where there is none. The error is out of memory.
     pub fn next(&mut self) -> Result<Option<Costed>, AllocError>
-        ensures some { IfOk result (λ o. IfSome o (λ x. IsNext self.old x.state.modes x.cost)) }
+        ensures some { IfOk result (λ o.
+            IfSome o (λ x. IsFirstLeft self.old x.state.modes x.cost)) }
         ensures given { IfOk result (λ o.
             IfSome o (λ x. self.new ≡ record self.old { last = Some x })) }
         ensures fewer { IfOk result (λ o. IsSome o → states_left self.new < states_left self.old) }

@@ -1,14 +1,24 @@
 //! A part split in pieces, one for each component that has to choose anew.
 
-ghost use Rattle.std.specs.Prelude.{◌≡◌, ◌≤◌, ◌<◌, IfOk, OnOk, OnErr, IfSome, IsNone, All, length, drop, take, slice_set};
+ghost use Rattle.std.specs.Prelude.{◌≡◌, ◌≤◌, ◌<◌, IfOk, OnOk, OnErr, IfSome, IsNone, All, [], length, drop, take, slice_index_or, slice_set};
 ghost use Rattle.std.specs.BinaryHeap.{IsHeap, heap_items, heap_len};
-ghost use Rattle.cost_search.specs.SearchParts.{AreInstead, Gains, IsPart, IsReplaced, box_of, part_cmp, row_at};
+ghost use Rattle.cost_search.specs.SearchParts.{AreInstead, Gains, IsPart, IsReplaced, IsSpan, box_of, part_cmp, row_at};
 ghost use Rattle.cca_base.specs.Choices.{AreRows};
 
 use crate::part::{Part, Span};
 use cca_base::{Choice, List};
 use std::alloc::{AllocError, Global};
 use std::collections::BinaryHeap;
+
+/// The span of the component.
+fn span_of(rows: &[List<Choice>], part: &Part, at: usize) -> Span
+    requires part { IsPart rows.now part.now }
+    requires at { at < length rows.now }
+    ensures item { result ≡ slice_index_or part.now.spans at result }
+    ensures span { IsSpan (slice_index_or rows.now at []) result }
+{
+    *part.spans.get(at)
+}
 
 /// The states of the part in which the component does not have its first choice, if there are some.
 fn onward(
@@ -27,7 +37,7 @@ fn onward(
         (drop 1 (row_at (box_of rows.now part.now) at)))) }
     ensures none { IfOk result (λ o. IsNone o → length (row_at (box_of rows.now part.now) at) ≤ 1) }
 {
-    let span = *part.spans.get(at);
+    let span = span_of(rows, part, at);
     let next = span.from + 1;
     if next == span.to {
         return Ok(None);
@@ -56,7 +66,7 @@ fn narrow(rows: &[List<Choice>], part: &mut Part, at: usize)
     ensures states { box_of rows.now part.new
         ≡ slice_set (box_of rows.now part.old) at (take 1 (row_at (box_of rows.now part.old) at)) }
 {
-    let span = *part.spans.get(at);
+    let span = span_of(rows, part, at);
     part.spans.set(
         at,
         Span {

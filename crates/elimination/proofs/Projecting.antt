@@ -29,7 +29,7 @@ none_marked n x h = false≢true (sym (unmarked n x) ∙ h)
 
 -- ---- one subject more
 
-pub values_set : (sizes xs : List ℕ) (x v : ℕ) → AreValues sizes xs → v < get_or sizes x 0 → AreValues sizes (set xs x v)
+values_set : (sizes xs : List ℕ) (x v : ℕ) → AreValues sizes xs → v < get_or sizes x 0 → AreValues sizes (set xs x v)
 values_set sizes xs x v h small = record {
   full = length-set xs x v ∙ h.full;
   values = λ i l. elim (cases_eq i x) [

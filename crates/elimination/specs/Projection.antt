@@ -4,7 +4,7 @@ use Rattle.std.specs.List.{list_any}
 use Rattle.cca_base.specs.Flags.{IsSet, is_set}
 use Rattle.clause_form.specs.declared.clause.Clause.{Clause}
 use Rattle.clause_form.specs.declared.clause.Clauses.{Clauses}
-use Rattle.clause_form.specs.Clauses.{AllBelow, AreValues, all_met}
+use Rattle.clause_form.specs.Clauses.{AllBelow, AllOthers, AreValues, all_met, any_below}
 
 -- with some values of the subjects from keep on, all clauses are true
 abbrev pub CanBeMet : Clauses → ℕ → List ℕ → Type 0
@@ -18,6 +18,13 @@ IsProjection all keep kept = (xs : List ℕ) → AreValues (take keep all.sizes)
 abbrev pub IsWithout : Clauses → ℕ → Clauses → Type 0
 IsWithout all x rest = (xs : List ℕ) → AreValues all.sizes xs
     → IsTrue (all_met xs rest.clauses) ↔ ((v : ℕ) × (v < slice_index all.sizes x) × IsTrue (all_met (slice_set xs x v) all.clauses))
+
+-- true exactly where some value of the subject makes all of the old clauses true, and naming neither this subject nor one that these don't name
+pub record AreResolvents (sizes : List ℕ) (x : ℕ) (old new : List Clause) : Type 0 where
+  pub met : (xs : List ℕ) → AreValues sizes xs → all_met xs new ≡ any_below (slice_index sizes x) (λ v. all_met (slice_set xs x v) old)
+  pub below : AllBelow (length sizes) new
+  pub gone : AllOthers x new
+  pub names : (y : ℕ) → AllOthers y old → AllOthers y new
 
 -- a subject from keep on that isn't marked
 pub record IsLeft (sizes : List ℕ) (keep : ℕ) (marks : List Bool) (x : ℕ) : Type 0 where

@@ -1,12 +1,12 @@
 //! What it costs to project a subject away: the product, over its values, of how many clauses that name it lack the value.
 //! No claim rests on the costs, since subjects may be projected away in any order.
 
-ghost use Rattle.std.specs.Prelude.{◌≤◌, All, length};
+ghost use Rattle.std.specs.Prelude.{◌≤◌, length};
 ghost use Rattle.cca_base.specs.declared.limits.TheConstants.{MAX_CHOICES};
 ghost use Rattle.clause_form.specs.Clauses.{AllBelow, AreBelow};
 
 use cca_base::MAX_CHOICES;
-use clause_form::{Clause, Literal};
+use clause_form::{Clause, Literal, Sizes};
 use std::alloc::{AllocError, Global};
 
 /// How many counts a subject has: one for each value that it may have, and behind them how many clauses name it.
@@ -20,8 +20,7 @@ pub(crate) struct Costs {
 
 impl Costs {
     /// The counts of these clauses. The error is out of memory.
-    pub(crate) fn of(alloc: Global, sizes: &[u8], clauses: &[Clause]) -> Result<Costs, AllocError>
-        requires few { All (λ n. n ≤ MAX_CHOICES) sizes.now }
+    pub(crate) fn of(alloc: Global, sizes: &Sizes, clauses: &[Clause]) -> Result<Costs, AllocError>
         requires below { AllBelow (length sizes.now) clauses.now }
     {
         let subjects = sizes.len().min(usize::from(u16::MAX) + 1);
@@ -51,12 +50,11 @@ impl Costs {
 }
 
 /// Counts the clause at each of its literals.
-fn count_clause(sizes: &[u8], clause: &Clause, counts: &mut [u32])
-    requires few { All (λ n. n ≤ MAX_CHOICES) sizes.now }
+fn count_clause(sizes: &Sizes, clause: &Clause, counts: &mut [u32])
     requires below { AreBelow (length sizes.now) clause.now.literals }
 {
     for literal in clause.literals.as_slice() {
-        count_literal(sizes[usize::from(literal.subject)], literal, counts);
+        count_literal(sizes.get(usize::from(literal.subject)), literal, counts);
     }
 }
 

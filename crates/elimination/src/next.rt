@@ -1,16 +1,15 @@
 //! Which subject is projected away next.
 
-ghost use Rattle.std.specs.Prelude.{◌≡◌, ◌≤◌, ◌⊎◌, All, IfOk, IfSome, MatchOption, length};
-ghost use Rattle.cca_base.specs.declared.limits.TheConstants.{MAX_CHOICES};
+ghost use Rattle.std.specs.Prelude.{◌≡◌, ◌⊎◌, All, IfOk, IfSome, MatchOption, length};
 ghost use Rattle.clause_form.specs.Clauses.{AllBelow, AreBelow};
 ghost use Rattle.elimination.specs.Projection.{AreAllDone, IsDone, IsLeft};
 
 use crate::cost::Costs;
-use clause_form::Clause;
+use clause_form::{Clause, Sizes};
 use std::alloc::{AllocError, Global};
 
 /// A subject from `keep` on that the clause names and that isn't marked, if there is one.
-fn left_in(sizes: &[u8], clause: &Clause, keep: u16, marks: &[bool]) -> Option<u16>
+fn left_in(sizes: &Sizes, clause: &Clause, keep: u16, marks: &[bool]) -> Option<u16>
     requires marks { length marks.now ≡ length sizes.now }
     requires below { AreBelow (length sizes.now) clause.now.literals }
     ensures { MatchOption result (All (λ literal.
@@ -26,7 +25,7 @@ fn left_in(sizes: &[u8], clause: &Clause, keep: u16, marks: &[bool]) -> Option<u
 }
 
 /// A subject from `keep` on that a clause names and that isn't marked, if there is one.
-fn some_left(sizes: &[u8], clauses: &[Clause], keep: u16, marks: &[bool]) -> Option<u16>
+fn some_left(sizes: &Sizes, clauses: &[Clause], keep: u16, marks: &[bool]) -> Option<u16>
     requires marks { length marks.now ≡ length sizes.now }
     requires below { AllBelow (length sizes.now) clauses.now }
     ensures { MatchOption result (AreAllDone keep marks.now clauses.now)
@@ -41,7 +40,7 @@ fn some_left(sizes: &[u8], clauses: &[Clause], keep: u16, marks: &[bool]) -> Opt
 }
 
 /// The subject that costs least among those that are named and left, or the first one.
-fn cheapest(sizes: &[u8], keep: u16, marks: &[bool], first: u16, costs: &Costs) -> u16
+fn cheapest(sizes: &Sizes, keep: u16, marks: &[bool], first: u16, costs: &Costs) -> u16
     requires marks { length marks.now ≡ length sizes.now }
     requires first { IsLeft sizes.now keep marks.now first }
     ensures { IsLeft sizes.now keep marks.now result }
@@ -50,7 +49,7 @@ fn cheapest(sizes: &[u8], keep: u16, marks: &[bool], first: u16, costs: &Costs) 
     let mut least = u64::MAX;
     for at in usize::from(keep)..sizes.len().min(usize::from(u16::MAX)) {
         let subject = at as u16;
-        if let Some(cost) = costs.cost(sizes[at], subject) {
+        if let Some(cost) = costs.cost(sizes.get(at), subject) {
             if !marks[at] && cost < least {
                 best = subject;
                 least = cost;
@@ -64,12 +63,11 @@ fn cheapest(sizes: &[u8], keep: u16, marks: &[bool], first: u16, costs: &Costs) 
 /// costs least to project away, on which no claim rests. The error is out of memory.
 pub(crate) fn next_subject(
     alloc: Global,
-    sizes: &[u8],
+    sizes: &Sizes,
     clauses: &[Clause],
     keep: u16,
     marks: &[bool],
 ) -> Result<Option<u16>, AllocError>
-    requires few { All (λ n. n ≤ MAX_CHOICES) sizes.now }
     requires marks { length marks.now ≡ length sizes.now }
     requires below { AllBelow (length sizes.now) clauses.now }
     ensures { IfOk result (λ next.

@@ -1,14 +1,13 @@
 //! Subjects projected away one by one, by resolution.
 
-ghost use Rattle.std.specs.Prelude.{◌≡◌, ◌≤◌, All, IfOk, false, length, replicate, take};
-ghost use Rattle.cca_base.specs.declared.limits.TheConstants.{MAX_CHOICES};
+ghost use Rattle.std.specs.Prelude.{◌≡◌, ◌≤◌, IfOk, false, length, replicate, take};
 ghost use Rattle.clause_form.specs.Clauses.{AllBelow, AreClauses};
 ghost use Rattle.elimination.specs.Projection.{AreProjected, IsProjection};
 
-use crate::kept::{first_sizes, kept_of};
+use crate::kept::kept_of;
 use crate::next::next_subject;
 use crate::removal::without;
-use clause_form::{Clause, Clauses, copies};
+use clause_form::{Clause, Clauses, Sizes, copies};
 use std::alloc::{AllocError, Global};
 
 /// Clauses over the subjects below `keep`, true exactly where some values of the other subjects make all of the given
@@ -21,9 +20,9 @@ pub fn project(alloc: Global, clauses: &Clauses, keep: u16) -> Result<Clauses, A
     ensures exact { IfOk result (IsProjection clauses.now keep) }
 {
     let all = copies(alloc, clauses.clauses.as_slice())?;
-    let projected = project_each(alloc, clauses.sizes.as_slice(), all, keep)?;
-    let sizes = first_sizes(alloc, &clauses.sizes, keep)?;
-    let clauses = kept_of(alloc, clauses.sizes.as_slice(), keep, projected)?;
+    let projected = project_each(alloc, &clauses.sizes, all, keep)?;
+    let sizes = clauses.sizes.first(alloc, keep as usize)?;
+    let clauses = kept_of(alloc, &clauses.sizes, keep, projected)?;
     Ok(Clauses { sizes, clauses })
 }
 
@@ -37,11 +36,10 @@ fn no_marks(alloc: Global, count: usize) -> Result<Vec<bool>, AllocError>
 /// The clauses once each subject from `keep` on that they name is projected away, the cheapest first.
 fn project_each(
     alloc: Global,
-    sizes: &[u8],
+    sizes: &Sizes,
     clauses: Vec<Clause>,
     keep: u16,
 ) -> Result<Vec<Clause>, AllocError>
-    requires few { All (λ n. n ≤ MAX_CHOICES) sizes.now }
     requires below { AllBelow (length sizes.now) clauses.items }
     ensures { IfOk result (λ r. AreProjected sizes.now keep clauses.items r.items) }
 {

@@ -25,7 +25,7 @@ pub fn project_subject(
     ensures exact { IfOk result (IsWithout clauses.now subject) }
 {
     let all = copies(alloc, clauses.clauses.as_slice())?;
-    let rest = without(alloc, clauses.sizes.as_slice(), all, subject)?;
+    let rest = without(alloc, &clauses.sizes, all, subject)?;
     let sizes = clauses.sizes.copy(alloc)?;
     Ok(Clauses {
         sizes,

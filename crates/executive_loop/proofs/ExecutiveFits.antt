@@ -1,20 +1,24 @@
 -- What an executive keeps fits its model after each event.
-use Rattle.std.proofs.Common.{◌≡◌, Option, sym, subst}
+use Rattle.std.proofs.Common.{◌≡◌, List, Option, None, IfSome, sym, subst}
+use Rattle.cca_base.specs.declared.cube.Pair.{Pair}
 use Rattle.cca_base.specs.declared.events.Event.{Event}
-use Rattle.cca_base.specs.declared.events.TickReport.{TickReport}
-use Rattle.cca_base.specs.Accepted.{CompiledModel, IsCompiled}
+use Rattle.cca_base.specs.Accepted.{CompiledModel}
+use Rattle.cca_base.specs.Orders.{IsSorted}
 use Rattle.cca_base.specs.Plans.{Promising}
-use Rattle.cca_base.specs.Trace.{ExecutiveState, MayCome}
-use Rattle.trace_laws.specs.Events.{Acts}
-use Rattle.trace_laws.specs.Fits.{Fits}
+use Rattle.cca_base.specs.Trace.{ExecutiveState, Changes, MayCome}
+use Rattle.policy_tables.specs.Tables.{TableParts}
 use Rattle.trace_laws.proofs.FitsStay.{stays_fitting}
-use Rattle.executive_loop.specs.Parts.{ExecutiveParts}
+use Rattle.executive_loop.specs.Covering.{AreTablesOf}
+use Rattle.executive_loop.specs.Parts.{ExecutiveParts, IsExecutive}
 
--- what may come of an executive may come of its fields
-pub may_come_inside : (x y : ExecutiveParts) (e : Event) → x ≡ y → MayCome y.compiled.model y.state.pending y.state.mirrored e
-    → MayCome x.compiled.model x.state.pending x.state.mirrored e
-may_come_inside x y e same h = subst (λ (z : ExecutiveParts). MayCome z.compiled.model z.state.pending z.state.mirrored e) (sym same) h
-
-pub fits_after : (b : CompiledModel) (x y : ExecutiveState) (e : Event) (report : Option TickReport) → IsCompiled b → Fits b x → MayCome b.model x.pending x.mirrored e
-    → Acts b (Promising b) x e y report → Fits b y
-fits_after b x y e report compiled fits may acts = stays_fitting b compiled (Promising b) x y e report fits may acts
+-- an event that is no tick, seen from outside as from the fields, leaves an executive with the same tables or none
+pub still_executive : (x given : ExecutiveParts) (b : CompiledModel) (e : Event) (y : ExecutiveState) (seen : List Pair) (tables : Option TableParts)
+    → IsExecutive x → x ≡ given → MayCome given.compiled.model given.state.pending given.state.mirrored e → b ≡ x.compiled → Changes b.model (IsSorted b.order) x.state e y
+    → IfSome tables (AreTablesOf x.compiled) → IsExecutive (record { compiled = x.compiled; state = y; last_seen = seen; tables = tables })
+still_executive x given b e y seen tables before same may own changes of = record {
+  compiled = before.compiled;
+  fits = stays_fitting x.compiled before.compiled (Promising x.compiled) x.state y e None before.fits
+      (subst (λ (z : ExecutiveParts). MayCome z.compiled.model z.state.pending z.state.mirrored e) (sym same) may)
+      (subst (λ (z : CompiledModel). Changes z.model (IsSorted z.order) x.state e y) own changes);
+  tables = of;
+}

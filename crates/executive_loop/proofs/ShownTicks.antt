@@ -1,5 +1,5 @@
 -- What a tick shows, of an answered estimate and of none.
-use Rattle.std.proofs.Common.{◌≡◌, ◌+◌, ℕ, true, false, List, [], None, sym, ap, subst, ◌∙◌}
+use Rattle.std.proofs.Common.{◌≡◌, ◌+◌, ℕ, true, false, List, [], None, sym, subst}
 use Rattle.cca_base.specs.declared.cube.Pair.{Pair}
 use Rattle.cca_base.specs.declared.events.Shown.{Shown}
 use Rattle.cca_base.specs.declared.events.Shown.TheVariants.{Unexplained}
@@ -24,13 +24,12 @@ module _ (b : CompiledModel) (x : ExecutiveState) (going : x.holding ≡ false) 
     after = h.after;
   })
 
-  pub shows_unexplained : (y z : ExecutiveState) → estimates.Unexplained b.model x.estimate x.command seen
-      → y ≡ record x { command = None; holding = true } → z ≡ record y { pending = []; ticks = y.ticks + 1 }
-      → TickShows b.model (Promising b) x Unexplained z
-  shows_unexplained y z unexplained held counted = record {
+  pub shows_unexplained : (y : ExecutiveState) → estimates.Unexplained b.model x.estimate x.command seen
+      → y ≡ record x { command = None; pending = []; holding = true; ticks = x.ticks + 1 } → TickShows b.model (Promising b) x Unexplained y
+  shows_unexplained y unexplained after = record {
     going = going;
     seen = seen;
     observed = observed;
     unexplained = unexplained;
-    after = counted ∙ ap (λ (u : ExecutiveState). record u { pending = []; ticks = u.ticks + 1 }) held;
+    after = after;
   }

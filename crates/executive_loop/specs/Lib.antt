@@ -1,4 +1,3 @@
-pub mod Standing
 pub mod Covering
 pub mod Parts
 pub mod Answered

@@ -4,7 +4,7 @@ ghost use Rattle.std.specs.Prelude.{◌≡◌, ◌≢◌, ◌<◌, IfSome, IfOk,
 ghost use Rattle.std.specs.Option.{option_map};
 ghost use Rattle.cca_base.specs.Plans.{Promising};
 ghost use Rattle.cca_base.specs.State.{IsState};
-ghost use Rattle.cca_base.specs.Trace.{IsReply, command_of};
+ghost use Rattle.cca_base.specs.Trace.{IsReply};
 ghost use Rattle.cca_base.specs.declared.events.Reply.TheVariants.{Idle};
 ghost use Rattle.planner_step.specs.Planning.{reply_of, IsGoal};
 ghost use Rattle.reversibility.specs.ClassParts.{CoversState};
@@ -20,16 +20,6 @@ use std::alloc::{AllocError, Global};
 use std::marker::Brand;
 use std::rc::Rc;
 use std::sync::ledger::{Blank, Ledger};
-
-/// The command that a reply sends.
-pub(crate) fn command_of(reply: Reply) -> Option<u16>
-    ensures { result ≡ command_of reply }
-{
-    match reply {
-        Reply::Send(command) => Some(command),
-        Reply::Idle | Reply::Achieved | Reply::Unreachable(..) => None,
-    }
-}
 
 /// The answer as a reply.
 fn reply_of(answer: Answer) -> Reply

@@ -11,7 +11,6 @@ ghost use Rattle.executive_loop.specs.Covering.{base_of, covers, AreCoveringAfte
 ghost use Rattle.executive_loop.specs.Parts.{IsExecutive, SeenAfter};
 
 use crate::events::change;
-use crate::standing::{Standing, start};
 use crate::tick::make_tick;
 use cca_base::{Compiled, Event, Goal, Seen, State, TickReport, VarSet};
 use consistency::{Mirror, Worlds};
@@ -19,7 +18,7 @@ use policy_tables::Tables;
 use std::alloc::{AllocError, Global};
 use std::marker::Model;
 use std::rc::Rc;
-use trace_laws::nothing_seen;
+use trace_laws::{Standing, nothing_seen};
 
 /// An executive of a compiled model.
 #[derive(Drop)]
@@ -40,25 +39,23 @@ impl Model for Executive {
     ghost use Rattle.consistency.specs.Observed.{IsMirror};
     ghost use Rattle.consistency.specs.Worlds.{AreWorldsOf};
     ghost use Rattle.executive_loop.specs.Parts.{ExecutiveParts, IsExecutive};
-    ghost use Rattle.executive_loop.specs.Standing.{state_of};
 
     ghost Value = { ExecutiveParts };
 
-    ghost use Rattle.cca_base.specs.contracts.formula.Formula as formula;
-    ghost use Rattle.std.specs.Coded.{codes};
+    ghost use Rattle.cca_base.specs.Coded.{model_codes};
 
-    ghost coded = { Prim.hlevel (codes, formula.the_row.coded) };
+    ghost coded = { Prim.hlevel model_codes };
 
     ghost view = { λ e. record {
       compiled = e.compiled.value;
-      state = state_of e.standing;
+      state = e.standing;
       last_seen = e.last_seen.pairs;
       tables = e.tables;
     } };
 
     ghost invariant = { λ e. (AreWorldsOf e.compiled.value.model e.worlds × IsMirror e.compiled.value.model e.mirror) × IsExecutive (record {
       compiled = e.compiled.value;
-      state = state_of e.standing;
+      state = e.standing;
       last_seen = e.last_seen.pairs;
       tables = e.tables;
     }) };
@@ -77,7 +74,7 @@ impl Executive {
     {
         let worlds = Worlds::of(alloc, compiled.model())?;
         let mirror = Mirror::new();
-        let standing = start(alloc, &compiled, 0)?;
+        let standing = Standing::start(alloc, compiled.model(), 0)?;
         let compiled = Rc::new(alloc, compiled)?;
         Ok(Executive {
             alloc,
@@ -163,14 +160,14 @@ impl Executive {
     pub fn pending(&self) -> &Seen
         ensures { result.now.pairs ≡ self.now.state.pending }
     {
-        &self.standing.pending
+        &self.standing.known.pending
     }
 
     /// The mirrored variables.
     pub fn mirrored(&self) -> VarSet
         ensures { result ≡ self.now.state.mirrored }
     {
-        self.standing.mirrored
+        self.standing.known.mirrored
     }
 
     /// What the last tick observed, the mirrored variables with it.
@@ -191,6 +188,6 @@ impl Executive {
     pub fn plant(&self) -> &State
         ensures { result.now.modes ≡ self.now.state.plant }
     {
-        self.standing.plant.state()
+        &self.standing.plant
     }
 }

@@ -6,7 +6,6 @@ mod cover;
 mod events;
 mod executive;
 mod observed;
-mod standing;
 mod tick;
 
 pub use executive::Executive;

@@ -6,12 +6,11 @@ ghost use Rattle.cca_base.specs.Trace.{Observed};
 ghost use Rattle.consistency.specs.Observed.{IsMirror};
 ghost use Rattle.consistency.specs.Worlds.{AreWorldsOf};
 ghost use Rattle.trace_laws.specs.Fits.{Fits};
-ghost use Rattle.executive_loop.specs.Standing.{state_of};
 
-use crate::standing::Standing;
 use cca_base::{Compiled, Seen};
 use consistency::{Mirror, Worlds};
 use std::alloc::{AllocError, Global};
+use trace_laws::Standing;
 
 /// The pending observations, and the mirrored variables with one value. The error is out of memory.
 #[tactic(auto, using(crate::proofs::PendingPairs::pending_values, crate::proofs::PendingPairs::pending_unmirrored))]
@@ -24,9 +23,9 @@ pub(crate) fn observe(
 ) -> Result<Seen, AllocError>
     requires worlds { AreWorldsOf compiled.now.model worlds.now }
     requires mirror { IsMirror compiled.now.model mirror.old }
-    requires fits { Fits compiled.now (state_of standing.now) }
+    requires fits { Fits compiled.now standing.now }
     ensures seen { IfOk result (λ seen.
-        Observed compiled.now.model (state_of standing.now) seen.pairs) }
+        Observed compiled.now.model standing.now seen.pairs) }
     ensures values { IfOk result (λ seen.
         All (λ p. HasValue compiled.now.model p.item p.value) seen.pairs) }
     ensures mirror { IsMirror compiled.now.model mirror.new }
@@ -34,9 +33,9 @@ pub(crate) fn observe(
     worlds.observed_by(
         alloc,
         compiled.model(),
-        standing.plant.state(),
-        standing.mirrored,
-        &standing.pending,
+        &standing.plant,
+        standing.known.mirrored,
+        &standing.known.pending,
         mirror,
     )
 }

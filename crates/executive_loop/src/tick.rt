@@ -13,48 +13,17 @@ ghost use Rattle.trace_laws.specs.Tables.{TablesShown};
 ghost use Rattle.executive_loop.specs.Answered.{IsAnswered};
 ghost use Rattle.executive_loop.specs.Covering.{base_of, covers, AreTablesOf, AreCoveringShown};
 ghost use Rattle.executive_loop.specs.Parts.{SeenAt};
-ghost use Rattle.executive_loop.specs.Standing.{state_of};
 
-use crate::answer::{command_of, reply_in};
+use crate::answer::reply_in;
 use crate::observed::observe;
-use crate::standing::Standing;
 use cca_base::{Compiled, Seen, Shown, State, TickReport};
 use consistency::{Mirror, Worlds};
 use mode_estimator::{Estimate, estimate_by};
 use policy_tables::Tables;
 use std::alloc::{AllocError, Global};
 use std::rc::Rc;
-use successors::Plant;
-use trace_laws::nothing_seen;
-
-/// Counts a tick, which drops what was pending.
-fn count(alloc: Global, standing: &mut Standing)
-    requires { standing.old.ticks + 1 < 2 ^ 64 }
-    ensures { state_of standing.new
-        ≡ record (state_of standing.old) { pending = []; ticks = standing.old.ticks + 1 } }
-{
-    standing.pending = nothing_seen(alloc);
-    standing.ticks += 1;
-}
-
-/// Holds from now on, since nothing explains what is observed.
-fn hold(standing: &mut Standing)
-    ensures { state_of standing.new
-        ≡ record (state_of standing.old) { command = None; holding = true } }
-{
-    standing.command = None;
-    standing.holding = true;
-}
-
-/// Moves the plant by the command, if there is one.
-fn obey(compiled: &Compiled, plant: &mut Plant, command: Option<u16>)
-    requires { IsState compiled.now.model plant.old }
-    ensures { Nominal compiled.now.model plant.old command plant.new }
-{
-    if let Some(command) = command {
-        plant.command(compiled, command);
-    }
-}
+use successors::obey;
+use trace_laws::{Standing, command_of, nothing_seen};
 
 /// Answers an estimate: what is shown of it, with the reply. The error is out of memory.
 fn answer(
@@ -65,16 +34,15 @@ fn answer(
     state: State,
     cost: u64,
 ) -> Result<Shown, AllocError>
-    requires fits { Fits compiled.now.value (state_of standing.old) }
+    requires fits { Fits compiled.now.value standing.old }
     requires tables { IfSome tables.old (AreTablesOf compiled.now.value) }
     requires state { IsState compiled.now.value.model state.modes }
     requires room { standing.old.ticks + 1 < 2 ^ 64 }
     ensures answered { IfOk result (λ shown.
-        IsAnswered compiled.now.value (state_of standing.old) cost state shown
-        (state_of standing.new)) }
+        IsAnswered compiled.now.value standing.old cost state shown
+        standing.new) }
     ensures takes { IfOk result (λ shown.
-        TablesShown base_of covers (option_map (λ g.
-        g.pairs) standing.old.goal) tables.old shown tables.new) }
+        TablesShown base_of covers standing.old.goal tables.old shown tables.new) }
     ensures covers { IfOk result (λ shown. AreCoveringShown tables.new state.modes shown) }
     ensures tables { OnOk result (IfSome tables.new (AreTablesOf compiled.now.value)) }
     ensures err { OnErr result (standing.new ≡ standing.old) }
@@ -83,10 +51,10 @@ fn answer(
     let shown = state.copy(alloc)?;
     let reply = reply_in(alloc, compiled, tables, &state, &standing.goal)?;
     let command = command_of(reply);
+    let tick = standing.ticks + 1;
     obey(compiled, &mut standing.plant, command);
     standing.estimate = state;
-    standing.command = command;
-    count(alloc, standing);
+    standing.count(alloc, command, tick);
     Ok(Shown::Estimated {
         cost,
         state: shown,
@@ -106,31 +74,31 @@ pub(crate) fn make_tick(
 ) -> Result<TickReport, AllocError>
     requires worlds { AreWorldsOf compiled.now.value.model worlds.now }
     requires mirror { IsMirror compiled.now.value.model mirror.old }
-    requires fits { Fits compiled.now.value (state_of standing.old) }
+    requires fits { Fits compiled.now.value standing.old }
     requires tables { IfSome tables.old (AreTablesOf compiled.now.value) }
     requires room { standing.old.ticks + 1 < 2 ^ 64 }
     ensures number { IfOk result (λ report. report.tick ≡ standing.old.ticks + 1) }
     ensures shows { IfOk result (λ report.
-        TickShows compiled.now.value.model (Promising compiled.now.value) (state_of standing.old)
-        report.shown (state_of standing.new)) }
+        TickShows compiled.now.value.model (Promising compiled.now.value) standing.old
+        report.shown standing.new) }
     ensures takes { IfOk result (λ report.
-        TablesShown base_of covers (option_map (λ g.
-        g.pairs) standing.old.goal) tables.old report.shown tables.new) }
+        TablesShown base_of covers standing.old.goal tables.old report.shown tables.new) }
     ensures covers { IfOk result (λ report.
-        AreCoveringShown tables.new standing.new.estimate.modes report.shown) }
+        AreCoveringShown tables.new standing.new.estimate report.shown) }
     ensures tables { OnOk result (IfSome tables.new (AreTablesOf compiled.now.value)) }
     ensures mirror { IsMirror compiled.now.value.model mirror.new }
     ensures seen { IfOk result (λ report.
-        SeenAt compiled.now.value.model (state_of standing.old) report.shown last_seen.new.pairs) }
+        SeenAt compiled.now.value.model standing.old report.shown last_seen.new.pairs) }
     ensures err { OnErr result (standing.new ≡ standing.old) }
     ensures err_tables { OnErr result (tables.new ≡ tables.old) }
     ensures err_seen { OnErr result (last_seen.new ≡ last_seen.old) }
 {
+    let tick = standing.ticks + 1;
     if standing.holding {
-        count(alloc, standing);
+        standing.count(alloc, standing.command, tick);
         *last_seen = nothing_seen(alloc);
         return Ok(TickReport {
-            tick: standing.ticks,
+            tick,
             shown: Shown::Holding,
         });
     }
@@ -147,14 +115,11 @@ pub(crate) fn make_tick(
             answer(alloc, compiled, standing, tables, state, cost)?
         }
         Estimate::Unexplained => {
-            hold(standing);
-            count(alloc, standing);
+            standing.holding = true;
+            standing.count(alloc, None, tick);
             Shown::Unexplained
         }
     };
     *last_seen = seen;
-    Ok(TickReport {
-        tick: standing.ticks,
-        shown,
-    })
+    Ok(TickReport { tick, shown })
 }

@@ -68,6 +68,10 @@ deepest_push allowed (q ∷ ps) p = let ih = deepest_push allowed ps p in omega 
 deepest_with : (allowed : ℕ) (fs : List Formula) (f : Formula) → deepest allowed (map printed (fs ++ f ∷ [])) ≡ max (deepest allowed (map printed fs)) (part allowed f)
 deepest_with allowed fs f = ap (deepest allowed) (map_push printed fs f) ∙ deepest_push allowed (map printed fs) (printed f)
 
+-- one part more
+one_more : (allowed : ℕ) (fs : List Formula) (f : Formula) (a b : ℕ) → deepest allowed (map printed fs) ≤ a → part allowed f ≤ b → deepest allowed (map printed (fs ++ f ∷ [])) ≤ max a b
+one_more allowed fs f a b front last = let e = deepest_with allowed fs f in omega (arith, e, front, last)
+
 module _ (m : PlantModel) where
   among_depth : (o : Option Subject) (vs : List (List ℕ)) → part 0 (has_among m o vs) ≡ 1
   among_depth None vs = false_depth
@@ -88,37 +92,25 @@ module _ (m : PlantModel) where
 
     conjuncts_printed : (c : Conjunction) → deepest 0 (map printed (conjuncts m c)) ≤ deepest_factor c
     conjuncts_printed (Single p) = let ih = factor_printed p in omega (arith, ih)
-    conjuncts_printed (And front last) =
-        let e = deepest_with 0 (conjuncts m front) (factor_formula m last) in
-        let a = conjuncts_printed front in
-        let b = factor_printed last in
-        omega (arith, e, a, b)
+    conjuncts_printed (And front last) = one_more 0 (conjuncts m front) (factor_formula m last) _ _ (conjuncts_printed front) (factor_printed last)
 
     conjunction_printed : (c : Conjunction) → part 1 (conjunction_formula m c) ≤ conjunction_depth c
     conjunction_printed (Single p) = let ih = factor_printed p in let l = looser 0 1 (printed (factor_formula m p)) (omega arith) in omega (arith, ih, l)
     conjunction_printed (And front last) =
-        let d = all_depth (conjuncts m front ++ factor_formula m last ∷ []) in
-        let e = deepest_with 0 (conjuncts m front) (factor_formula m last) in
-        let a = conjuncts_printed front in
-        let b = factor_printed last in
-        omega (arith, d, e, a, b)
+        let d = all_depth (conjuncts m (And front last)) in
+        let most = one_more 0 (conjuncts m front) (factor_formula m last) _ _ (conjuncts_printed front) (factor_printed last) in
+        omega (arith, d, most)
 
     disjuncts_printed : (d : Disjunction) → deepest 1 (map printed (disjuncts m d)) ≤ deepest_case d
     disjuncts_printed (Case p) = let ih = conjunction_printed p in omega (arith, ih)
-    disjuncts_printed (Or front last) =
-        let e = deepest_with 1 (disjuncts m front) (conjunction_formula m last) in
-        let a = disjuncts_printed front in
-        let b = conjunction_printed last in
-        omega (arith, e, a, b)
+    disjuncts_printed (Or front last) = one_more 1 (disjuncts m front) (conjunction_formula m last) _ _ (disjuncts_printed front) (conjunction_printed last)
 
     disjunction_printed : (d : Disjunction) → part 2 (disjunction_formula m d) ≤ disjunction_depth d
     disjunction_printed (Case p) = let ih = conjunction_printed p in let l = looser 1 2 (printed (conjunction_formula m p)) (omega arith) in omega (arith, ih, l)
     disjunction_printed (Or front last) =
-        let d = any_depth (disjuncts m front ++ conjunction_formula m last ∷ []) in
-        let e = deepest_with 1 (disjuncts m front) (conjunction_formula m last) in
-        let a = disjuncts_printed front in
-        let b = conjunction_printed last in
-        omega (arith, d, e, a, b)
+        let d = any_depth (disjuncts m (Or front last)) in
+        let most = one_more 1 (disjuncts m front) (conjunction_formula m last) _ _ (disjuncts_printed front) (conjunction_printed last) in
+        omega (arith, d, most)
 
     pub whole_printed : (t : Whole) → depth (whole_formula m t) ≤ whole_depth t
     whole_printed (Plain p) = let ih = disjunction_printed p in let d = depth_at_most 2 (printed (disjunction_formula m p)) in omega (arith, ih, d)

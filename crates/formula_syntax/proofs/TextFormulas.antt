@@ -1,31 +1,26 @@
 -- A text whose names are declared spells a formula of the model, whose printed text is no deeper.
-use Rattle.std.proofs.Common.{◌≡◌, ℕ, ◌+◌, ◌<◌, ◌^◌, Bool, true, false, not, ◌&&◌, ◌||◌, List, [], ◌∷◌, ◌++◌, length, map, Option, Some, None, slice_get, slice_index, inl, inr, refl, sym, ap, subst, ◌∙◌, arith}
+use Rattle.std.proofs.Common.{◌≡◌, ℕ, ◌+◌, ◌<◌, ◌^◌, Bool, true, false, not, ◌&&◌, ◌||◌, List, [], ◌∷◌, ◌++◌, length, map, Option, Some, None, inl, inr, refl, sym, ap, ◌∙◌, arith}
 use Rattle.std.specs.Prelude.{nat_le, nat_lt, is_some}
 use Rattle.std.specs.List.{list_all, list_any}
-use Rattle.std.specs.Option.{option_map_or}
-use Rattle.std.specs.Str.{bytes_eq}
 use Rattle.std.proofs.Math.Pow.{pow-lt, pow_pos}
 use Rattle.std.proofs.lemmas.Bool.{and_from, or_parts, not-false, lt-ltb, le-leb, cases_lt, eq-eqb}
 use Rattle.std.proofs.lemmas.Nat.{or_lt}
-use Rattle.std.proofs.lemmas.Option.{slice_get_within, get_or_from_slice_get}
-use Rattle.std.proofs.lemmas.List.{get_or-map, map_push, length_push, length-map}
+use Rattle.std.proofs.lemmas.List.{map_push, length_push, length-map}
 use Rattle.std.proofs.lemmas.List.Folds.{list_any-append, list_all-append}
-use Rattle.std.proofs.lemmas.List.Quantifiers.{position-Some}
 use Rattle.cca_base.specs.declared.formula.Formula.{Formula, roll-Formula}
 use Rattle.cca_base.specs.declared.formula.Formula.TheOpen.{Formula-F}
 use Rattle.cca_base.specs.declared.formula.Formula.TheFolds.{fold-roll-Formula}
 use Rattle.cca_base.specs.declared.formula.Subject.{Subject}
 use Rattle.cca_base.specs.declared.formula.Subject.TheVariants as subjects
-use Rattle.cca_base.specs.declared.model.Variable.{Variable}
 use Rattle.cca_base.specs.PlantModel.{PlantModel}
 use Rattle.cca_base.specs.Sets.{has, with_number}
 use Rattle.cca_base.specs.Formula.{fits, fits_step, is_choice_of, subject_value}
 use Rattle.cca_base.specs.Model.{mode_counts, value_counts}
 use Rattle.cca_base.proofs.SetLaws.{has-with_number, has-empty}
 use Rattle.formula_syntax.specs.Grammar.{Factor, Conjunction, Disjunction, Whole, True, False, Equal, Differs, In, Not, Parens, Single, And, Case, Or, Plain, Implies, Iff}
-use Rattle.formula_syntax.specs.Lookups.{subject_of, value_of, place_of}
+use Rattle.formula_syntax.specs.Lookups.{subject_of, value_of}
 use Rattle.formula_syntax.specs.Meanings.{Comparison, words, lacks_value, is_unknown, with_found, with_numbers, has_among, is_among, factor_comparisons, conjunction_comparisons, disjunction_comparisons, whole_comparisons, factor_formula, conjuncts, conjunction_formula, disjuncts, disjunction_formula, whole_formula}
-use Rattle.formula_syntax.proofs.ModesByName.{mode_of_component}
+use Rattle.formula_syntax.proofs.ModesByName.{mode_of_component, value_of_variable}
 
 module _ (m : PlantModel) where
   abbrev modes : List ℕ
@@ -36,23 +31,9 @@ module _ (m : PlantModel) where
 
   -- ---- values of a subject
 
-  within_values : (v k : ℕ) (text : List ℕ) (o : Option Variable) → slice_get m.variables v ≡ o → place_of (option_map_or (λ x. x.values) o []) text ≡ Some k → k < slice_index values v
-  within_values v k text None e h =
-      let none : List ℕ = [] in
-      let p = position-Some (λ name. bytes_eq name text) [] k none h in
-      absurd (omega (arith, p.0))
-  within_values v k text (Some x) e h =
-      let none : List ℕ = [] in
-      let p = position-Some (λ name. bytes_eq name text) x.values k none h in
-      let count : slice_index values v ≡ length x.values =
-      get_or-map (λ (y : Variable). length y.values) m.variables v x 0 (slice_get_within m.variables v x e)
-      ∙ ap (λ (y : Variable). length y.values) (get_or_from_slice_get m.variables v x x e)
-      in
-      subst (λ n. k < n) (sym count) p.0
-
   value_within : (s : Subject) (k : ℕ) (text : List ℕ) → value_of m s text ≡ Some k → k < subject_value s modes values
   value_within (subjects.Component c) k text h = mode_of_component m c k text h
-  value_within (subjects.Variable v) k text h = within_values v k text (slice_get m.variables v) refl h
+  value_within (subjects.Variable v) k text h = value_of_variable m v k text h
 
   -- ---- sets of values
 
@@ -104,20 +85,20 @@ module _ (m : PlantModel) where
 
   -- ---- formulas that fit
 
-  abbrev Fits : Formula → Type 0
-  Fits f = fits modes values f ≡ true
+  abbrev FormulaFits : Formula → Type 0
+  FormulaFits f = fits modes values f ≡ true
 
-  among_fits : (o : Option Subject) (v : List ℕ) (vs : List (List ℕ)) → lacks_value m o (v ∷ vs) ≡ false → Fits (has_among m o (v ∷ vs))
+  among_fits : (o : Option Subject) (v : List ℕ) (vs : List (List ℕ)) → lacks_value m o (v ∷ vs) ≡ false → FormulaFits (has_among m o (v ∷ vs))
   among_fits None v vs h = absurd cc
   among_fits (Some s) v vs h = fold-roll-Formula Bool (fits_step modes values) (Formula-F.Among s (with_numbers m s 0 (v ∷ vs))) ∙ is_choice s v vs h
 
-  not_fits : (f : Formula) → Fits f → Fits (roll-Formula (Formula-F.Not f))
+  not_fits : (f : Formula) → FormulaFits f → FormulaFits (roll-Formula (Formula-F.Not f))
   not_fits f h = fold-roll-Formula Bool (fits_step modes values) (Formula-F.Not f) ∙ h
 
   abbrev AllFit : List Formula → Type 0
   AllFit fs = list_all (λ b. b) (map (fits modes values) fs) ≡ true
 
-  all_fit_push : (fs : List Formula) (f : Formula) → AllFit fs → Fits f → AllFit (fs ++ f ∷ [])
+  all_fit_push : (fs : List Formula) (f : Formula) → AllFit fs → FormulaFits f → AllFit (fs ++ f ∷ [])
   all_fit_push fs f h g =
       ap (list_all (λ b. b)) (map_push (fits modes values) fs f)
       ∙ list_all-append (λ b. b) (map (fits modes values) fs) (fits modes values f ∷ [])
@@ -128,16 +109,16 @@ module _ (m : PlantModel) where
       let n : length (map (fits modes values) (fs ++ f ∷ [])) ≡ length fs + 1 = length-map (fs ++ f ∷ []) (fits modes values) ∙ length_push fs f in
       rw n (le-leb 2 (length fs + 1) (omega arith))
 
-  all_fits : (fs : List Formula) (f : Formula) → 0 < length fs → AllFit fs → Fits f → Fits (roll-Formula (Formula-F.All (fs ++ f ∷ [])))
+  all_fits : (fs : List Formula) (f : Formula) → 0 < length fs → AllFit fs → FormulaFits f → FormulaFits (roll-Formula (Formula-F.All (fs ++ f ∷ [])))
   all_fits fs f some h g = fold-roll-Formula Bool (fits_step modes values) (Formula-F.All (fs ++ f ∷ [])) ∙ and_from (nat_le 2 (length (map (fits modes values) (fs ++ f ∷ [])))) _ (two fs f some) (all_fit_push fs f h g)
 
-  any_fits : (fs : List Formula) (f : Formula) → 0 < length fs → AllFit fs → Fits f → Fits (roll-Formula (Formula-F.Any (fs ++ f ∷ [])))
+  any_fits : (fs : List Formula) (f : Formula) → 0 < length fs → AllFit fs → FormulaFits f → FormulaFits (roll-Formula (Formula-F.Any (fs ++ f ∷ [])))
   any_fits fs f some h g = fold-roll-Formula Bool (fits_step modes values) (Formula-F.Any (fs ++ f ∷ [])) ∙ and_from (nat_le 2 (length (map (fits modes values) (fs ++ f ∷ [])))) _ (two fs f some) (all_fit_push fs f h g)
 
-  implies_fits : (f g : Formula) → Fits f → Fits g → Fits (roll-Formula (Formula-F.Implies f g))
+  implies_fits : (f g : Formula) → FormulaFits f → FormulaFits g → FormulaFits (roll-Formula (Formula-F.Implies f g))
   implies_fits f g a b = fold-roll-Formula Bool (fits_step modes values) (Formula-F.Implies f g) ∙ and_from (fits modes values f) (fits modes values g) a b
 
-  iff_fits : (f g : Formula) → Fits f → Fits g → Fits (roll-Formula (Formula-F.Iff f g))
+  iff_fits : (f g : Formula) → FormulaFits f → FormulaFits g → FormulaFits (roll-Formula (Formula-F.Iff f g))
   iff_fits f g a b = fold-roll-Formula Bool (fits_step modes values) (Formula-F.Iff f g) ∙ and_from (fits modes values f) (fits modes values g) a b
 
   pub some_conjuncts : (c : Conjunction) → 0 < length (conjuncts m c)
@@ -159,7 +140,7 @@ module _ (m : PlantModel) where
   known_one name vs h = (or_parts (lacks_value m (subject_of m name) vs) false h).0
 
   mutual
-    factor_fits : (t : Factor) → Known (factor_comparisons t) → Fits (factor_formula m t)
+    factor_fits : (t : Factor) → Known (factor_comparisons t) → FormulaFits (factor_formula m t)
     factor_fits True h = fold-roll-Formula Bool (fits_step modes values) Formula-F.True
     factor_fits False h = fold-roll-Formula Bool (fits_step modes values) Formula-F.False
     factor_fits (Equal name value) h = among_fits (subject_of m name.text) value.text [] (known_one name.text (value.text ∷ []) h)
@@ -175,7 +156,7 @@ module _ (m : PlantModel) where
         let p = known_both (conjunction_comparisons front) (factor_comparisons last) h in
         all_fit_push (conjuncts m front) (factor_formula m last) (conjuncts_fit front p.0) (factor_fits last p.1)
 
-    conjunction_fits : (c : Conjunction) → Known (conjunction_comparisons c) → Fits (conjunction_formula m c)
+    conjunction_fits : (c : Conjunction) → Known (conjunction_comparisons c) → FormulaFits (conjunction_formula m c)
     conjunction_fits (Single part) h = factor_fits part h
     conjunction_fits (And front last) h =
         let p = known_both (conjunction_comparisons front) (factor_comparisons last) h in
@@ -187,13 +168,13 @@ module _ (m : PlantModel) where
         let p = known_both (disjunction_comparisons front) (conjunction_comparisons last) h in
         all_fit_push (disjuncts m front) (conjunction_formula m last) (disjuncts_fit front p.0) (conjunction_fits last p.1)
 
-    disjunction_fits : (d : Disjunction) → Known (disjunction_comparisons d) → Fits (disjunction_formula m d)
+    disjunction_fits : (d : Disjunction) → Known (disjunction_comparisons d) → FormulaFits (disjunction_formula m d)
     disjunction_fits (Case part) h = conjunction_fits part h
     disjunction_fits (Or front last) h =
         let p = known_both (disjunction_comparisons front) (conjunction_comparisons last) h in
         any_fits (disjuncts m front) (conjunction_formula m last) (some_disjuncts front) (disjuncts_fit front p.0) (conjunction_fits last p.1)
 
-    pub whole_fits : (t : Whole) → Known (whole_comparisons t) → Fits (whole_formula m t)
+    pub whole_fits : (t : Whole) → Known (whole_comparisons t) → FormulaFits (whole_formula m t)
     whole_fits (Plain part) h = disjunction_fits part h
     whole_fits (Implies a b) h =
         let p = known_both (disjunction_comparisons a) (disjunction_comparisons b) h in

@@ -16,7 +16,9 @@ use Rattle.formula_syntax.specs.declared.read_parts.ReadParts.TheVariants as par
 use Rattle.formula_syntax.specs.declared.formula_parser.Connective.{Connective}
 use Rattle.formula_syntax.specs.declared.formula_parser.Connective.TheVariants as link
 use Rattle.formula_syntax.specs.Grammar.{NameWord, Factor, Conjunction, Disjunction, Whole, True, False, Equal, Differs, In, Not, Parens, Single, And, Case, Or, Plain, Implies, Iff}
-use Rattle.formula_syntax.specs.ReadParts.{deeper, negated, enclosed, link_of, linked, one, more, all_of, any_of, among, named}
+use Rattle.formula_syntax.specs.declared.formula_parser.Junction.{Junction}
+use Rattle.formula_syntax.specs.declared.formula_parser.Junction.TheVariants as junction
+use Rattle.formula_syntax.specs.ReadParts.{deeper, negated, enclosed, link_of, linked, one, more, joined, all_of, any_of, among, named}
 use Rattle.formula_syntax.specs.Meanings.{Comparison, words, is_unknown, has_twice, is_among, verdict, reading_of, factor_depth, deepest_factor, conjunction_depth, deepest_case, disjunction_depth, whole_depth, factor_comparisons, conjunction_comparisons, disjunction_comparisons, whole_comparisons, factor_formula, conjuncts, conjunction_formula, disjuncts, disjunction_formula, whole_formula}
 use Rattle.formula_syntax.proofs.TextReadings.{with_values, factor_read, conjunction_read, disjunction_read, whole_read}
 use Rattle.formula_syntax.proofs.Comparisons.{comparison_is_read}
@@ -113,17 +115,11 @@ more_verdict front g e h false false false false true q = h 3
 more_verdict front g e h false false false false false true = h 4
 more_verdict front g e h false false false false false false = refl
 
-all_verdict : (u r p : Bool) (front : ReadParts) → all_of (of_parts u r p front) ≡ verdict u r p (all_of front)
-all_verdict true r p front = refl
-all_verdict false true p front = refl
-all_verdict false false true front = refl
-all_verdict false false false front = refl
-
-any_verdict : (u r p : Bool) (front : ReadParts) → any_of (of_parts u r p front) ≡ verdict u r p (any_of front)
-any_verdict true r p front = refl
-any_verdict false true p front = refl
-any_verdict false false true front = refl
-any_verdict false false false front = refl
+joined_verdict : (j : Junction) (u r p : Bool) (front : ReadParts) → joined j (of_parts u r p front) ≡ verdict u r p (joined j front)
+joined_verdict j true r p front = refl
+joined_verdict j false true p front = refl
+joined_verdict j false false true front = refl
+joined_verdict j false false false front = refl
 
 twice_only : (strict : Bool) (cs : List Comparison) → list_any (λ c. strict && has_twice c.values) cs ≡ (strict && list_any (λ c. has_twice c.values) cs)
 twice_only true cs = refl
@@ -221,18 +217,18 @@ module _ (strict : Bool) (m : PlantModel) where
   judged_whole t = judged (whole_comparisons t) (whole_depth t) (Sound (whole_formula m t) (whole_depth t))
 
   case_ends : (c : Conjunction) → all_of (judged_conjunction c) ≡ judged_case c
-  case_ends (Single part) = all_verdict (unknown (factor_comparisons part)) (twice (factor_comparisons part)) (deep (factor_depth part)) (conjunction_parts (Single part))
+  case_ends (Single part) = joined_verdict junction.And (unknown (factor_comparisons part)) (twice (factor_comparisons part)) (deep (factor_depth part)) (conjunction_parts (Single part))
   case_ends (And front last) =
       let cs = conjunction_comparisons (And front last) in
       let d = deepest_factor (And front last) in
-      all_verdict (unknown cs) (twice cs) (deep d) (conjunction_parts (And front last)) ∙ deeper_verdict (unknown cs) (twice cs) (conjunction_formula m (And front last)) d
+      joined_verdict junction.And (unknown cs) (twice cs) (deep d) (conjunction_parts (And front last)) ∙ deeper_verdict (unknown cs) (twice cs) (conjunction_formula m (And front last)) d
 
   side_ends : (d : Disjunction) → any_of (judged_disjunction d) ≡ judged_side d
-  side_ends (Case part) = any_verdict (unknown (conjunction_comparisons part)) (twice (conjunction_comparisons part)) (deep (conjunction_depth part)) (disjunction_parts (Case part))
+  side_ends (Case part) = joined_verdict junction.Or (unknown (conjunction_comparisons part)) (twice (conjunction_comparisons part)) (deep (conjunction_depth part)) (disjunction_parts (Case part))
   side_ends (Or front last) =
       let cs = disjunction_comparisons (Or front last) in
       let d = deepest_case (Or front last) in
-      any_verdict (unknown cs) (twice cs) (deep d) (disjunction_parts (Or front last)) ∙ deeper_verdict (unknown cs) (twice cs) (disjunction_formula m (Or front last)) d
+      joined_verdict junction.Or (unknown cs) (twice cs) (deep d) (disjunction_parts (Or front last)) ∙ deeper_verdict (unknown cs) (twice cs) (disjunction_formula m (Or front last)) d
 
   -- the first conjunction of a disjunction
   first_case : (c : Conjunction) → one (judged_case c) ≡ judged_disjunction (Case c)

@@ -14,6 +14,8 @@ use Rattle.formula_syntax.specs.declared.atom.Atom.{Atom}
 use Rattle.formula_syntax.specs.declared.atom.Atom.TheVariants.{Known, Unknown}
 use Rattle.formula_syntax.specs.declared.formula_parser.Connective.{Connective}
 use Rattle.formula_syntax.specs.declared.formula_parser.Connective.TheVariants as link
+use Rattle.formula_syntax.specs.declared.formula_parser.Junction.{Junction}
+use Rattle.formula_syntax.specs.declared.formula_parser.Junction.TheVariants as junction
 use Rattle.cca_base.specs.declared.codes.TheConstants.{NAME_UNKNOWN, NAME_REPEATED, LIMIT}
 use Rattle.formula_syntax.specs.Lookups.{subject_of, value_of}
 
@@ -57,17 +59,24 @@ more (parts.One f d) (Faulty e) = parts.Faulty e
 more (parts.Many fs d) (Faulty e) = parts.Faulty e
 more (parts.Faulty c) (Faulty e) = parts.Faulty (min c e)
 
+-- the formula that the parts make with this word between them
+abbrev pub junction_of : Junction → List Formula → Formula
+junction_of junction.And fs = roll-Formula (Formula-F.All fs)
+junction_of junction.Or fs = roll-Formula (Formula-F.Any fs)
+
+-- the parts with this word between them
+abbrev pub joined : Junction → ReadParts → ReadPart
+joined j (parts.One f d) = Sound f d
+joined j (parts.Many fs d) = deeper (junction_of j fs) d
+joined j (parts.Faulty c) = Faulty c
+
 -- the parts with `and` between them
 abbrev pub all_of : ReadParts → ReadPart
-all_of (parts.One f d) = Sound f d
-all_of (parts.Many fs d) = deeper (roll-Formula (Formula-F.All fs)) d
-all_of (parts.Faulty c) = Faulty c
+all_of = joined junction.And
 
 -- the parts with `or` between them
 abbrev pub any_of : ReadParts → ReadPart
-any_of (parts.One f d) = Sound f d
-any_of (parts.Many fs d) = deeper (roll-Formula (Formula-F.Any fs)) d
-any_of (parts.Faulty c) = Faulty c
+any_of = joined junction.Or
 
 -- an atom that begins with this subject
 abbrev pub begun : Option Subject → Atom

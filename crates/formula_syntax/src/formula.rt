@@ -1,8 +1,7 @@
 //! Formulas read from tokens, by operator precedence.
 
-ghost use Rattle.std.specs.Prelude.{◌≡◌, Bool, true, false, map, IfOk, IfSome};
+ghost use Rattle.std.specs.Prelude.{◌≡◌, Bool, true, false, map, IfOk};
 ghost use Rattle.text_base.specs.Lexemes.{lexeme_of};
-ghost use Rattle.formula_syntax.specs.Lookups.{NamesFit};
 ghost use Rattle.formula_syntax.specs.FormulaParser.{start, state_of, ended, run};
 ghost use Rattle.cca_base.specs.Model.{IsFormula};
 ghost use Rattle.cca_base.specs.PlantModel.{PlantModel};
@@ -12,13 +11,13 @@ ghost use Rattle.formula_syntax.specs.Answers.{AnswersFormula, AnswerOneWay, IsF
 
 use crate::formula_parser::{Expected, FormulaParser};
 use crate::level::level_read;
+use crate::named_model::NamedModel;
 use crate::places::place_behind;
 use crate::read_part::ReadPart;
 use crate::steps::step;
 use crate::transitions::fresh;
 use cca_base::codes::MALFORMED;
-use cca_base::{Formula, List, Model, Name, Stop, Subject};
-use indexmap::IndexMap;
+use cca_base::{Formula, List, Model, Stop};
 use std::alloc::{AllocError, Global};
 use text_base::Token;
 
@@ -66,19 +65,17 @@ fn ended(alloc: Global, machine: FormulaParser) -> Result<Option<ReadPart>, Allo
 /// Reads the tokens one after the other.
 fn run(
     alloc: Global,
-    model: &Model,
-    names: Option<&IndexMap<Name, Subject>>,
+    model: &NamedModel,
     strict: bool,
     tokens: &[Token],
 ) -> Result<Option<ReadPart>, AllocError>
-    requires fit { IfSome names (λ n. NamesFit n.now model.now) }
     ensures { IfOk result (λ r. r ≡ run strict model.now start (map lexeme_of tokens.now)) }
 {
     let mut machine = start(alloc);
     'tokens: for token in tokens {
-        match place_behind(model, names, strict, machine.place, token) {
+        match place_behind(model, strict, machine.place, token) {
             Some(place) => machine.place = place,
-            None => match step(alloc, model, strict, machine, token)? {
+            None => match step(alloc, model.model(), strict, machine, token)? {
                 Some(next) => machine = next,
                 None => return Ok(None),
             },
@@ -87,19 +84,16 @@ fn run(
     ended(alloc, machine)
 }
 
-/// What the formula says that the tokens spell, if they spell one. Names are looked up in the map, and a list that has a name
-/// twice is wrong.
+/// What the formula says that the tokens spell, if they spell one. A list that has a name twice is wrong.
 #[tactic(auto, using(crate::proofs::FormulaReadWhole::run_is_reading))]
 pub fn read_strictly(
     alloc: Global,
-    model: &Model,
-    names: &IndexMap<Name, Subject>,
+    model: &NamedModel,
     tokens: &[Token],
 ) -> Result<Option<ReadPart>, AllocError>
-    requires fit { NamesFit names.now model.now }
     ensures { IfOk result (IsReadingOf true model.now (map lexeme_of tokens.now)) }
 {
-    run(alloc, model, Some(names), true, tokens)
+    run(alloc, model, true, tokens)
 }
 
 /// The same with the names of the model itself, where a list that has a name twice is the set of its names.
@@ -111,7 +105,7 @@ fn read_freely(
 ) -> Result<Option<ReadPart>, AllocError>
     ensures { IfOk result (IsReadingOf false model.now (map lexeme_of tokens.now)) }
 {
-    run(alloc, model, None, false, tokens)
+    run(alloc, &NamedModel::of_model(model), false, tokens)
 }
 
 /// The formula that all tokens make, where a list that has a name twice is the set of its names; or a refusal with the least

@@ -12,6 +12,13 @@ pub enum Connective {
     Iff,
 }
 
+/// The word between the parts of a conjunction or a disjunction.
+#[derive(Clone, Copy)]
+pub enum Junction {
+    And,
+    Or,
+}
+
 /// A disjunction before `implies` or `iff`, and that word.
 #[derive(Drop)]
 pub struct Side {

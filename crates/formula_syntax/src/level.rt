@@ -3,9 +3,9 @@
 ghost use Rattle.std.specs.Prelude.{◌≡◌, IfOk};
 ghost use Rattle.formula_syntax.specs.FormulaParser.{nots, more_or_one, completed, cases_read, side_read, level_read, against};
 
-use crate::formula_parser::{Level, Side};
+use crate::formula_parser::{Junction, Level, Side};
 use crate::read_part::{ReadPart, linked, negated};
-use crate::read_parts::{ReadParts, all_of, any_of, more, one};
+use crate::read_parts::{ReadParts, joined, more, one};
 use std::alloc::{AllocError, Global};
 
 /// The reading behind so many words `not`.
@@ -53,34 +53,39 @@ pub fn completed(alloc: Global, level: Level, factor: ReadPart) -> Result<Level,
     })
 }
 
-/// All conjunctions of a level, where its last one has ended.
+/// The side before a level, and all its conjunctions, where its last one has ended.
 pub fn cases_read(
     alloc: Global,
-    any: Option<ReadParts>,
-    all: Option<ReadParts>,
-) -> Result<Option<ReadParts>, AllocError>
-    ensures { IfOk result (λ r. r ≡ cases_read any all) }
+    level: Level,
+) -> Result<(Option<Side>, Option<ReadParts>), AllocError>
+    ensures { IfOk result (λ r. r ≡ (level.left, cases_read level.any level.all)) }
 {
+    let Level {
+        left,
+        any,
+        all,
+        nots: _,
+    } = level;
     match all {
-        None => Ok(None),
+        None => Ok((left, None)),
         Some(all) => {
-            let cases = more_or_one(alloc, any, all_of(all))?;
-            Ok(Some(cases))
+            let cases = more_or_one(alloc, any, joined(Junction::And, all))?;
+            Ok((left, Some(cases)))
         }
     }
 }
 
-/// The disjunction of a level.
+/// The side before a level, and the level's disjunction.
 pub fn side_read(
     alloc: Global,
-    any: Option<ReadParts>,
-    all: Option<ReadParts>,
-) -> Result<Option<ReadPart>, AllocError>
-    ensures { IfOk result (λ r. r ≡ side_read any all) }
+    level: Level,
+) -> Result<(Option<Side>, Option<ReadPart>), AllocError>
+    ensures { IfOk result (λ r. r ≡ (level.left, side_read level.any level.all)) }
 {
-    match cases_read(alloc, any, all)? {
-        None => Ok(None),
-        Some(cases) => Ok(Some(any_of(cases))),
+    let (left, cases) = cases_read(alloc, level)?;
+    match cases {
+        None => Ok((left, None)),
+        Some(cases) => Ok((left, Some(joined(Junction::Or, cases)))),
     }
 }
 
@@ -98,13 +103,8 @@ fn against(alloc: Global, left: Option<Side>, right: ReadPart) -> Result<ReadPar
 pub fn level_read(alloc: Global, level: Level) -> Result<Option<ReadPart>, AllocError>
     ensures { IfOk result (λ r. r ≡ level_read level) }
 {
-    let Level {
-        left,
-        any,
-        all,
-        nots: _,
-    } = level;
-    match side_read(alloc, any, all)? {
+    let (left, right) = side_read(alloc, level)?;
+    match right {
         None => Ok(None),
         Some(right) => {
             let whole = against(alloc, left, right)?;

@@ -8,6 +8,7 @@ mod formula;
 mod formula_parser;
 mod level;
 mod lookup;
+mod named_model;
 mod places;
 mod read_part;
 mod read_parts;
@@ -15,5 +16,6 @@ mod steps;
 mod transitions;
 
 pub use formula::{read_formula, read_strictly, texts_are_read_one_way};
-pub use lookup::{subject_by, subject_of, value_of};
+pub use lookup::value_of;
+pub use named_model::NamedModel;
 pub use read_part::ReadPart;

@@ -1,15 +1,13 @@
 //! Tokens that change nothing but what has to come next.
 
-ghost use Rattle.std.specs.Prelude.{◌≡◌, if◌then◌else◌, None, Some, IfSome};
+ghost use Rattle.std.specs.Prelude.{◌≡◌, if◌then◌else◌, None, Some};
 ghost use Rattle.text_base.specs.Lexemes.{is_lexeme, lexeme_of};
-ghost use Rattle.formula_syntax.specs.Lookups.{NamesFit};
 ghost use Rattle.formula_syntax.specs.FormulaParser.{behind_name, place_behind};
 
 use crate::atom::Atom;
 use crate::formula_parser::Expected;
 use crate::lookup::{named, with_value};
-use cca_base::{Model, Name, Subject};
-use indexmap::IndexMap;
+use crate::named_model::NamedModel;
 use text_base::{Kind, Token, is_lexeme, is_name_word};
 
 /// The place, where the token is this one.
@@ -45,19 +43,17 @@ fn behind_name(atom: Atom, token: &Token) -> Option<Expected>
 
 /// What has to come next behind a token that changes nothing else.
 pub fn place_behind(
-    model: &Model,
-    names: Option<&IndexMap<Name, Subject>>,
+    model: &NamedModel,
     strict: bool,
     place: Expected,
     token: &Token,
 ) -> Option<Expected>
-    requires fit { IfSome names (λ n. NamesFit n.now model.now) }
     ensures { result ≡ place_behind strict model.now place (lexeme_of token.now) }
 {
     match place {
         Expected::Operand => {
             if is_name_word(token) {
-                Some(Expected::Named(named(model, names, token.text)))
+                Some(Expected::Named(named(model, token.text)))
             } else {
                 None
             }
@@ -71,7 +67,7 @@ pub fn place_behind(
         Expected::Opened(atom) => behind(token, Kind::Symbol, b"{", Expected::Listed(atom)),
         Expected::Listed(atom) => {
             if is_name_word(token) {
-                let atom = with_value(model, strict, atom, token.text);
+                let atom = with_value(model.model(), strict, atom, token.text);
                 Some(Expected::Followed(atom))
             } else {
                 None

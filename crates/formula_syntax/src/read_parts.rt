@@ -1,9 +1,10 @@
 //! Parts of a formula's text with `and` or `or` between them.
 
 ghost use Rattle.std.specs.Prelude.{◌≡◌, IfOk};
-ghost use Rattle.formula_syntax.specs.ReadParts.{one, more, all_of, any_of};
+ghost use Rattle.formula_syntax.specs.ReadParts.{one, more, junction_of, joined};
 ghost use Rattle.formula_syntax.specs.declared.read_part.ReadPart.TheVariants.{Sound, Faulty};
 
+use crate::formula_parser::Junction;
 use crate::read_part::{ReadPart, deeper};
 use cca_base::{Formula, List};
 use std::alloc::{AllocError, Global};
@@ -84,30 +85,26 @@ pub fn more(alloc: Global, front: ReadParts, last: ReadPart) -> Result<ReadParts
     }
 }
 
-/// What the parts say with `and` between them.
-pub fn all_of(parts: ReadParts) -> ReadPart
-    ensures { result ≡ all_of parts }
+/// The formula that the parts make with this word between them.
+fn formula_of(junction: Junction, parts: List<Formula>) -> Formula
+    ensures { result ≡ junction_of junction parts }
 {
-    match parts {
-        ReadParts::One { part, depth } => ReadPart::Sound {
-            formula: part,
-            depth,
-        },
-        ReadParts::Many { parts, depth } => deeper(Formula::All(parts), depth),
-        ReadParts::Faulty(code) => ReadPart::Faulty(code),
+    match junction {
+        Junction::And => Formula::All(parts),
+        Junction::Or => Formula::Any(parts),
     }
 }
 
-/// What the parts say with `or` between them.
-pub fn any_of(parts: ReadParts) -> ReadPart
-    ensures { result ≡ any_of parts }
+/// What the parts say with this word between them.
+pub fn joined(junction: Junction, parts: ReadParts) -> ReadPart
+    ensures { result ≡ joined junction parts }
 {
     match parts {
         ReadParts::One { part, depth } => ReadPart::Sound {
             formula: part,
             depth,
         },
-        ReadParts::Many { parts, depth } => deeper(Formula::Any(parts), depth),
+        ReadParts::Many { parts, depth } => deeper(formula_of(junction, parts), depth),
         ReadParts::Faulty(code) => ReadPart::Faulty(code),
     }
 }

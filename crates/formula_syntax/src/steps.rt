@@ -1,10 +1,11 @@
 //! The steps of the parser of formulas that read a factor or end one.
 
-ghost use Rattle.std.specs.Prelude.{◌≡◌, ◌+◌, ◌<◌, ◌^◌, codes, false, None, IfOk};
+ghost use Rattle.std.specs.Prelude.{◌≡◌, ◌+◌, ◌<◌, ◌^◌, codes, false, None, Some, IfOk};
 ghost use Rattle.std.specs.Option.{option_map};
 ghost use Rattle.cca_base.specs.PlantModel.{PlantModel};
 ghost use Rattle.text_base.specs.Lexemes.{is_lexeme, is_name_word, lexeme_of, word};
-ghost use Rattle.formula_syntax.specs.FormulaParser.{state_of, operand_step, operator_step, place_behind, step};
+ghost use Rattle.formula_syntax.specs.declared.read_part.ReadPart.TheVariants.{Sound};
+ghost use Rattle.formula_syntax.specs.FormulaParser.{state_of, factor_step, operand_step, operator_step, place_behind, step};
 
 use crate::atom_steps::{compared_step, followed_step};
 use crate::formula_parser::{Connective, Expected, FormulaParser};
@@ -13,6 +14,20 @@ use crate::transitions::{close_step, factor_step, link_step, not_step, open_step
 use cca_base::{Formula, Model};
 use std::alloc::{AllocError, Global};
 use text_base::{Kind, Token, is_lexeme};
+
+/// Behind a formula that has no parts.
+fn constant_step(
+    alloc: Global,
+    machine: FormulaParser,
+    formula: Formula,
+) -> Result<Option<FormulaParser>, AllocError>
+    ensures { IfOk result (λ r.
+        option_map state_of r ≡ Some (factor_step (state_of machine) (Sound formula 1))) }
+{
+    let factor = ReadPart::Sound { formula, depth: 1 };
+    let next = factor_step(alloc, machine, factor)?;
+    Ok(Some(next))
+}
 
 /// Where a factor has to begin that is no comparison.
 fn operand_step(
@@ -32,19 +47,9 @@ fn operand_step(
         let next = open_step(machine)?;
         Ok(Some(next))
     } else if is_lexeme(token, Kind::Word, b"true") {
-        let factor = ReadPart::Sound {
-            formula: Formula::True,
-            depth: 1,
-        };
-        let next = factor_step(alloc, machine, factor)?;
-        Ok(Some(next))
+        constant_step(alloc, machine, Formula::True)
     } else if is_lexeme(token, Kind::Word, b"false") {
-        let factor = ReadPart::Sound {
-            formula: Formula::False,
-            depth: 1,
-        };
-        let next = factor_step(alloc, machine, factor)?;
-        Ok(Some(next))
+        constant_step(alloc, machine, Formula::False)
     } else {
         Ok(None)
     }

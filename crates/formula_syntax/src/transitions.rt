@@ -1,12 +1,13 @@
 //! Where the parser of formulas goes with a token.
 
-ghost use Rattle.std.specs.Prelude.{◌≡◌, ◌+◌, ◌<◌, ◌^◌, None, Some, IfOk};
+ghost use Rattle.std.specs.Prelude.{◌≡◌, ◌+◌, ◌<◌, ◌^◌, reverse, IfOk};
 ghost use Rattle.std.specs.Option.{option_map};
 ghost use Rattle.formula_syntax.specs.FormulaParser.{fresh, state_of, or_step, link_step, close_step, open_step, factor_step, not_step};
 
 use crate::formula_parser::{Connective, Expected, FormulaParser, Level, Side};
 use crate::level::{cases_read, completed, level_read, side_read};
 use crate::read_part::{ReadPart, enclosed};
+use cca_base::List;
 use std::alloc::{AllocError, Global};
 
 /// An empty level.
@@ -21,6 +22,17 @@ pub fn fresh() -> Level
     }
 }
 
+/// The parser at this place.
+fn parser_at(outer: List<Level>, level: Level, place: Expected) -> FormulaParser
+    ensures { state_of result ≡ record { outer = reverse outer; level = level; place = place } }
+{
+    FormulaParser {
+        outer,
+        level,
+        place,
+    }
+}
+
 /// Behind a factor.
 pub fn factor_step(
     alloc: Global,
@@ -29,17 +41,8 @@ pub fn factor_step(
 ) -> Result<FormulaParser, AllocError>
     ensures { IfOk result (λ r. state_of r ≡ factor_step (state_of machine) factor) }
 {
-    let FormulaParser {
-        outer,
-        level,
-        place: _,
-    } = machine;
-    let level = completed(alloc, level, factor)?;
-    Ok(FormulaParser {
-        outer,
-        level,
-        place: Expected::Operator,
-    })
+    let level = completed(alloc, machine.level, factor)?;
+    Ok(parser_at(machine.outer, level, Expected::Operator))
 }
 
 /// Behind one more word `not`.
@@ -47,63 +50,26 @@ pub fn not_step(machine: FormulaParser) -> FormulaParser
     requires { machine.level.nots + 1 < 2 ^ 64 }
     ensures { state_of result ≡ not_step (state_of machine) }
 {
-    let FormulaParser {
-        outer,
-        level,
-        place,
-    } = machine;
-    let Level {
-        left,
-        any,
-        all,
-        nots,
-    } = level;
-    let nots = nots + 1;
-    FormulaParser {
-        outer,
-        level: Level {
-            left,
-            any,
-            all,
-            nots,
-        },
-        place,
-    }
+    let mut machine = machine;
+    machine.level.nots += 1;
+    machine
 }
 
 /// Behind an opening parenthesis.
 pub fn open_step(machine: FormulaParser) -> Result<FormulaParser, AllocError>
     ensures { IfOk result (λ r. state_of r ≡ open_step (state_of machine)) }
 {
-    let FormulaParser {
-        mut outer,
-        level,
-        place: _,
-    } = machine;
-    outer.push(level)?;
-    Ok(FormulaParser {
-        outer,
-        level: fresh(),
-        place: Expected::Operand,
-    })
+    let mut outer = machine.outer;
+    outer.push(machine.level)?;
+    Ok(parser_at(outer, fresh(), Expected::Operand))
 }
 
 /// Behind `or`.
 pub fn or_step(alloc: Global, machine: FormulaParser) -> Result<Option<FormulaParser>, AllocError>
     ensures { IfOk result (λ r. option_map state_of r ≡ or_step (state_of machine)) }
 {
-    let FormulaParser {
-        outer,
-        level,
-        place: _,
-    } = machine;
-    let Level {
-        left,
-        any,
-        all,
-        nots: _,
-    } = level;
-    match cases_read(alloc, any, all)? {
+    let (left, cases) = cases_read(alloc, machine.level)?;
+    match cases {
         None => Ok(None),
         Some(any) => {
             let level = Level {
@@ -112,12 +78,7 @@ pub fn or_step(alloc: Global, machine: FormulaParser) -> Result<Option<FormulaPa
                 all: None,
                 nots: 0,
             };
-            let place = Expected::Operand;
-            Ok(Some(FormulaParser {
-                outer,
-                level,
-                place,
-            }))
+            Ok(Some(parser_at(machine.outer, level, Expected::Operand)))
         }
     }
 }
@@ -130,20 +91,10 @@ pub fn link_step(
 ) -> Result<Option<FormulaParser>, AllocError>
     ensures { IfOk result (λ r. option_map state_of r ≡ link_step (state_of machine) link) }
 {
-    let FormulaParser {
-        outer,
-        level,
-        place: _,
-    } = machine;
-    let Level {
-        left,
-        any,
-        all,
-        nots: _,
-    } = level;
+    let (left, side) = side_read(alloc, machine.level)?;
     match left {
         Some(_) => Ok(None),
-        None => match side_read(alloc, any, all)? {
+        None => match side {
             None => Ok(None),
             Some(reading) => {
                 let level = Level {
@@ -152,12 +103,7 @@ pub fn link_step(
                     all: None,
                     nots: 0,
                 };
-                let place = Expected::Operand;
-                Ok(Some(FormulaParser {
-                    outer,
-                    level,
-                    place,
-                }))
+                Ok(Some(parser_at(machine.outer, level, Expected::Operand)))
             }
         },
     }
@@ -170,23 +116,14 @@ pub fn close_step(
 ) -> Result<Option<FormulaParser>, AllocError>
     ensures { IfOk result (λ r. option_map state_of r ≡ close_step (state_of machine)) }
 {
-    let FormulaParser {
-        mut outer,
-        level,
-        place: _,
-    } = machine;
+    let mut outer = machine.outer;
     match outer.pop() {
         None => Ok(None),
-        Some(around) => match level_read(alloc, level)? {
+        Some(around) => match level_read(alloc, machine.level)? {
             None => Ok(None),
             Some(reading) => {
                 let level = completed(alloc, around, enclosed(reading))?;
-                let place = Expected::Operator;
-                Ok(Some(FormulaParser {
-                    outer,
-                    level,
-                    place,
-                }))
+                Ok(Some(parser_at(outer, level, Expected::Operator)))
             }
         },
     }

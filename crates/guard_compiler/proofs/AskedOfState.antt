@@ -11,7 +11,6 @@ use Rattle.cca_base.specs.Model.{mode_counts, value_counts}
 use Rattle.cca_base.specs.Formula.{truth}
 use Rattle.cca_base.specs.State.{IsWorld, HasWorlds}
 use Rattle.cca_base.specs.declared.formula.Formula.{Formula}
-use Rattle.cca_base.specs.declared.limits.TheConstants.{MAX_CHOICES}
 use Rattle.clause_form.specs.declared.clause.Clauses.{Clauses}
 use Rattle.clause_form.specs.declared.clause.Clause.{Clause}
 use Rattle.clause_form.specs.Clauses.{AreValues, AreBelow, AllBelow}
@@ -45,13 +44,10 @@ asked m guard n rules denied all count worlds r d same with =
     let chosen = clauses_in (filter (bears with.set) rules) in
     let below : Clause → Type 0 = λ clause. AreBelow (length denied.sizes) clause.literals in
     let subjects : AllBelow (length denied.sizes) (denied.clauses ++ chosen) =
-    All-append below denied.clauses chosen d.proper.subjects (chosen_below (length denied.sizes) (bears with.set) rules (same_subjects m guard rules denied r d)) in
+    All-append below denied.clauses chosen d.proper (chosen_below (length denied.sizes) (bears with.set) rules (same_subjects m guard rules denied r d)) in
     record {
       sizes = same ∙ d.sizes;
-      proper = record {
-        few = subst (All (λ k. k ≤ MAX_CHOICES)) (sym same) d.proper.few;
-        subjects = subst (λ (z : List ℕ). AllBelow (length z) all.clauses) (sym same) (subst (AllBelow (length denied.sizes)) (sym with.are) subjects);
-      };
+      proper = subst (λ (z : List ℕ). AllBelow (length z) all.clauses) (sym same) (subst (AllBelow (length denied.sizes)) (sym with.are) subjects);
       meaning = λ s v.
           let long : length s ≡ n = v.full ∙ (length-map m.components (λ c. length c.modes) ∙ sym count) in
           let world = worlds s (to_state m s v) in

@@ -25,7 +25,7 @@ pub covered_whole : (cubes : List (List Pair)) (part cube : List Pair) → IsPar
 covered_whole cubes part cube h k = record { part = k.part; among = k.among; is_part = part_of_part k.part part cube k.is_part h }
 
 -- more cubes cover more
-pub covered_by_more : (few more : List (List Pair)) (cube : List Pair) → ((x : List Pair) → Contains few x → Contains more x) → IsCovered few cube → IsCovered more cube
+covered_by_more : (few more : List (List Pair)) (cube : List Pair) → ((x : List Pair) → Contains few x → Contains more x) → IsCovered few cube → IsCovered more cube
 covered_by_more few more cube h k = record { part = k.part; among = h k.part k.among; is_part = k.is_part }
 
 -- what one more cube covers

@@ -38,7 +38,7 @@ module _ (firsts seconds cubes : List (List Pair)) (are : AreApart cubes)
 -- ---- one cube after the other
 
 -- what the first cubes and the next one cover
-pub covered_next : (xs : List (List Pair)) (i : ℕ) (d : List Pair) → i < length xs → (x : List Pair) → IsCovered (take (i + 1) xs) x ↔ (IsCovered (take i xs) x ⊎ IsPart (get_or xs i d) x)
+covered_next : (xs : List (List Pair)) (i : ℕ) (d : List Pair) → i < length xs → (x : List Pair) → IsCovered (take (i + 1) xs) x ↔ (IsCovered (take i xs) x ⊎ IsPart (get_or xs i d) x)
 covered_next xs i d l x =
     let pushed = covered-push (take i xs) (get_or xs i d) x in
     let more = take_more xs i d l in (
@@ -47,7 +47,7 @@ covered_next xs i d l x =
     )
 
 -- a rising cube has the union as a part exactly where it has both
-pub union_part : (a b union : List Pair) → IsLeastOver a b union → (x : List Pair) → IsRising x → IsPart union x ↔ (IsPart a x × IsPart b x)
+union_part : (a b union : List Pair) → IsLeastOver a b union → (x : List Pair) → IsRising x → IsPart union x ↔ (IsPart a x × IsPart b x)
 union_part a b union l x up = (
   λ h. (part_of_part a union x l.over.first h, part_of_part b union x l.over.second h),
   λ h. l.least x (record { rising = up; first = h.0; second = h.1 }),

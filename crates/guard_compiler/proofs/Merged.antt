@@ -1,5 +1,5 @@
 -- Two rising cubes that are merged pair by pair.
-use Rattle.std.proofs.Common.{◌≡◌, ◌≢◌, ◌<◌, ◌++◌, ◌∷◌, [], ◌⊎◌, ◌↔◌, ℕ, suc, List, length, get_or, take, drop, All, Contains, inl, inr, refl, ap, sym, subst, ◌∙◌, append_assoc, drop-cons, arith}
+use Rattle.std.proofs.Common.{◌≡◌, ◌≢◌, ◌<◌, ◌++◌, [], ◌∷◌, ◌⊎◌, ◌↔◌, ℕ, suc, List, length, get_or, take, drop, All, Contains, inl, inr, refl, ap, sym, subst, ◌∙◌, append_assoc, drop-cons, arith}
 use Rattle.std.proofs.lemmas.List.{append-nil, take-append-drop}
 use Rattle.std.proofs.lemmas.List.Elements.{All-cons, All-head, All-append, All-contains}
 use Rattle.list_laws.proofs.Elements.{all_left, all_right}
@@ -8,6 +8,7 @@ use Rattle.cca_base.specs.Cube.{IsPart, IsRising, Lacks}
 use Rattle.cca_base.proofs.Members.{all_from}
 use Rattle.cca_base.proofs.Pairwise.{AllPairs-head}
 use Rattle.prime_implicants.proofs.PartialPairs.{one_of_each}
+use Rattle.prime_implicants.proofs.ListedPairs.{lacks_seam as lacks_next}
 use Rattle.guard_compiler.specs.Cover.{IsOver, IsLeastOver}
 use Rattle.guard_compiler.proofs.Between.{AllPairs-between, AllPairs-right, all_before}
 use Rattle.guard_compiler.proofs.CoverLaws.{part_itself}
@@ -98,12 +99,6 @@ clash a b merged ps qs p q m item value cube o =
     let one : Contains cube p = All-head (Contains cube) p ps (all_right (Contains cube) merged (p ∷ ps) k.first) in
     let other : Contains cube q = All-head (Contains cube) q qs (all_right (Contains cube) merged (q ∷ qs) k.second) in
     value (ap (λ z. z.value) (one_of_each cube p q o.rising one other item))
-
--- what comes before a pair of a rising cube has no pair of its component
-lacks_next : (cube ps : List Pair) (p : Pair) → IsRising (cube ++ p ∷ ps) → Lacks p.item cube
-lacks_next cube ps p up = all_from (λ z. z.item ≢ p.item) cube (λ z among e.
-    let less : z.item < p.item = All-contains (λ y. later y p) cube z (all_before later cube ps p up) among in
-    omega (arith, less, e))
 
 -- so the next pair may be pushed
 pub lacks_at : (cube pairs : List Pair) (i : ℕ) (d : Pair) → i < length pairs → IsRising (cube ++ pairs) → Lacks (get_or pairs i d).item (cube ++ take i pairs)

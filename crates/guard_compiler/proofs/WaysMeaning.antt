@@ -3,7 +3,7 @@ use Rattle.std.proofs.Common.{◌≡◌, ℕ, ◌<◌, ◌≤◌, ◌≢◌, Boo
 use Rattle.std.specs.List.{list_all}
 use Rattle.std.proofs.lemmas.List.{length-map, set-get_or, set-append_left}
 use Rattle.std.proofs.Math.Seq.{take-append_seam, drop-append_seam}
-use Rattle.std.proofs.lemmas.List.Elements.{All-cons, All-contains}
+use Rattle.std.proofs.lemmas.List.Elements.{All-weaker, All-cons, All-contains}
 use Rattle.std.proofs.lemmas.Option.{get_or_from_slice_get, slice_get_within}
 use Rattle.std.proofs.lemmas.Bool.Decides.{nat_tests}
 use Rattle.std.proofs.lemmas.Bool.{and_parts, true_from_ne_false}
@@ -26,6 +26,7 @@ use Rattle.clause_form.specs.Formulas.{is_asked}
 use Rattle.clause_form.proofs.ModelSizes.{state_values}
 use Rattle.guard_compiler.specs.Asked.{AreAskedOf}
 use Rattle.prime_implicants.specs.Primes.{IsBlocked, IsPrime, AreAllPrimes, AreMorePrimes}
+use Rattle.prime_implicants.specs.Many.{AreMoreCubes}
 use Rattle.prime_implicants.proofs.PartialPairs.{one_of_each}
 use Rattle.prime_implicants.proofs.Counting.{not_among_fewer}
 use Rattle.prime_implicants.proofs.FoundKeys.{list_all_if}
@@ -263,22 +264,15 @@ all_ways m move states most cubes of a = record {
   each = λ cube. ((λ h. implicant_of m move states cube of ((a.each cube).0 h)), (λ f. (a.each cube).1 (prime_of m move states cube of f)));
 }
 
-pub many_ways : (m : PlantModel) (move : Move) (states : Clauses) → AreStatesOf m move states → AreMorePrimes states MAX_WAYS → HasManyWays m move
-many_ways m move states of a = record {
-  cubes = a.cubes;
-  in_order = a.in_order;
-  primes = λ k d l. implicant_of m move states _ of (a.primes k d l);
-  many = a.many;
-}
+more_cubes : (P Q : List Pair → Type 0) (most : ℕ) → ((cube : List Pair) → P cube → Q cube) → AreMoreCubes most P → AreMoreCubes most Q
+more_cubes P Q most then a = record { cubes = a.cubes; in_order = a.in_order; each = All-weaker P Q then a.cubes a.each; many = a.many }
 
-pub many_primes : (m : PlantModel) (move : Move) (states : Clauses) → AreStatesOf m move states → HasManyWays m move → AreMorePrimes states MAX_WAYS
-many_primes m move states of a = record {
-  cubes = a.cubes;
-  in_order = a.in_order;
-  primes = λ k d l. prime_of m move states _ of (a.primes k d l);
-  many = a.many;
-}
+pub many_ways : (m : PlantModel) (move : Move) (states : Clauses) → AreStatesOf m move states → AreMorePrimes states MAX_WAYS ↔ HasManyWays m move
+many_ways m move states of = (
+  more_cubes (IsPrime states) (PrimeImplicant m move) MAX_WAYS (λ cube. implicant_of m move states cube of),
+  more_cubes (PrimeImplicant m move) (IsPrime states) MAX_WAYS (λ cube. prime_of m move states cube of),
+)
 
 -- there are not both few prime implicants and many
 pub not_many : (m : PlantModel) (move : Move) (cubes : List (List Pair)) → AreWays m move cubes → length cubes ≤ MAX_WAYS → HasManyWays m move → ⊥
-not_many m move cubes a few k = not_among_fewer k.cubes cubes MAX_WAYS k.in_order (λ i d l. (a.each (get_or k.cubes i d)).1 (k.primes i d l)) k.many few
+not_many m move cubes a few k = not_among_fewer k.cubes cubes MAX_WAYS k.in_order (λ i d l. (a.each (get_or k.cubes i d)).1 (k.each i d l)) k.many few

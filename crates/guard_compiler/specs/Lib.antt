@@ -1,4 +1,5 @@
 pub mod Asked
+pub mod Compilable
 pub mod Conjunctions
 pub mod Cover
 pub mod LeastUnions

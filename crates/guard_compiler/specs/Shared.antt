@@ -1,8 +1,8 @@
 -- Clauses that are shared out among variables.
-use Rattle.std.specs.Prelude.{◌≡◌, ◌≤◌, ◌++◌, ℕ, List, length, map, Some, None, All}
+use Rattle.std.specs.Prelude.{◌≡◌, ◌<◌, ◌≤◌, ◌++◌, ℕ, Bool, MatchBool, List, length, map, Some, None, All}
 use Rattle.std.specs.Option.{ForSome, IsSome}
 use Rattle.clause_form.specs.declared.clause.Clause.{Clause}
-use Rattle.clause_form.specs.Clauses.{all_met}
+use Rattle.clause_form.specs.Clauses.{AllBelow, all_met}
 use Rattle.guard_compiler.specs.Rules.{AreCompletable, AreRulesBelow, clauses_in}
 use Rattle.guard_compiler.specs.declared.rules.RuleClause.{RuleClause}
 
@@ -25,3 +25,9 @@ pub record AreShared (sizes : List ℕ) (n : ℕ) (given : List Clause) (rules :
 pub record AreSharedOut (sizes : List ℕ) (n : ℕ) (given : List Clause) (rules : List RuleClause) (left : List Clause) : Type 0 where
   pub owned : All (λ rule. IsSome rule.owner) rules
   pub shared : AreShared sizes n given (rules ++ unowned left)
+
+-- a trial of owners: clauses over the same subjects are left, fewer where some were moved, and whatever was shared out still is
+pub record IsTrial (sizes : List ℕ) (n : ℕ) (old_rules : List RuleClause) (old : List Clause) (rules : List RuleClause) (left : List Clause) (found : Bool) : Type 0 where
+  pub below : AllBelow (length sizes) left
+  pub fewer : MatchBool found (length left < length old) (left ≡ old)
+  pub shared : (given : List Clause) → AreSharedOut sizes n given old_rules old → AreSharedOut sizes n given rules left

@@ -4,11 +4,9 @@ ghost use Rattle.std.specs.Prelude.{◌≤◌, All, IfOk, IfSome, IsTrue, length
 ghost use Rattle.cca_base.specs.Accepted.{AreWays};
 ghost use Rattle.cca_base.specs.Cube.{IsRising};
 ghost use Rattle.cca_base.specs.Formula.{is_within};
-ghost use Rattle.cca_base.specs.Model.{HasMode};
-ghost use Rattle.cca_base.specs.State.{HasWorlds};
 ghost use Rattle.cca_base.specs.declared.limits.TheConstants.{MAX_WAYS};
 ghost use Rattle.guard_compiler.specs.Conjunctions.{AddsPart, all_of, with_guard};
-ghost use Rattle.guard_compiler.specs.Rules.{AreRulesOf};
+ghost use Rattle.guard_compiler.specs.Compilable.{IsCompilable};
 
 use crate::guards::guard_implicants;
 use crate::rules::RuleClause;
@@ -26,9 +24,7 @@ pub(crate) fn conjunction_implicants(
     the_move: &Move,
     parts: &[Formula],
 ) -> Result<Option<List<Cube>>, AllocError>
-    requires worlds { HasWorlds model.now }
-    requires rules { AreRulesOf model.now rules.now }
-    requires source { HasMode model.now the_move.now.component the_move.now.source }
+    requires from { IsCompilable model.now rules.now the_move.now }
     requires parts { All (λ part.
         IsTrue (is_within (length model.now.components) (length model.now.variables) part))
         parts.now }
@@ -56,9 +52,7 @@ fn with_part(
     cubes: &[Cube],
     part: &Formula,
 ) -> Result<Option<List<Cube>>, AllocError>
-    requires worlds { HasWorlds model.now }
-    requires rules { AreRulesOf model.now rules.now }
-    requires source { HasMode model.now the_move.now.component the_move.now.source }
+    requires from { IsCompilable model.now rules.now the_move.now }
     requires part { IsTrue (is_within (length model.now.components) (length model.now.variables)
         part.now) }
     requires cubes { All IsRising cubes.now }

@@ -3,12 +3,12 @@
 ghost use Rattle.std.specs.Prelude.{◌≤◌, ◌↔◌, IfOk, IsTrue, length};
 ghost use Rattle.cca_base.specs.Accepted.{AreWays};
 ghost use Rattle.cca_base.specs.Formula.{is_within};
-ghost use Rattle.cca_base.specs.Model.{HasMode};
 ghost use Rattle.cca_base.specs.State.{HasWorlds};
 ghost use Rattle.cca_base.specs.declared.limits.TheConstants.{MAX_WAYS};
 ghost use Rattle.guard_compiler.specs.Asked.{AreAskedOf};
 ghost use Rattle.guard_compiler.specs.Conjunctions.{with_guard};
 ghost use Rattle.guard_compiler.specs.Rules.{AreRulesOf};
+ghost use Rattle.guard_compiler.specs.Compilable.{IsCompilable};
 ghost use Rattle.guard_compiler.specs.Ways.{HasManyWays};
 ghost use Rattle.prime_implicants.specs.Primes.{IfEvery, IsMore};
 
@@ -49,9 +49,7 @@ pub(crate) fn guard_implicants(
     the_move: &Move,
     guard: &Formula,
 ) -> Result<Primes, AllocError>
-    requires worlds { HasWorlds model.now }
-    requires rules { AreRulesOf model.now rules.now }
-    requires source { HasMode model.now the_move.now.component the_move.now.source }
+    requires from { IsCompilable model.now rules.now the_move.now }
     requires guard { IsTrue (is_within (length model.now.components) (length model.now.variables)
         guard.now) }
     ensures every { IfOk result (λ r.

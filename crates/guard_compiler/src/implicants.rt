@@ -3,10 +3,10 @@
 ghost use Rattle.std.specs.Prelude.{◌<◌, ◌≤◌, ◌↔◌, IfErr, IfOk, IsErr, IsTrue, length};
 ghost use Rattle.cca_base.specs.Accepted.{AreWays};
 ghost use Rattle.cca_base.specs.Formula.{is_within};
-ghost use Rattle.cca_base.specs.Model.{HasMode};
 ghost use Rattle.cca_base.specs.State.{HasWorlds};
 ghost use Rattle.cca_base.specs.declared.limits.TheConstants.{MAX_WAYS};
 ghost use Rattle.guard_compiler.specs.Rules.{AreRulesOf};
+ghost use Rattle.guard_compiler.specs.Compilable.{AreWaysAt, IsCompilable};
 ghost use Rattle.guard_compiler.specs.Ways.{AtMove, HasManyWays, IsStop};
 ghost use Rattle.prime_implicants.specs.Primes.{IfEvery, IsMore};
 
@@ -26,9 +26,7 @@ fn implicants_of(
     rules: &List<RuleClause>,
     the_move: &Move,
 ) -> Result<Primes, AllocError>
-    requires worlds { HasWorlds model.now }
-    requires rules { AreRulesOf model.now rules.now }
-    requires source { HasMode model.now the_move.now.component the_move.now.source }
+    requires from { IsCompilable model.now rules.now the_move.now }
     requires guard { IsTrue (is_within (length model.now.components) (length model.now.variables)
         the_move.now.guard) }
     ensures every { IfOk result (λ r. IfEvery r (AreWays model.now the_move.now)) }
@@ -64,9 +62,7 @@ pub fn ways_of(
     requires worlds { HasWorlds model.now }
     requires rules { AreRulesOf model.now rules.now }
     requires number { move_number < length model.now.moves }
-    ensures ways { IfOk result (λ cubes. AtMove model.now move_number (λ move.
-        AreWays model.now move cubes)) }
-    ensures few { IfOk result (λ cubes. length cubes ≤ MAX_WAYS) }
+    ensures ways { IfOk result (AreWaysAt model.now move_number) }
     ensures refused { IfErr result (IsStop model.now move_number) }
     ensures many { AtMove model.now move_number (λ move.
         HasManyWays model.now move → IsErr result) }
@@ -86,9 +82,7 @@ pub fn ways_of(
 pub fn ways(alloc: Global, model: &Model, move_number: u16) -> Result<List<Cube>, Stop>
     requires worlds { HasWorlds model.now }
     requires number { move_number < length model.now.moves }
-    ensures ways { IfOk result (λ cubes. AtMove model.now move_number (λ move.
-        AreWays model.now move cubes)) }
-    ensures few { IfOk result (λ cubes. length cubes ≤ MAX_WAYS) }
+    ensures ways { IfOk result (AreWaysAt model.now move_number) }
     ensures refused { IfErr result (IsStop model.now move_number) }
     ensures many { AtMove model.now move_number (λ move.
         HasManyWays model.now move → IsErr result) }

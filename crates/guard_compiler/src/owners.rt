@@ -1,14 +1,14 @@
 //! Clauses of the rules that one variable owns: where the others are true, its value makes them true.
 
-ghost use Rattle.std.specs.Prelude.{◌≡◌, ◌++◌, ◌<◌, ◌≤◌, All, IfOk, List, MatchBool, OnOk, length};
-ghost use Rattle.cca_base.specs.declared.limits.TheConstants.{MAX_CHOICES, MAX_SUBJECTS};
+ghost use Rattle.std.specs.Prelude.{◌≡◌, ◌++◌, ◌<◌, ◌≤◌, IfOk, List, OnOk, length};
+ghost use Rattle.cca_base.specs.declared.limits.TheConstants.{MAX_SUBJECTS};
 ghost use Rattle.clause_form.specs.Clauses.{AllBelow};
 ghost use Rattle.clause_form.specs.declared.clause.Clause.{Clause};
-ghost use Rattle.guard_compiler.specs.Shared.{AreSharedOut, owned_by};
+ghost use Rattle.guard_compiler.specs.Shared.{IsTrial, owned_by};
 
 use crate::rules::RuleClause;
 use cca_base::List;
-use clause_form::{Clause, Clauses, keep_others, naming};
+use clause_form::{Clause, Clauses, Sizes, keep_others, naming};
 use elimination::project_subject;
 use std::alloc::{AllocError, Global};
 
@@ -34,24 +34,19 @@ fn push_owned(
 /// values the others have, some value of it makes them all true. Says whether they were moved.
 fn share(
     alloc: Global,
-    sizes: &List<u8>,
+    sizes: &Sizes,
     components: u16,
     most: usize,
     x: u16,
     left: &mut Vec<Clause>,
     rules: &mut List<RuleClause>,
 ) -> Result<bool, AllocError>
-    requires sizes { All (λ n. n ≤ MAX_CHOICES) sizes.now }
     requires few { length sizes.now ≤ MAX_SUBJECTS }
     requires variable { components ≤ x }
     requires subject { x < length sizes.now }
     requires below { AllBelow (length sizes.now) left.old.items }
-    ensures below { OnOk result (AllBelow (length sizes.now) left.new.items) }
-    ensures fewer { IfOk result (λ found. MatchBool found
-        (length left.new.items < length left.old.items) (left.new.items ≡ left.old.items)) }
-    ensures shared { OnOk result ((given : List Clause)
-        → AreSharedOut sizes.now components given rules.old left.old.items
-        → AreSharedOut sizes.now components given rules.new left.new.items) }
+    ensures { IfOk result (IsTrial sizes.now components rules.old left.old.items rules.new
+        left.new.items) }
 {
     let with = List::of(naming(alloc, left.as_slice(), x)?);
     if with.len() == 0 || with.len() > most {
@@ -82,22 +77,17 @@ fn number_at(place: u16, first: u16, end: u16, up: bool) -> u16
 /// Tries each variable as an owner, the first or the last first, and says whether one got clauses.
 pub(crate) fn share_round(
     alloc: Global,
-    sizes: &List<u8>,
+    sizes: &Sizes,
     components: u16,
     most: usize,
     up: bool,
     left: &mut Vec<Clause>,
     rules: &mut List<RuleClause>,
 ) -> Result<bool, AllocError>
-    requires sizes { All (λ n. n ≤ MAX_CHOICES) sizes.now }
     requires few { length sizes.now ≤ MAX_SUBJECTS }
     requires below { AllBelow (length sizes.now) left.old.items }
-    ensures below { OnOk result (AllBelow (length sizes.now) left.new.items) }
-    ensures fewer { IfOk result (λ found. MatchBool found
-        (length left.new.items < length left.old.items) (left.new.items ≡ left.old.items)) }
-    ensures shared { OnOk result ((given : List Clause)
-        → AreSharedOut sizes.now components given rules.old left.old.items
-        → AreSharedOut sizes.now components given rules.new left.new.items) }
+    ensures { IfOk result (IsTrial sizes.now components rules.old left.old.items rules.new
+        left.new.items) }
 {
     let mut found = false;
     let subjects = sizes.len() as u16;

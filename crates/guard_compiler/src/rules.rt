@@ -1,14 +1,14 @@
 //! The clauses of a model's rules, made once for all guards.
 
-ghost use Rattle.std.specs.Prelude.{◌≡◌, ◌≤◌, ◌++◌, All, IfOk, OnOk, length};
-ghost use Rattle.cca_base.specs.declared.limits.TheConstants.{MAX_CHOICES, MAX_SUBJECTS};
+ghost use Rattle.std.specs.Prelude.{◌≡◌, ◌≤◌, ◌++◌, IfOk, OnOk, length};
+ghost use Rattle.cca_base.specs.declared.limits.TheConstants.{MAX_SUBJECTS};
 ghost use Rattle.clause_form.specs.Clauses.{AllBelow};
 ghost use Rattle.guard_compiler.specs.Rules.{AreRulesOf};
 ghost use Rattle.guard_compiler.specs.Shared.{AreShared, unowned};
 
 use crate::owners::share_round;
 use cca_base::{List, Model};
-use clause_form::{Clause, clauses_of, copies};
+use clause_form::{Clause, Sizes, clauses_of, copies};
 use std::alloc::{AllocError, Global};
 
 /// A variable that more clauses name isn't tried as their owner.
@@ -39,11 +39,10 @@ fn push_left(alloc: Global, left: &[Clause], rules: &mut List<RuleClause>) -> Re
 /// few clauses name are tried first, and after a round that moved some the next one goes the other way.
 fn shared_out(
     alloc: Global,
-    sizes: &List<u8>,
+    sizes: &Sizes,
     components: u16,
     clauses: &[Clause],
 ) -> Result<List<RuleClause>, AllocError>
-    requires sizes { All (λ n. n ≤ MAX_CHOICES) sizes.now }
     requires few { length sizes.now ≤ MAX_SUBJECTS }
     requires below { AllBelow (length sizes.now) clauses.now }
     ensures { IfOk result (AreShared sizes.now components clauses.now) }

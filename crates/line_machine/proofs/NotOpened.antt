@@ -4,6 +4,7 @@ use Rattle.std.specs.Prelude.{IfSome}
 use Rattle.line_machine.specs.Call.{Call}
 use Rattle.line_machine.specs.Calls.{DrivenInTurn}
 use Rattle.line_machine.specs.Driven.{Driven, BySure}
+use Rattle.line_machine.specs.Faults.{AnswersFaults}
 use Rattle.line_machine.specs.KnownInput.{WroteFront, OutputFor}
 use Rattle.line_machine.specs.Next.{GoesOn}
 use Rattle.line_machine.specs.Runs.{IsSure}
@@ -42,3 +43,7 @@ module _ {S : Type 0} (m : Ghosts S) where
     text = no_text first left out;
     ends = no_end first left;
   }
+
+-- and no fault rose
+pub no_fault : (reads writes : ℕ) → AnswersFaults reads reads writes writes (Err cuts.Memory)
+no_fault reads writes = record { read = λ e. absurd cc; write = λ e. absurd cc; quiet_read = λ _. refl; quiet_write = λ _. refl; complete = λ _ _. refl }

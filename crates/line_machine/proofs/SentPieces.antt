@@ -13,16 +13,16 @@ pub append_known-nil : (o : Option (List ℕ)) → append_known o [] ≡ o
 append_known-nil None = refl
 append_known-nil (Some x) = ap (λ (l : List ℕ). Some l) (append-nil x)
 
-pub less_twice : (o : Option ℕ) (m n : ℕ) → less_space (less_space o m) n ≡ less_space o (m + n)
+less_twice : (o : Option ℕ) (m n : ℕ) → less_space (less_space o m) n ≡ less_space o (m + n)
 less_twice None m n = refl
 less_twice (Some x) m n = let k : (x - m) - n ≡ x - (m + n) = omega arith in ap (λ (i : ℕ). Some i) k
 
 -- room for a text is room for what is left of it
-pub room_behind : (first : Option ℕ) (a b : List ℕ) → HasRoom first (length (a ++ b)) → HasRoom (less_space first (length a)) (length b)
+room_behind : (first : Option ℕ) (a b : List ℕ) → HasRoom first (length (a ++ b)) → HasRoom (less_space first (length a)) (length b)
 room_behind None a b h = tt
 room_behind (Some x) a b h = omega (arith, h, length-append a b)
 
-pub room_less : (o : Option ℕ) (m n : ℕ) → m ≤ n → HasRoom o n → HasRoom o m
+room_less : (o : Option ℕ) (m n : ℕ) → m ≤ n → HasRoom o n → HasRoom o m
 room_less None m n le h = tt
 room_less (Some x) m n le h = omega (arith, h, le)
 

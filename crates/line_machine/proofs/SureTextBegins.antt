@@ -16,7 +16,7 @@ code_kept false true u x y code grows e = rw (grows refl) e
 code_kept false false u x y code grows e = absurd cc
 
 -- a line that has the code still has it when it is longer
-pub code_grows : (limit n j k code : ℕ) → j ≤ k → length_code limit n j ≡ Some code → length_code limit n k ≡ Some code
+code_grows : (limit n j k code : ℕ) → j ≤ k → length_code limit n j ≡ Some code → length_code limit n k ≡ Some code
 code_grows limit n j k code le e = code_kept (ltb 1000000 n) (ltb limit j) (ltb limit k) 19 18 code (λ h. lt-ltb limit k (let lt : limit < j = ltb-true limit j h in omega arith)) e
 
 goes_or_stops : {S : Type 0} (s : S) (e : End) → Stops e ≡ GoesOn s → ⊥

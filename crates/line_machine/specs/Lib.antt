@@ -2,6 +2,7 @@ pub mod Call
 pub mod Calls
 pub mod Completes
 pub mod Driven
+pub mod Faults
 pub mod Found
 pub mod IsDriven
 pub mod KnownInput

@@ -8,7 +8,7 @@ ghost use Rattle.line_machine.specs.Lines.{HasNoLf, HasLine};
 use crate::intake::Intake;
 use std::alloc::Global;
 use std::marker::Model;
-use titan_wire::{Failed, Sink};
+use titan_wire::{Failed, Sink, append_within};
 
 /// Bytes that are asked of a source at a time.
 pub const TAKE: usize = 4096;
@@ -37,16 +37,6 @@ pub(crate) fn lf_place(bytes: &[u8]) -> Option<usize>
     ensures within { IfSome result (λ k. k < length bytes.now) }
 {
     bytes.iter().position(|b| *b == b'\n')
-}
-
-/// Appends the piece to a vector that has room for it and does not grow.
-fn append_within(bytes: &mut Vec<u8>, piece: &[u8])
-    requires { vec_len bytes.old + length piece.now ≤ vec_capacity bytes.old }
-    ensures items { bytes.new.items ≡ bytes.old.items ++ piece.now }
-{
-    for byte in piece {
-        bytes.push_reserved(*byte);
-    }
 }
 
 /// Bytes that came and are not yet given out as lines.

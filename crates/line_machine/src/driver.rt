@@ -1,10 +1,11 @@
 //! The driver: one loop that reads a line, steps the machine, and prints what it says before it reads again.
-ghost use Rattle.std.specs.Prelude.{◌≡◌, ◌+◌, ◌<◌, ◌≤◌, ℕ, Some, None, IsErrOf, IfSome, IfOk, IfErr, List};
+ghost use Rattle.std.specs.Prelude.{◌≡◌, ◌+◌, ◌<◌, ◌≤◌, ℕ, Some, None, IsErrOf, IfSome, IfOk, List};
 ghost use Rattle.titan_wire.specs.Wire.{Rose};
 ghost use Rattle.line_machine.specs.Runs.{length_code, IsText};
 ghost use Rattle.line_machine.specs.declared.machine.End.{End};
 ghost use Rattle.line_machine.specs.Calls.{DrivenInTurn};
 ghost use Rattle.line_machine.specs.Driven.{HasRoomFor};
+ghost use Rattle.line_machine.specs.Faults.{AnswersFaults};
 ghost use Rattle.line_machine.specs.KnownInput.{Streamed, OutputFor};
 
 use crate::buffer::{FillStop, Found, LineBuffer};
@@ -111,17 +112,9 @@ pub fn drive<M: Machine, S, K: Sink, I: Intake<S, K>>(
     ensures ends { IfSome (I.left source.old) (λ input. (e : End) (text : List ℕ) →
         IsText M.Machine machine.old input e text → IfOk result (λ f. f ≡ e)) }
 
-    // Each fault has its cause, and none is passed over.
-    ensures read { IsErrOf result Cut.ReadFault → Rose (I.faults source.old) (I.faults source.new) }
-    ensures write { IsErrOf result Cut.WriteFault → Rose (K.faults sink.old) (K.faults sink.new) }
-    ensures quiet_read { ¬ (IsErrOf result Cut.ReadFault) →
-        I.faults source.new ≡ I.faults source.old }
-    ensures quiet_write { ¬ (IsErrOf result Cut.WriteFault) →
-        K.faults sink.new ≡ K.faults sink.old }
-
-    // Where no fault rose, it comes to the end, or memory ran out.
-    ensures complete { ¬ (Rose (I.faults source.old) (I.faults source.new)) →
-        ¬ (Rose (K.faults sink.old) (K.faults sink.new)) → IfErr result (λ c. c ≡ Cut.Memory) }
+    // Each fault has its cause, and none is passed over. Where no fault rose, it comes to the end, or memory ran out.
+    ensures faults { AnswersFaults (I.faults source.old) (I.faults source.new) (K.faults sink.old)
+        (K.faults sink.new) result }
 {
     drive_lines::<M, S, K, I>(alloc, machine, source, sink)
 }

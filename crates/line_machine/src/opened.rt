@@ -1,8 +1,8 @@
 //! A machine that was opened is driven; or memory ran out before it was there.
 
-ghost use Rattle.std.specs.Prelude.{◌≡◌, ℕ, IfOk, IfErr, IsErrOf};
-ghost use Rattle.titan_wire.specs.Wire.{Rose};
+ghost use Rattle.std.specs.Prelude.{◌≡◌, IfOk};
 ghost use Rattle.line_machine.specs.Driven.{HasRoomFor};
+ghost use Rattle.line_machine.specs.Faults.{AnswersFaults};
 ghost use Rattle.line_machine.specs.IsDriven.{IsDriven};
 
 use crate::driver::drive;
@@ -25,14 +25,8 @@ pub fn drive_opened<M: Machine + Drop, S, K: Sink, I: Intake<S, K>>(
     ensures driven { (first : M) → IfOk opened (λ m. m ≡ first) →
         IsDriven M.Machine first (I.left source.old) (I.left source.new)
         (K.written sink.old) (K.written sink.new) (I.calls source.old) (I.calls source.new) result }
-    ensures read { IsErrOf result Cut.ReadFault → Rose (I.faults source.old) (I.faults source.new) }
-    ensures write { IsErrOf result Cut.WriteFault → Rose (K.faults sink.old) (K.faults sink.new) }
-    ensures quiet_read { ¬ (IsErrOf result Cut.ReadFault) →
-        I.faults source.new ≡ I.faults source.old }
-    ensures quiet_write { ¬ (IsErrOf result Cut.WriteFault) →
-        K.faults sink.new ≡ K.faults sink.old }
-    ensures complete { ¬ (Rose (I.faults source.old) (I.faults source.new)) →
-        ¬ (Rose (K.faults sink.old) (K.faults sink.new)) → IfErr result (λ c. c ≡ Cut.Memory) }
+    ensures faults { AnswersFaults (I.faults source.old) (I.faults source.new) (K.faults sink.old)
+        (K.faults sink.new) result }
 {
     match opened {
         Ok(mut machine) => drive::<M, S, K, I>(alloc, &mut machine, source, sink),

@@ -1,16 +1,17 @@
 -- A migration ends behind a line only where that is refused, and is never rejected.
-use Rattle.std.proofs.Common.{◌≡◌, ◌⊎◌, ℕ, inl, inr, List, Option, Some, None, Result, Ok, Err, refl, sym, ◌∙◌}
+use Rattle.std.proofs.Common.{◌≡◌, ◌⊎◌, ℕ, List, Option, Some, None, Result, Ok, Err, refl}
 use Rattle.cca_base.specs.Accepted.{CompiledModel}
 use Rattle.cca_base.specs.Model.{in_second}
 use Rattle.cca_base.specs.declared.events.Event.{Event}
 use Rattle.line_machine.specs.Next.{Stops}
 use Rattle.line_machine.specs.Runs.{IsSure, IsText}
 use Rattle.line_machine.specs.declared.machine.End.{End}
-use Rattle.line_machine.specs.declared.machine.End.TheVariants.{Ended, Rejected, Refused}
-use Rattle.line_machine.proofs.EndsSo.{same_end, not_end, sure_so, text_so}
+use Rattle.line_machine.specs.declared.machine.End.TheVariants.{Rejected, Refused}
+use Rattle.line_machine.proofs.EndsSo.{same_end, not_end, sure_so}
 use Rattle.line_machine.proofs.RunsAreOne.{IsFixed}
 use Rattle.model_form.specs.FormStates.{FormState}
-use Rattle.model_form.proofs.FormEnds.{form_steps_so, form_closes_so, form_is_fixed}
+use Rattle.model_form.proofs.FormEnds.{form_steps_so, form_is_fixed}
+use Rattle.model_form.proofs.NeverRejected.{refused_not, ended_not, never_rejected}
 use Rattle.script_reader.specs.EventLines.{event_line}
 use Rattle.trace_laws.specs.Events.{mirrored_after}
 use Rattle.migrate_form.specs.MigrateMachine.{ScriptSoFar, script_first, Begins, KeepsBy, MigrateSteps, migrate_form, migrate_machine, script_machine}
@@ -37,21 +38,8 @@ form_refused = form_steps_so migrate_form script_machine IsRefused refl begins_r
 pub migrate_sure_refused : (first : FormState Migrate ScriptSoFar) (bytes : List ℕ) (e : End) (text : List ℕ) → IsSure migrate_machine first bytes (Stops e) text → IsRefused e
 migrate_sure_refused = sure_so migrate_machine IsRefused refl form_refused
 
--- nothing is rejected
-abbrev IsNotRejected : End → Type 0
-IsNotRejected e = e ≡ Rejected → ⊥
-
-refused_not : (e : End) → e ≡ Refused → IsNotRejected e
-refused_not e h k = let never : Refused ≡ Rejected = sym h ∙ k in absurd cc
-
-ended_not : (e : End) → e ≡ Ended → IsNotRejected e
-ended_not e h k = let never : Ended ≡ Rejected = sym h ∙ k in absurd cc
-
 pub migrate_never_rejected : (first : FormState Migrate ScriptSoFar) (bytes text : List ℕ) → IsText migrate_machine first bytes Rejected text ⊎ IsSure migrate_machine first bytes (Stops Rejected) text → ⊥
-migrate_never_rejected first bytes text (inl is) =
-    text_so migrate_machine IsNotRejected (refused_not Refused refl) (λ s n l e text h. refused_not e (form_refused s n l e text h))
-    (form_closes_so migrate_form script_machine IsNotRejected (refused_not Refused refl) (λ x n e text h. ended_not e h.0)) first bytes Rejected text is refl
-migrate_never_rejected first bytes text (inr sure) = refused_not Rejected (migrate_sure_refused first bytes Rejected text sure) refl
+migrate_never_rejected = never_rejected migrate_form script_machine (λ f b n e text h. refused_not e (begins_refused f b n e text h)) (λ x n l e text h. refused_not e (steps_refused x n l e text h)) (λ x n e text h. ended_not e h.0)
 
 -- a state and a line lead to one state and one text
 pub migrate_fixed : IsFixed migrate_machine

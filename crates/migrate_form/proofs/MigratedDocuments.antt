@@ -18,7 +18,7 @@ use Rattle.line_machine.proofs.JoinedLines.{lines_clean}
 use Rattle.model_form.specs.Acceptance.{Acceptance, AcceptedAs, RefusedFor, IsAcceptanceOf}
 use Rattle.model_form.specs.Answers.{Answer, Saying, answer, refused_answer, AnswersByAcceptance, AnswersByEnd, IsAnswer}
 use Rattle.model_form.specs.FormStates.{nothing_read}
-use Rattle.model_form.specs.ModelTexts.{ModelText, Scripted, Stopped, EndsModel}
+use Rattle.model_form.specs.ModelTexts.{ModelText, WholeModel, RefusedModel, EndsModel}
 use Rattle.model_form.specs.OneStep.{acceptance_is_one}
 use Rattle.model_form.proofs.OneModelText.{texts_are_one}
 use Rattle.model_form.proofs.PrintedLimits.{printed_within}
@@ -76,16 +76,16 @@ module _ (notation : Notation) (b : CompiledModel) (v : ℕ) (well : WellFormed 
 
 -- ---- what is said behind an accepted model
 
-module _ (json : Bool) (P : Saying) (input : List ℕ) (b : CompiledModel) (compiled : IsCompiled b) (n : ℕ) (ls : List (List ℕ)) (reads : EndsModel input (Scripted b.model n ls)) where
+module _ (json : Bool) (P : Saying) (input : List ℕ) (b : CompiledModel) (compiled : IsCompiled b) (n : ℕ) (ls : List (List ℕ)) (reads : EndsModel input (WholeModel b.model n ls)) where
   -- behind it exactly this is said
   only : (e : End) (text : List ℕ) → IsAnswer json P input e text → P b n ls e text
   only e text (end, reads', h) =
-      let same : end ≡ Scripted b.model n ls = texts_are_one input end (Scripted b.model n ls) reads' reads in
+      let same : end ≡ WholeModel b.model n ls = texts_are_one input end (WholeModel b.model n ls) reads' reads in
       let (v, is, says) = subst (λ (x : ModelText). AnswersByEnd json P x e text) same h in
       subst (λ (z : Acceptance). AnswersByAcceptance json P z b.model n ls e text) (acceptance_is_one b.model v (AcceptedAs b) is (compiled, refl)) says
 
   said : (e : End) (text : List ℕ) → P b n ls e text → IsAnswer json P input e text
-  said e text h = (Scripted b.model n ls, reads, (AcceptedAs b, (compiled, refl), h))
+  said e text h = (WholeModel b.model n ls, reads, (AcceptedAs b, (compiled, refl), h))
 
 -- ---- the whole text
 
@@ -119,10 +119,10 @@ kept_have_tokens : (ls : List (List ℕ)) → All HasTokens (filter says_somethi
 kept_have_tokens [] = All-nil HasTokens
 kept_have_tokens (l ∷ ls) = kept_by (says_something l) l ls refl (kept_have_tokens ls)
 
-same_rest : {m k : PlantModel} {n j : ℕ} {ls ms : List (List ℕ)} → Scripted m n ls ≡ Scripted k j ms → ls ≡ ms
+same_rest : {m k : PlantModel} {n j : ℕ} {ls ms : List (List ℕ)} → WholeModel m n ls ≡ WholeModel k j ms → ls ≡ ms
 same_rest e = cc
 
-module _ (input : List ℕ) (b : CompiledModel) (compiled : IsCompiled b) (n : ℕ) (ls : List (List ℕ)) (reads : EndsModel input (Scripted b.model n ls)) (r : Document) (says : SaysScript b.model [] 0 n ls r) (complete : r.ending ≡ Complete) where
+module _ (input : List ℕ) (b : CompiledModel) (compiled : IsCompiled b) (n : ℕ) (ls : List (List ℕ)) (reads : EndsModel input (WholeModel b.model n ls)) (r : Document) (says : SaysScript b.model [] 0 n ls r) (complete : r.ending ≡ Complete) where
   abbrev m : PlantModel
   m = b.model
 
@@ -148,7 +148,7 @@ module _ (input : List ℕ) (b : CompiledModel) (compiled : IsCompiled b) (n : �
   abbrev k : ℕ
   k = let p = printed_within m n ls (all_lines (lines_in input)) reads in place m p.before n ls p.within p.number p.few clean
 
-  reads_again : EndsModel whole (Scripted c.model k kept)
+  reads_again : EndsModel whole (WholeModel c.model k kept)
   reads_again = let p = printed_within m n ls (all_lines (lines_in input)) reads in text_ends m p.before n ls p.within p.number p.few clean
 
   says_again : SaysScript c.model [] 0 k kept (document_at 2 r)
@@ -182,43 +182,43 @@ module _ (input : List ℕ) (b : CompiledModel) (compiled : IsCompiled b) (n : �
             (ap (answer Ended) (ap (λ (t : List ℕ). migrated_model m ++ t) (sym same) ∙ sym (append-nil (migrated_model m ++ migrated_lines kept)))),
       )
 
-  bare : (k' : PlantModel) (j : ℕ) (ls' : List (List ℕ)) → EndsModel whole (Scripted k' j ls') → All HasTokens ls'
-  bare k' j ls' ends = subst (All HasTokens) (same_rest (texts_are_one whole (Scripted c.model k kept) (Scripted k' j ls') reads_again ends)) (kept_have_tokens ls)
+  bare : (k' : PlantModel) (j : ℕ) (ls' : List (List ℕ)) → EndsModel whole (WholeModel k' j ls') → All HasTokens ls'
+  bare k' j ls' ends = subst (All HasTokens) (same_rest (texts_are_one whole (WholeModel c.model k kept) (WholeModel k' j ls') reads_again ends)) (kept_have_tokens ls)
 
   pub is_migrated : IsMigrated input whole
   is_migrated = record {
     document = r;
-    read = (Scripted m n ls, reads, (AcceptedAs b, (compiled, refl), says));
+    read = (WholeModel m n ls, reads, (AcceptedAs b, (compiled, refl), says));
     complete = complete;
     bare = bare;
-    migrated = (Scripted c.model k kept, reads_again, (AcceptedAs c, (second_compiled, refl), says_again));
+    migrated = (WholeModel c.model k kept, reads_again, (AcceptedAs c, (second_compiled, refl), says_again));
     runs = λ notation a. (to_text notation a, from_text notation a);
     again = said false SaysMigrated whole c second_compiled k kept reads_again Ended whole again;
   }
 
-by_acceptance : (input : List ℕ) (v : Acceptance) (m : PlantModel) (n : ℕ) (ls : List (List ℕ)) (text : List ℕ) → IsAcceptanceOf m v → EndsModel input (Scripted m n ls) → AnswersByAcceptance false SaysMigrated v m n ls Ended text → IsMigrated input text
+by_acceptance : (input : List ℕ) (v : Acceptance) (m : PlantModel) (n : ℕ) (ls : List (List ℕ)) (text : List ℕ) → IsAcceptanceOf m v → EndsModel input (WholeModel m n ls) → AnswersByAcceptance false SaysMigrated v m n ls Ended text → IsMigrated input text
 by_acceptance input (AcceptedAs b) m n ls text is reads (r, says, same) =
     let complete = ended_complete b.model (migrated_model b.model ++ migrated_lines (lines_read n r.ending ls)) r.ending text same in
     subst (IsMigrated input) (sym (whole_text b.model n ls r.ending text complete same))
-    (is_migrated input b is.0 n ls (subst (λ (x : PlantModel). EndsModel input (Scripted x n ls)) (sym is.1) reads) r says complete)
+    (is_migrated input b is.0 n ls (subst (λ (x : PlantModel). EndsModel input (WholeModel x n ls)) (sym is.1) reads) r says complete)
 by_acceptance input (RefusedFor rf) m n ls text is reads h = never_refused h.0
 
 by_end : (input : List ℕ) (end : ModelText) (text : List ℕ) → EndsModel input end → AnswersByEnd false SaysMigrated end Ended text → IsMigrated input text
-by_end input (Scripted m n ls) text reads (v, is, h) = by_acceptance input v m n ls text is reads h
-by_end input (Stopped m line r) text reads h = never_refused h.0
+by_end input (WholeModel m n ls) text reads (v, is, h) = by_acceptance input v m n ls text is reads h
+by_end input (RefusedModel m line r) text reads h = never_refused h.0
 
 -- ---- an input that says a document has a migration, which ends as a run does
 
-migration_by : (input : List ℕ) (v : Acceptance) (m : PlantModel) (n : ℕ) (ls : List (List ℕ)) (r : Document) → EndsModel input (Scripted m n ls) → IsAcceptanceOf m v → SaysByAcceptance v m n ls r → (a : Answer) × IsMigrationOf input a
+migration_by : (input : List ℕ) (v : Acceptance) (m : PlantModel) (n : ℕ) (ls : List (List ℕ)) (r : Document) → EndsModel input (WholeModel m n ls) → IsAcceptanceOf m v → SaysByAcceptance v m n ls r → (a : Answer) × IsMigrationOf input a
 migration_by input (AcceptedAs b) m n ls r reads is says = (
   with_text (migrated_model b.model ++ migrated_lines (lines_read n r.ending ls)) (ending Words b.model (counts_of []) r.ending),
-  (Scripted m n ls, reads, (AcceptedAs b, is, (r, subst (λ (k : PlantModel). SaysScript k [] 0 n ls r) (sym is.1) says, refl))),
+  (WholeModel m n ls, reads, (AcceptedAs b, is, (r, subst (λ (k : PlantModel). SaysScript k [] 0 n ls r) (sym is.1) says, refl))),
 )
-migration_by input (RefusedFor rf) m n ls r reads is says = (refused_answer false m n rf, (Scripted m n ls, reads, (RefusedFor rf, is, (refl, refl))))
+migration_by input (RefusedFor rf) m n ls r reads is says = (refused_answer false m n rf, (WholeModel m n ls, reads, (RefusedFor rf, is, (refl, refl))))
 
 some_migration : (input : List ℕ) (r : Document) → IsDocument input r → (a : Answer) × IsMigrationOf input a
-some_migration input r (Scripted m n ls, reads, (v, is, says)) = migration_by input v m n ls r reads is says
-some_migration input r (Stopped m line rf, reads, says) = (refused_answer false m line rf, (Stopped m line rf, reads, (refl, refl)))
+some_migration input r (WholeModel m n ls, reads, (v, is, says)) = migration_by input v m n ls r reads is says
+some_migration input r (RefusedModel m line rf, reads, says) = (refused_answer false m line rf, (RefusedModel m line rf, reads, (refl, refl)))
 
 same_end : (notation : Notation) (input : List ℕ) (a c : Answer) → IsMigrationOf input a → IsRunOf notation input c → a.end ≡ c.end
 same_end notation input a c (end, reads, h) (other, reads', k) =
@@ -257,10 +257,10 @@ refused_by (RefusedFor rf) m n ls r line refusal a is says at h =
     ([], h.1 ∙ same_line m n line rf refusal same)
 
 refused_end : (end : ModelText) (r : Document) (line : ℕ) (refusal : Refusal) (a : Answer) → SaysByEnd end r → r.ending ≡ RefusedAt line refusal → AnswersByEnd false SaysMigrated end a.end a.text → EndsInRefusal r.model line refusal a.text
-refused_end (Scripted m n ls) r line refusal a (v, is, says) at (w, is', h) =
+refused_end (WholeModel m n ls) r line refusal a (v, is, says) at (w, is', h) =
     subst (λ (k : PlantModel). EndsInRefusal k line refusal a.text) (sym (its_model v m n ls r says))
     (refused_by v m n ls r line refusal a is says at (subst (λ (z : Acceptance). AnswersByAcceptance false SaysMigrated z m n ls a.end a.text) (acceptance_is_one m w v is' is) h))
-refused_end (Stopped m k rf) r line refusal a is at h =
+refused_end (RefusedModel m k rf) r line refusal a is at h =
     let same : RefusedAt k rf ≡ RefusedAt line refusal = sym (ap (λ (d : Document). d.ending) is) ∙ at in
     subst (λ (z : PlantModel). EndsInRefusal z line refusal a.text) (sym (ap (λ (d : Document). d.model) is)) ([], h.1 ∙ same_line m k line rf refusal same)
 

@@ -11,9 +11,10 @@ use Rattle.cca_base.proofs.EmptyModel.{second_well_formed}
 use Rattle.line_machine.specs.Lines.{Lines, with_line, lines_in, last_line, all_lines, HasNoLf}
 use Rattle.line_machine.proofs.JoinedLines.{with_lines, line_before, joined_are_lines}
 use Rattle.line_machine.proofs.LengthCodes.{no_code, within_limits}
+use Rattle.line_machine.specs.declared.machine.TheConstants.{MAX_LINES}
 use Rattle.model_form.specs.FormStates.{nothing_read}
 use Rattle.model_form.specs.Limits.{line_code, unless_long}
-use Rattle.model_form.specs.ModelTexts.{ModelText, Scripted, Stopped, LeadsByCode, After, ReadsModel, EndsModel}
+use Rattle.model_form.specs.ModelTexts.{ModelText, WholeModel, RefusedModel, LeadsByCode, After, ReadsModel, EndsModel}
 use Rattle.model_form.specs.declared.limits.TheConstants.{MAX_LINE}
 use Rattle.model_form.proofs.PrintedLimits.{IsShort, Within}
 use Rattle.model_form.proofs.PrintedLines.{printed_before}
@@ -69,7 +70,7 @@ all_short [] h = All-nil IsShortLine
 all_short (l ∷ lines) h = All-cons IsShortLine (joined l) (map joined lines) (All-head IsShort l lines h) (all_short lines (All-tail IsShort l lines h))
 
 -- lines within the limits that lead from one reading to another are read so, whatever comes behind them
-reads_on : (ls : List (List ℕ)) (s t : ModelSoFar) (n : ℕ) (rest : List (List ℕ)) (end : ModelText) → ReadsTo s ls t → All IsShortLine ls → n + length ls ≤ 1000000 → ReadsModel t (n + length ls) rest end → ReadsModel s n (ls ++ rest) end
+reads_on : (ls : List (List ℕ)) (s t : ModelSoFar) (n : ℕ) (rest : List (List ℕ)) (end : ModelText) → ReadsTo s ls t → All IsShortLine ls → n + length ls ≤ MAX_LINES → ReadsModel t (n + length ls) rest end → ReadsModel s n (ls ++ rest) end
 reads_on [] s t n rest end h short few on = subst (λ (k : ℕ). ReadsModel s k rest end) (let e : n + length (let none : List (List ℕ) = [] in none) ≡ n = omega arith in e) (subst (λ (x : ModelSoFar). ReadsModel x (n + length (let none : List (List ℕ) = [] in none)) rest end) (sym h) on)
 reads_on (l ∷ ls) s t n rest end (u, leads, h) short few on =
     let next : n + length (l ∷ ls) ≡ n + 1 + length ls = omega arith in
@@ -80,7 +81,7 @@ reads_on (l ∷ ls) s t n rest end (u, leads, h) short few on =
     )
 
 -- the line `script` ends a model
-script_ends : (m : PlantModel) (n : ℕ) (rest : List (List ℕ)) → n + 1 ≤ 1000000 → ReadsModel (record { model = m; begun = true }) n (codes "script" ∷ rest) (Scripted m (n + 1) rest)
+script_ends : (m : PlantModel) (n : ℕ) (rest : List (List ℕ)) → n + 1 ≤ MAX_LINES → ReadsModel (record { model = m; begun = true }) n (codes "script" ∷ rest) (WholeModel m (n + 1) rest)
 script_ends m n rest few =
     let none : line_code (n + 1) (codes "script") ≡ None = no_code MAX_LINE (n + 1) (length (codes "script")) few (omega arith) in
     let leads : LineLeads (record { model = m; begun = true }) (codes "script") Finishes = line_leads m (word (codes "script") ∷ []) Script Ended refl refl tt refl in
@@ -113,7 +114,7 @@ pub kept_again : (ls : List (List ℕ)) → filter says_something (filter says_s
 kept_again [] = refl
 kept_again (l ∷ ls) = again_by l ls (says_something l) refl (kept_again ls)
 
-module _ (m : PlantModel) (n k : ℕ) (ls : List (List ℕ)) (within : Within m n) (number : k ≡ n + 1) (few : k ≤ 1000000) (clean : All HasNoLf ls) where
+module _ (m : PlantModel) (n k : ℕ) (ls : List (List ℕ)) (within : Within m n) (number : k ≡ n + 1) (few : k ≤ MAX_LINES) (clean : All HasNoLf ls) where
   abbrev second : PlantModel
   second = in_second m
 
@@ -150,18 +151,18 @@ module _ (m : PlantModel) (n k : ℕ) (ls : List (List ℕ)) (within : Within m 
   no_later = let e = counted (lines_said second) in let h = printed.few in omega (arith, e, h, number)
 
   -- the text's model is the model in version 2, and behind it stand the lines that say something
-  pub text_ends : EndsModel text (Scripted second place kept)
+  pub text_ends : EndsModel text (WholeModel second place kept)
   text_ends =
       let last = no_later in
-      subst (λ (lines : List (List ℕ)). ReadsModel nothing_read 0 lines (Scripted second place kept)) (sym text_lines)
-      (reads_on (map joined (lines_said second)) nothing_read (record { model = second; begun = true }) 0 (codes "script" ∷ kept) (Scripted second place kept)
+      subst (λ (lines : List (List ℕ)). ReadsModel nothing_read 0 lines (WholeModel second place kept)) (sym text_lines)
+      (reads_on (map joined (lines_said second)) nothing_read (record { model = second; begun = true }) 0 (codes "script" ∷ kept) (WholeModel second place kept)
       (model_read second printed.good.well_formed printed.good.complete) (all_short (lines_said second) printed.short) (omega (arith, last, few))
       (script_ends second (0 + length (map joined (lines_said second))) kept (omega (arith, last, few))))
 
 -- ---- the script
 
 -- what is refused isn't complete
-refused_never : (m : PlantModel) (n code : ℕ) (r : Document) → r.ending ≡ Complete → r ≡ refused_at m n (bare code) → ⊥
+pub refused_never : (m : PlantModel) (n code : ℕ) (r : Document) → r.ending ≡ Complete → r ≡ refused_at m n (bare code) → ⊥
 refused_never m n code r complete is =
     let never : RefusedAt n (bare code) ≡ Complete = sym (ap (λ (d : Document). d.ending) is) ∙ complete in
     absurd cc
@@ -191,13 +192,13 @@ module _ (m : PlantModel) where
 
 -- ---- the lines behind a model are lines of the input
 
-rest_by : (P : List ℕ → Type 0) (o : LineOutcome) (s : ModelSoFar) (n : ℕ) (ls : List (List ℕ)) (m : PlantModel) (k : ℕ) (rest : List (List ℕ)) → ((t : ModelSoFar) → ReadsModel t (n + 1) ls (Scripted m k rest) → All P rest) → All P ls
-    → After o (λ t. ReadsModel t (n + 1) ls (Scripted m k rest)) (Scripted m k rest ≡ Scripted s.model (n + 1) ls) (λ code. Scripted m k rest ≡ Stopped s.model (n + 1) (bare code)) → All P rest
+rest_by : (P : List ℕ → Type 0) (o : LineOutcome) (s : ModelSoFar) (n : ℕ) (ls : List (List ℕ)) (m : PlantModel) (k : ℕ) (rest : List (List ℕ)) → ((t : ModelSoFar) → ReadsModel t (n + 1) ls (WholeModel m k rest) → All P rest) → All P ls
+    → After o (λ t. ReadsModel t (n + 1) ls (WholeModel m k rest)) (WholeModel m k rest ≡ WholeModel s.model (n + 1) ls) (λ code. WholeModel m k rest ≡ RefusedModel s.model (n + 1) (bare code)) → All P rest
 rest_by P (Reads t) s n ls m k rest on all h = on t h
 rest_by P (Refuses code) s n ls m k rest on all h = absurd cc
 rest_by P Finishes s n ls m k rest on all h = let same : rest ≡ ls = cc in subst (All P) (sym same) all
 
-pub rest_all : (P : List ℕ → Type 0) (ls : List (List ℕ)) (s : ModelSoFar) (n : ℕ) (m : PlantModel) (k : ℕ) (rest : List (List ℕ)) → ReadsModel s n ls (Scripted m k rest) → All P ls → All P rest
+pub rest_all : (P : List ℕ → Type 0) (ls : List (List ℕ)) (s : ModelSoFar) (n : ℕ) (m : PlantModel) (k : ℕ) (rest : List (List ℕ)) → ReadsModel s n ls (WholeModel m k rest) → All P ls → All P rest
 rest_all P [] s n m k rest h all = absurd cc
 rest_all P (l ∷ ls) s n m k rest (o, leads, after) all =
     rest_by P o s n ls m k rest (λ t h. rest_all P ls t (n + 1) m k rest h (All-tail P l ls all)) (All-tail P l ls all) after

@@ -1,14 +1,13 @@
 -- What the machine of `migrate` prints for an input is what is said of its document, both ways.
-use Rattle.std.proofs.Common.{◌≡◌, ℕ, false, List, [], ◌++◌, refl, sym, ap, subst, ◌∙◌, append_assoc}
+use Rattle.std.proofs.Common.{◌≡◌, ℕ, List, [], ◌++◌, refl, sym, ap, subst, ◌∙◌, append_assoc}
 use Rattle.cca_base.specs.Accepted.{CompiledModel, IsCompiled}
 use Rattle.cca_base.specs.Model.{in_second}
 use Rattle.cca_base.specs.PlantModel.{PlantModel}
 use Rattle.line_machine.specs.Completes.{Completes}
 use Rattle.line_machine.specs.Next.{Next, GoesOn}
 use Rattle.line_machine.specs.declared.machine.End.{End}
-use Rattle.model_form.specs.Answers.{Answer, answer, PrintsBehind, TextsAreAnswers}
-use Rattle.model_form.proofs.Following.{answer_follows}
-use Rattle.model_form.proofs.TextsAreAnswers.{texts_are_answers}
+use Rattle.model_form.specs.Answers.{Answer, answer, PrintsBehind}
+use Rattle.model_form.proofs.Following.{are_told}
 use Rattle.run_form.specs.Document.{DocumentEnd, Complete, RefusedAt}
 use Rattle.run_form.specs.Printed.{ending, with_text}
 use Rattle.run_form.specs.Summaries.{counts_of}
@@ -60,9 +59,4 @@ module _ (f : Migrate) (b : CompiledModel) (n : ℕ) (ls : List (List ℕ)) (e :
       }
 
 pub migrations_are_told : MigrationsAreTold
-migrations_are_told =
-    let t : TextsAreAnswers migrate_form script_machine = texts_are_answers migrate_form script_machine in
-    record {
-      says = λ input e text is. answer_follows false (PrintsBehind migrate_form script_machine (record {})) SaysMigrated (told (record {})) input e text (t.says (record {}) input e text is);
-      comes = λ input e text is. t.comes (record {}) input e text (answer_follows false SaysMigrated (PrintsBehind migrate_form script_machine (record {})) (tells (record {})) input e text is);
-    }
+migrations_are_told = are_told migrate_form script_machine (record {}) SaysMigrated (told (record {})) (tells (record {}))

@@ -21,6 +21,13 @@ use Rattle.trace_text.specs.Refusals.{code_name, detail_text, refusal_line}
 use Rattle.trace_text.specs.Reports.{modes_text, reply_text, shown_text, report_line}
 use Rattle.version_laws.specs.Laws.{at_version}
 
+-- what holds of each kind of reply holds of every reply
+of_each_reply : (P : Reply → Type 0) → P Idle → ((k : ℕ) → P (Send k)) → P Achieved → ((c mode : ℕ) → P (Unreachable c mode)) → (r : Reply) → P r
+of_each_reply P idle send achieved unreachable Idle = idle
+of_each_reply P idle send achieved unreachable (Send k) = send k
+of_each_reply P idle send achieved unreachable Achieved = achieved
+of_each_reply P idle send achieved unreachable (Unreachable c mode) = unreachable c mode
+
 module _ (m : PlantModel) (v : ℕ) where
   abbrev other : PlantModel
   other = at_version v m
@@ -28,10 +35,7 @@ module _ (m : PlantModel) (v : ℕ) where
   -- ---- lines
 
   reply_alike : (reply : Reply) → reply_text other reply ≡ reply_text m reply
-  reply_alike Idle = refl
-  reply_alike (Send k) = refl
-  reply_alike Achieved = refl
-  reply_alike (Unreachable c mode) = refl
+  reply_alike = of_each_reply (λ r. reply_text other r ≡ reply_text m r) refl (λ k. refl) refl (λ c mode. refl)
 
   shown_alike : (shown : Shown) → shown_text other shown ≡ shown_text m shown
   shown_alike (Estimated cost state reply) =
@@ -57,10 +61,7 @@ module _ (m : PlantModel) (v : ℕ) where
   -- ---- JSON
 
   reply_members_alike : (reply : Reply) → reply_members other reply ≡ reply_members m reply
-  reply_members_alike Idle = refl
-  reply_members_alike (Send k) = refl
-  reply_members_alike Achieved = refl
-  reply_members_alike (Unreachable c mode) = refl
+  reply_members_alike = of_each_reply (λ r. reply_members other r ≡ reply_members m r) refl (λ k. refl) refl (λ c mode. refl)
 
   shown_members_alike : (shown : Shown) → shown_members other shown ≡ shown_members m shown
   shown_members_alike (Estimated cost state reply) =

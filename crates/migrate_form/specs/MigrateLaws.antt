@@ -3,19 +3,18 @@ use Rattle.std.specs.Prelude.{◌≡◌, ◌≢◌, ◌↔◌, ℕ, false, List,
 use Rattle.cca_base.specs.Model.{in_second}
 use Rattle.cca_base.specs.PlantModel.{PlantModel}
 use Rattle.cca_base.specs.declared.events.Refusal.{Refusal}
-use Rattle.line_machine.specs.Runs.{IsText}
-use Rattle.line_machine.specs.declared.machine.End.{End}
 use Rattle.line_machine.specs.declared.machine.End.TheVariants.{Ended}
-use Rattle.model_form.specs.Answers.{Answer, answer, IsAnswer}
-use Rattle.model_form.specs.ModelTexts.{Scripted, EndsModel}
+use Rattle.model_form.specs.Answers.{Answer, answer, IsAnswer, AreTold}
+use Rattle.model_form.specs.ModelTexts.{WholeModel, EndsModel}
 use Rattle.run_form.specs.Document.{Document, Complete, RefusedAt, IsDocument}
 use Rattle.run_form.specs.Printed.{IsRunOf}
 use Rattle.run_form.specs.declared.notation.Notation.{Notation}
 use Rattle.text_base.specs.Tokens.{tokens_of}
 use Rattle.trace_text.specs.Refusals.{refusal_line}
 use Rattle.version_laws.specs.Laws.{at_version}
-use Rattle.migrate_form.specs.MigrateMachine.{migrate_machine, migrate_first}
+use Rattle.migrate_form.specs.MigrateMachine.{migrate_machine}
 use Rattle.migrate_form.specs.Migrated.{SaysMigrated}
+use Rattle.model_form.specs.FormStates.{form_first}
 
 -- the same document of the model in another version
 abbrev pub document_at : ℕ → Document → Document
@@ -26,9 +25,8 @@ abbrev pub IsMigrationOf : List ℕ → Answer → Type 0
 IsMigrationOf input a = IsAnswer false SaysMigrated input a.end a.text
 
 -- the texts of the machine are what `migrate` prints, both ways
-pub record MigrationsAreTold : Type 0 where
-  pub says : (input : List ℕ) (e : End) (text : List ℕ) → IsText migrate_machine migrate_first input e text → IsMigrationOf input (answer e text)
-  pub comes : (input : List ℕ) (e : End) (text : List ℕ) → IsMigrationOf input (answer e text) → IsText migrate_machine migrate_first input e text
+abbrev pub MigrationsAreTold : Type 0
+MigrationsAreTold = AreTold migrate_machine (form_first (record {})) false SaysMigrated
 
 -- nothing of the input is refused, and the text is a document with its events, of its model in version 2, whose script has no line without
 -- tokens; what a run prints for one is what it prints for the other; and from the text `migrate` makes the text itself
@@ -37,7 +35,7 @@ pub record IsMigrated (input text : List ℕ) : Type 0 where
   pub read : IsDocument input document
   pub complete : document.ending ≡ Complete
   pub migrated : IsDocument text (record document { model = in_second document.model })
-  pub bare : (m : PlantModel) (n : ℕ) (ls : List (List ℕ)) → EndsModel text (Scripted m n ls) → All (λ l. tokens_of l ≢ Ok []) ls
+  pub bare : (m : PlantModel) (n : ℕ) (ls : List (List ℕ)) → EndsModel text (WholeModel m n ls) → All (λ l. tokens_of l ≢ Ok []) ls
   pub runs : (notation : Notation) (a : Answer) → IsRunOf notation input a ↔ IsRunOf notation text a
   pub again : IsMigrationOf text (answer Ended text)
 

@@ -11,7 +11,7 @@ use Rattle.line_machine.specs.declared.machine.End.{End}
 use Rattle.line_machine.specs.declared.machine.End.TheVariants.{Ended}
 use Rattle.line_machine.specs.declared.machine.Machine.{Ghosts}
 use Rattle.model_form.specs.FormMachine.{form_machine}
-use Rattle.model_form.specs.FormStates.{FormState, form_first}
+use Rattle.model_form.specs.FormStates.{FormState}
 use Rattle.model_form.specs.ModelSteps.{GoesOnIn, RefusesLine}
 use Rattle.model_form.specs.declared.form.ModelForm.{Ghosts as FormGhosts}
 use Rattle.model_form.specs.declared.limits.TheConstants.{MAX_LINE}
@@ -68,7 +68,3 @@ migrate_form = record { is_json = λ f. false; begins = λ f. Begins }
 -- the machine
 abbrev pub migrate_machine : Ghosts (FormState Migrate ScriptSoFar)
 migrate_machine = form_machine migrate_form script_machine
-
--- its first state
-abbrev pub migrate_first : FormState Migrate ScriptSoFar
-migrate_first = form_first (record {})

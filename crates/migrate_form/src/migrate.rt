@@ -2,12 +2,11 @@
 
 ghost use Rattle.std.specs.Prelude.{◌≡◌, ◌++◌, ◌∷◌, [], codes, IfOk};
 ghost use Rattle.model_syntax.specs.Printing.{printed_model};
-ghost use Rattle.migrate_form.specs.MigrateMachine.{migrate_first};
+ghost use Rattle.model_form.specs.FormStates.{form_first};
 
 use crate::script::ScriptInSecond;
-use cca_base::{Compiled, Model, Name, Subject};
-use indexmap::IndexMap;
-use model_form::{ModelForm, Opened, Opening, WithModel};
+use cca_base::Model;
+use model_form::{Accepted, Begun, ModelForm, Opened, Opening, WithModel};
 use model_syntax::print_model;
 use std::alloc::{AllocError, Global};
 
@@ -42,13 +41,8 @@ impl ModelForm<ScriptInSecond> for Migrate {
         false
     }
 
-    fn begin(
-        &self,
-        alloc: Global,
-        compiled: Compiled,
-        names: IndexMap<Name, Subject>,
-        _number: u64,
-    ) -> Result<Opening<ScriptInSecond>, AllocError> {
+    fn begin(&self, alloc: Global, accepted: Accepted, _number: u64) -> Begun<ScriptInSecond> {
+        let (compiled, names) = accepted.into_parts();
         let model = compiled.into_model().to_second();
         let text = model_and_script(alloc, &model)?;
         Ok(Opening {
@@ -60,7 +54,7 @@ impl ModelForm<ScriptInSecond> for Migrate {
 
 /// The machine before the first line.
 pub fn open_migrate(alloc: Global) -> Result<MigrateMachine, AllocError>
-    ensures { IfOk result (λ w. w ≡ migrate_first) }
+    ensures { IfOk result (λ w. w ≡ form_first (record {})) }
 {
     WithModel::open(alloc, Migrate)
 }

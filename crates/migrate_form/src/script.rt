@@ -6,37 +6,35 @@ ghost use Rattle.formula_syntax.specs.Lookups.{NamesFit};
 ghost use Rattle.trace_laws.specs.Events.{PendingAfter, mirrored_after};
 ghost use Rattle.migrate_form.specs.MigrateMachine.{script_first};
 
-use cca_base::{Event, Model, Name, Refusal, Seen, Subject, VarSet};
+use cca_base::{Event, Model, Name, Refusal, Subject};
 use indexmap::IndexMap;
 use line_machine::{End, Machine, Said};
 use model_form::{MAX_LINE, nothing, refusal_of, refuse_stop};
-use script_reader::read_named_event;
+use script_reader::{NamedModel, read_named_event};
 use std::alloc::{AllocError, Global};
-use trace_laws::{known_after, nothing_seen};
+use trace_laws::Known;
 
 /// A model of version 2, its names, and what bears on which events may come next.
 #[derive(Drop)]
 pub struct ScriptInSecond {
     model: Model,
     names: IndexMap<Name, Subject>,
-    pending: Seen,
-    mirrored: VarSet,
+    known: Known,
 }
 
 impl std::marker::Model for ScriptInSecond {
     ghost use Rattle.cca_base.specs.Cube.{IsRising};
     ghost use Rattle.formula_syntax.specs.Lookups.{NamesFit};
     ghost use Rattle.migrate_form.specs.MigrateMachine.{ScriptSoFar};
-    ghost use Rattle.cca_base.specs.contracts.formula.Formula as formula;
-    ghost use Rattle.std.specs.Coded.{codes};
+    ghost use Rattle.cca_base.specs.Coded.{model_codes};
 
     ghost Value = { ScriptSoFar };
 
-    ghost coded = { Prim.hlevel (codes, formula.the_row.coded) };
+    ghost coded = { Prim.hlevel model_codes };
 
-    ghost view = { λ s. record { model = s.model; pending = s.pending.pairs; mirrored = s.mirrored } };
+    ghost view = { λ s. record { model = s.model; pending = s.known.pending.pairs; mirrored = s.known.mirrored } };
 
-    ghost invariant = { λ s. NamesFit s.names s.model × IsRising s.pending.pairs };
+    ghost invariant = { λ s. NamesFit s.names s.model × IsRising s.known.pending.pairs };
 }
 
 /// The line with its LF.
@@ -57,8 +55,7 @@ impl ScriptInSecond {
         ScriptInSecond {
             model,
             names,
-            pending: nothing_seen(alloc),
-            mirrored: VarSet::empty(),
+            known: Known::nothing(alloc),
         }
     }
 
@@ -74,15 +71,8 @@ impl ScriptInSecond {
             })) }
         ensures err { OnErr result (self.new ≡ self.old) }
     {
-        let (pending, mirrored) = known_after(
-            alloc,
-            &self.model,
-            &self.pending,
-            self.mirrored,
-            event,
-        )?;
-        self.pending = pending;
-        self.mirrored = mirrored;
+        let known = self.known.after(alloc, &self.model, event)?;
+        self.known = known;
         Ok(())
     }
 }
@@ -120,14 +110,9 @@ impl Machine for ScriptInSecond {
     }
 
     fn step(&mut self, alloc: Global, number: u64, line: &[u8]) -> Result<Said, AllocError> {
-        match read_named_event(
-            alloc,
-            line,
-            &self.model,
-            &self.names,
-            &self.pending,
-            self.mirrored,
-        ) {
+        let model = NamedModel::new(&self.model, &self.names);
+        let Known { pending, mirrored } = &self.known;
+        match read_named_event(alloc, line, model, pending, *mirrored) {
             Ok(Some(event)) => {
                 let text = whole_line(alloc, line)?;
                 self.follow(alloc, &event)?;

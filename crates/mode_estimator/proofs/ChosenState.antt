@@ -14,7 +14,7 @@ use Rattle.cca_base.specs.Estimates as estimates
 use Rattle.cca_base.specs.declared.choice.Choice.{Choice}
 use Rattle.cca_base.proofs.NominalLaws.{one_nominal}
 use Rattle.successors.specs.Choices.{AreChoices}
-use Rattle.cost_search.specs.Search.{IsChosen, IsUpTo}
+use Rattle.cost_search.specs.Search.{IsPicked, IsUpTo}
 use Rattle.cost_search.proofs.Ranks.{upto_cost, not_earlier}
 use Rattle.mode_estimator.specs.declared.answer.Estimate.{Estimate as Answer}
 use Rattle.mode_estimator.specs.declared.answer.Estimate.TheVariants.{Found, Unexplained}
@@ -56,7 +56,7 @@ module _ (m : PlantModel) (s : List ℕ) (k : Option ℕ) (rows : List (List Cho
   none = record { mode = 0; cost = 0 }
 
   -- what a chosen state's components change to
-  change-at : (t : List ℕ) (cost : ℕ) (h : IsChosen rows t cost) (c : ℕ) → c < length rows
+  change-at : (t : List ℕ) (cost : ℕ) (h : IsPicked rows t cost) (c : ℕ) → c < length rows
       → HasMode m c (get_or t c 0) × ChangeCosts m c (get_or s c 0) (get_or a.nominal c 0) (get_or t c 0) (get_or (map (λ (x : Choice). x.cost) h.picks) c 0)
   change-at t cost h c within =
       let long : length h.picks ≡ length rows = AllZip-long Contains rows h.picks h.each in
@@ -70,13 +70,13 @@ module _ (m : PlantModel) (s : List ℕ) (k : Option ℕ) (rows : List (List Cho
             (subst (λ n. ChangeCosts m c (get_or s c 0) (get_or a.nominal c 0) x.mode n) price its.1),
       )
 
-  length-chosen : (t : List ℕ) (cost : ℕ) → IsChosen rows t cost → length t ≡ length m.components
+  length-chosen : (t : List ℕ) (cost : ℕ) → IsPicked rows t cost → length t ≡ length m.components
   length-chosen t cost h = ap length h.modes ∙ length-map h.picks (λ (x : Choice). x.mode) ∙ AllZip-long Contains rows h.picks h.each ∙ a.full
 
-  pub chosen_state : (t : List ℕ) (cost : ℕ) → IsChosen rows t cost → IsState m t
+  pub chosen_state : (t : List ℕ) (cost : ℕ) → IsPicked rows t cost → IsState m t
   chosen_state t cost h = record { full = length-chosen t cost h; modes = λ c within. (change-at t cost h c (omega (arith, a.full))).0 }
 
-  chosen_costs : (t : List ℕ) (cost : ℕ) → IsChosen rows t cost → Costs m s k t cost
+  chosen_costs : (t : List ℕ) (cost : ℕ) → IsPicked rows t cost → Costs m s k t cost
   chosen_costs t cost h =
       let long : length t ≡ length m.components = length-chosen t cost h in
       let full = a.full in
@@ -90,7 +90,7 @@ module _ (m : PlantModel) (s : List ℕ) (k : Option ℕ) (rows : List (List Cho
         total = h.total ∙ sym (sum-map (λ (x : Choice). x.cost) h.picks);
       }
 
-  costs_chosen : CommandsFit m.moves → (t : List ℕ) (cost : ℕ) → Costs m s k t cost → IsChosen rows t cost
+  costs_chosen : CommandsFit m.moves → (t : List ℕ) (cost : ℕ) → Costs m s k t cost → IsPicked rows t cost
   costs_chosen fit t cost h =
       let picks = picks_of t h.parts in
       let modes : map (λ (x : Choice). x.mode) picks ≡ t = modes-picks t h.parts h.full in

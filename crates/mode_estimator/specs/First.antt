@@ -4,13 +4,13 @@ use Rattle.cca_base.specs.declared.cube.Pair.{Pair}
 use Rattle.cca_base.specs.PlantModel.{PlantModel}
 use Rattle.cca_base.specs.Shown.{CanShow}
 use Rattle.cca_base.specs.declared.choice.Choice.{Choice}
-use Rattle.cost_search.specs.Search.{Searched, IsChosen, IsLeft, IsUpTo}
+use Rattle.cost_search.specs.Search.{Searched, IsPicked, IsLeft, IsUpTo}
 use Rattle.mode_estimator.specs.declared.answer.Estimate.{Estimate}
 use Rattle.mode_estimator.specs.declared.answer.Estimate.TheVariants.{Found, Unexplained}
 
 -- a state of this cost that may be chosen, with a world that agrees with what is seen
 pub record Shows (m : PlantModel) (rows : List (List Choice)) (seen : List Pair) (s : List ℕ) (cost : ℕ) : Type 0 where
-  pub chosen : IsChosen rows s cost
+  pub chosen : IsPicked rows s cost
   pub shows : CanShow m s seen
 
 -- the first such state by cost and then in mode order, or there is none

@@ -4,7 +4,7 @@
 ghost use Rattle.std.specs.Prelude.{◌≡◌, [], None, IfOk, All, ℕ, List};
 ghost use Rattle.cca_base.specs.State.{HasValue, IsState};
 ghost use Rattle.consistency.specs.Worlds.{AreWorldsOf};
-ghost use Rattle.cost_search.specs.Search.{IsChosen};
+ghost use Rattle.cost_search.specs.Search.{IsPicked};
 ghost use Rattle.mode_estimator.specs.First.{IsFirstShown};
 
 use crate::answer::Estimate;
@@ -23,7 +23,7 @@ pub fn first_shown(
 ) -> Result<Estimate, AllocError>
     requires worlds { AreWorldsOf model.now worlds.now }
     requires seen { All (λ p. HasValue model.now p.item p.value) seen.now.pairs }
-    requires chosen { (s : List ℕ) (cost : ℕ) → IsChosen states.rows s cost → IsState model.now s }
+    requires chosen { (s : List ℕ) (cost : ℕ) → IsPicked states.rows s cost → IsState model.now s }
     requires last { states.last ≡ None }
     requires cuts { states.cuts ≡ [] }
     ensures { IfOk result (IsFirstShown model.now states.rows seen.now.pairs) }

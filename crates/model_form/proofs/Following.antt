@@ -3,9 +3,14 @@ use Rattle.std.proofs.Common.{ℕ, Bool, List}
 use Rattle.cca_base.specs.Accepted.{CompiledModel, IsCompiled}
 use Rattle.cca_base.specs.PlantModel.{PlantModel}
 use Rattle.line_machine.specs.declared.machine.End.{End}
+use Rattle.line_machine.specs.declared.machine.Machine.{Ghosts}
 use Rattle.model_form.specs.Acceptance.{Acceptance, AcceptedAs, RefusedFor, IsAcceptanceOf}
-use Rattle.model_form.specs.Answers.{Saying, AnswersByAcceptance, AnswersByEnd, IsAnswer}
-use Rattle.model_form.specs.ModelTexts.{ModelText, Scripted, Stopped}
+use Rattle.model_form.specs.Answers.{Saying, AnswersByAcceptance, AnswersByEnd, IsAnswer, PrintsBehind, TextsAreAnswers, AreTold}
+use Rattle.model_form.specs.FormMachine.{form_machine}
+use Rattle.model_form.specs.FormStates.{form_first}
+use Rattle.model_form.specs.ModelTexts.{ModelText, WholeModel, RefusedModel}
+use Rattle.model_form.specs.declared.form.ModelForm.{Ghosts as FormGhosts}
+use Rattle.model_form.proofs.TextsAreAnswers.{texts_are_answers}
 
 module _ (json : Bool) (P Q : Saying) (follows : (b : CompiledModel) (n : ℕ) (ls : List (List ℕ)) (e : End) (text : List ℕ) → IsCompiled b → P b n ls e text → Q b n ls e text) where
   by_acceptance : (v : Acceptance) (m : PlantModel) (n : ℕ) (ls : List (List ℕ)) (e : End) (text : List ℕ) → IsAcceptanceOf m v → AnswersByAcceptance json P v m n ls e text → AnswersByAcceptance json Q v m n ls e text
@@ -13,8 +18,20 @@ module _ (json : Bool) (P Q : Saying) (follows : (b : CompiledModel) (n : ℕ) (
   by_acceptance (RefusedFor r) m n ls e text is h = h
 
   pub end_follows : (end : ModelText) (e : End) (text : List ℕ) → AnswersByEnd json P end e text → AnswersByEnd json Q end e text
-  end_follows (Scripted m n ls) e text (v, is, h) = (v, is, by_acceptance v m n ls e text is h)
-  end_follows (Stopped m line r) e text h = h
+  end_follows (WholeModel m n ls) e text (v, is, h) = (v, is, by_acceptance v m n ls e text is h)
+  end_follows (RefusedModel m line r) e text h = h
 
   pub answer_follows : (input : List ℕ) (e : End) (text : List ℕ) → IsAnswer json P input e text → IsAnswer json Q input e text
   answer_follows input e text (end, reads, h) = (end, reads, end_follows end e text h)
+
+-- what is printed behind an accepted model is what is said there, both ways: so the texts of the whole machine are told
+pub are_told : {F B : Type 0} (form : FormGhosts F B) (m : Ghosts B) (f : F) (Says : Saying)
+    → ((b : CompiledModel) (n : ℕ) (ls : List (List ℕ)) (e : End) (text : List ℕ) → IsCompiled b → PrintsBehind form m f b n ls e text → Says b n ls e text)
+    → ((b : CompiledModel) (n : ℕ) (ls : List (List ℕ)) (e : End) (text : List ℕ) → IsCompiled b → Says b n ls e text → PrintsBehind form m f b n ls e text)
+    → AreTold (form_machine form m) (form_first f) (form.is_json f) Says
+are_told form m f Says told tells =
+    let t : TextsAreAnswers form m = texts_are_answers form m in
+    record {
+      says = λ input e text is. answer_follows (form.is_json f) (PrintsBehind form m f) Says told input e text (t.says f input e text is);
+      comes = λ input e text is. t.comes f input e text (answer_follows (form.is_json f) Says (PrintsBehind form m f) tells input e text is);
+    }

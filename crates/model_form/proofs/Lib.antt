@@ -2,6 +2,7 @@ pub mod AtScript
 pub mod Behind
 pub mod Following
 pub mod FormEnds
+pub mod NeverRejected
 pub mod OneModelText
 pub mod PrintedLimits
 pub mod PrintedLines

@@ -8,6 +8,7 @@ use Rattle.cca_base.specs.PlantModel.{PlantModel}
 use Rattle.cca_base.specs.Refusals.{bare}
 use Rattle.cca_base.proofs.EmptyModel.{empty_well_formed}
 use Rattle.line_machine.proofs.LengthCodes.{within_limits}
+use Rattle.line_machine.specs.declared.machine.TheConstants.{MAX_LINES}
 use Rattle.text_base.specs.Lexemes.{Lexeme, lexeme}
 use Rattle.text_base.specs.Tokens.{Tok, tokens_of}
 use Rattle.model_syntax.specs.Items.{Item, Header, Component, Variable, Rule, Move, Failure, Script, item_of}
@@ -20,7 +21,7 @@ use Rattle.model_syntax.proofs.Kept.{lines_keep_models_good}
 use Rattle.model_syntax.proofs.ShorterLines.{lines_are_no_longer}
 use Rattle.model_form.specs.FormStates.{nothing_read}
 use Rattle.model_form.specs.Limits.{line_code}
-use Rattle.model_form.specs.ModelTexts.{Scripted, Stopped, LeadsByCode, LeadsAt, After, ReadsModel}
+use Rattle.model_form.specs.ModelTexts.{WholeModel, RefusedModel, LeadsByCode, LeadsAt, After, ReadsModel}
 use Rattle.model_form.specs.declared.limits.TheConstants.{MAX_LINE}
 
 -- the printed line is not too long
@@ -128,16 +129,16 @@ pub record IsPrintedWithin (m : PlantModel) (k : ℕ) : Type 0 where
   pub before : ℕ
   pub number : k ≡ before + 1
   pub within : Within m before
-  pub few : k ≤ 1000000
+  pub few : k ≤ MAX_LINES
 
 -- a line without a code is one of few
-finished_few : (c : Option ℕ) (s : ModelSoFar) (n : ℕ) (l : List ℕ) → c ≡ line_code n l → LeadsByCode c s l Finishes → n ≤ 1000000
+finished_few : (c : Option ℕ) (s : ModelSoFar) (n : ℕ) (l : List ℕ) → c ≡ line_code n l → LeadsByCode c s l Finishes → n ≤ MAX_LINES
 finished_few (Some code) s n l c h = absurd cc
 finished_few None s n l c h = (within_limits MAX_LINE n (length l) (sym c)).0
 
 after_within : (o : LineOutcome) (s : ModelSoFar) (n : ℕ) (l : List ℕ) (ls : List (List ℕ)) (m : PlantModel) (k : ℕ) (rest : List (List ℕ)) → Within s.model n → LeadsAt s (n + 1) l o
-    → ((t : ModelSoFar) → o ≡ Reads t → ReadsModel t (n + 1) ls (Scripted m k rest) → IsPrintedWithin m k)
-    → After o (λ t. ReadsModel t (n + 1) ls (Scripted m k rest)) (Scripted m k rest ≡ Scripted s.model (n + 1) ls) (λ code. Scripted m k rest ≡ Stopped s.model (n + 1) (bare code)) → IsPrintedWithin m k
+    → ((t : ModelSoFar) → o ≡ Reads t → ReadsModel t (n + 1) ls (WholeModel m k rest) → IsPrintedWithin m k)
+    → After o (λ t. ReadsModel t (n + 1) ls (WholeModel m k rest)) (WholeModel m k rest ≡ WholeModel s.model (n + 1) ls) (λ code. WholeModel m k rest ≡ RefusedModel s.model (n + 1) (bare code)) → IsPrintedWithin m k
 after_within (Reads t) s n l ls m k rest w leads on h = on t refl h
 after_within (Refuses code) s n l ls m k rest w leads on h = absurd cc
 after_within Finishes s n l ls m k rest w leads on h =
@@ -146,7 +147,7 @@ after_within Finishes s n l ls m k rest w leads on h =
     let few = finished_few (line_code (n + 1) l) s (n + 1) l refl leads in
     record { before = n; number = number; within = subst (λ (x : PlantModel). Within x n) (sym model) w; few = omega (arith, few, number) }
 
-begun_within : (ls : List (List ℕ)) (s : ModelSoFar) (n : ℕ) (m : PlantModel) (k : ℕ) (rest : List (List ℕ)) → s.begun ≡ true → Within s.model n → ReadsModel s n ls (Scripted m k rest) → IsPrintedWithin m k
+begun_within : (ls : List (List ℕ)) (s : ModelSoFar) (n : ℕ) (m : PlantModel) (k : ℕ) (rest : List (List ℕ)) → s.begun ≡ true → Within s.model n → ReadsModel s n ls (WholeModel m k rest) → IsPrintedWithin m k
 begun_within [] s n m k rest b w h = absurd cc
 begun_within (l ∷ ls) s n m k rest b w (o, leads, after) =
     after_within o s n l ls m k rest w leads
@@ -184,21 +185,21 @@ empty_good = record { well_formed = empty_well_formed 1 (inl refl); complete = �
 
 module _ (m : PlantModel) (k : ℕ) (rest : List (List ℕ)) where
   first_by : (o : LineOutcome) (s : ModelSoFar) (n : ℕ) (l : List ℕ) (ls : List (List ℕ)) → s.begun ≡ false → s.model ≡ empty_model 1
-      → ((j : ℕ) → ReadsModel s j ls (Scripted m k rest) → IsPrintedWithin m k) → LeadsAt s (n + 1) l o
-      → After o (λ t. ReadsModel t (n + 1) ls (Scripted m k rest)) (Scripted m k rest ≡ Scripted s.model (n + 1) ls) (λ code. Scripted m k rest ≡ Stopped s.model (n + 1) (bare code)) → IsPrintedWithin m k
+      → ((j : ℕ) → ReadsModel s j ls (WholeModel m k rest) → IsPrintedWithin m k) → LeadsAt s (n + 1) l o
+      → After o (λ t. ReadsModel t (n + 1) ls (WholeModel m k rest)) (WholeModel m k rest ≡ WholeModel s.model (n + 1) ls) (λ code. WholeModel m k rest ≡ RefusedModel s.model (n + 1) (bare code)) → IsPrintedWithin m k
   first_by (Reads t) s n l ls b e on leads h =
       let line = read_short (line_code (n + 1) l) s t (n + 1) l refl leads in
       elim (header_within s t n l line.0 line.1 b e (subst IsGood (sym e) empty_good)) [
-        | inl same ↦ on (n + 1) (subst (λ (x : ModelSoFar). ReadsModel x (n + 1) ls (Scripted m k rest)) same h)
+        | inl same ↦ on (n + 1) (subst (λ (x : ModelSoFar). ReadsModel x (n + 1) ls (WholeModel m k rest)) same h)
         | inr (begun, w) ↦ begun_within ls t (n + 1) m k rest begun w h
       ]
   first_by (Refuses code) s n l ls b e on leads h = absurd cc
   first_by Finishes s n l ls b e on leads h = absurd (not_finished_at (line_code (n + 1) l) s l b leads)
 
-  first_within : (ls : List (List ℕ)) (s : ModelSoFar) (n : ℕ) → s.begun ≡ false → s.model ≡ empty_model 1 → ReadsModel s n ls (Scripted m k rest) → IsPrintedWithin m k
+  first_within : (ls : List (List ℕ)) (s : ModelSoFar) (n : ℕ) → s.begun ≡ false → s.model ≡ empty_model 1 → ReadsModel s n ls (WholeModel m k rest) → IsPrintedWithin m k
   first_within [] s n b e h = absurd cc
   first_within (l ∷ ls) s n b e (o, leads, after) = first_by o s n l ls b e (λ j h. first_within ls s j b e h) leads after
 
   -- a model that came to its script in the line of this number is printed in fewer lines, and none of them is too long
-  pub printed_within : (ls : List (List ℕ)) → ReadsModel nothing_read 0 ls (Scripted m k rest) → IsPrintedWithin m k
+  pub printed_within : (ls : List (List ℕ)) → ReadsModel nothing_read 0 ls (WholeModel m k rest) → IsPrintedWithin m k
   printed_within ls h = first_within ls nothing_read 0 refl refl h

@@ -18,7 +18,7 @@ use Rattle.model_form.specs.FormMachine.{BeginsBy, FormAtScript, form_machine}
 use Rattle.model_form.specs.FormStates.{FormState, InModel, behind_next, form_first, nothing_read}
 use Rattle.model_form.specs.Limits.{line_code}
 use Rattle.model_form.specs.ModelSteps.{StepsBy}
-use Rattle.model_form.specs.ModelTexts.{ModelText, Scripted, Stopped, LeadsByCode, LeadsAt, After, ReadsModel}
+use Rattle.model_form.specs.ModelTexts.{ModelText, WholeModel, RefusedModel, LeadsByCode, LeadsAt, After, ReadsModel}
 use Rattle.model_form.specs.declared.form.ModelForm.{Ghosts as FormGhosts}
 use Rattle.model_form.proofs.Behind.{own_run, form_run}
 use Rattle.line_machine.proofs.RunLines.{of_text, text_of, first_line, line_first, at_stop, stops, at_end, ends}
@@ -54,7 +54,7 @@ module _ {F B : Type 0} (form : FormGhosts F B) (m : Ghosts B) (f : F) where
   begun_by (RefusedFor r) k n ls v x e rest by c = refused_run (refusal_text (form.is_json f) k n r) n ls (behind_next v) x e rest (ap (λ (z : Next B). behind_next {F = F} z) by.0, by.1) c
 
   scripted : (k : PlantModel) (n : ℕ) (ls : List (List ℕ)) (u : Next (FormState F B)) (x : List ℕ) (e : End) (rest : List ℕ) → FormAtScript form m f k n u x → Completes (form_machine form m) u n ls e rest
-      → AnswersByEnd (form.is_json f) (PrintsBehind form m f) (Scripted k n ls) e (x ++ rest)
+      → AnswersByEnd (form.is_json f) (PrintsBehind form m f) (WholeModel k n ls) e (x ++ rest)
   scripted k n ls u x e rest (v, (a, is, by), next) c =
       (a, is, begun_by a k n ls v x e rest by (subst (λ (z : Next (FormState F B)). Completes (form_machine form m) z n ls e rest) next c))
 
@@ -65,13 +65,13 @@ module _ {F B : Type 0} (form : FormGhosts F B) (m : Ghosts B) (f : F) where
       let r = on t (subst (λ (v : Next (FormState F B)). Completes (form_machine form m) v (n + 1) ls e rest) by.0 c) in
       record { end = r.end; reads = (Reads t, leads, r.reads); is = subst (λ (z : List ℕ). AnswersByEnd (form.is_json f) (PrintsBehind form m f) r.end e (z ++ rest)) (sym by.1) r.is }
   line_says (Refuses code) s n l ls u x e rest leads by c on =
-      record { end = Stopped s.model (n + 1) (bare code); reads = (Refuses code, leads, refl); is = refused_run (refusal_text (form.is_json f) s.model (n + 1) (bare code)) (n + 1) ls u x e rest by c }
+      record { end = RefusedModel s.model (n + 1) (bare code); reads = (Refuses code, leads, refl); is = refused_run (refusal_text (form.is_json f) s.model (n + 1) (bare code)) (n + 1) ls u x e rest by c }
   line_says Finishes s n l ls u x e rest leads by c on =
-      record { end = Scripted s.model (n + 1) ls; reads = (Finishes, leads, refl); is = scripted s.model (n + 1) ls u x e rest by c }
+      record { end = WholeModel s.model (n + 1) ls; reads = (Finishes, leads, refl); is = scripted s.model (n + 1) ls u x e rest by c }
 
   -- what the machine prints is what the lines say
   says : (ls : List (List ℕ)) (s : ModelSoFar) (n : ℕ) (e : End) (text : List ℕ) → Completes (form_machine form m) (GoesOn (InModel f s)) n ls e text → SaysAs s n ls e text
-  says [] s n e text c = record { end = Stopped s.model n (bare ENDS_EARLY); reads = refl; is = at_end (form_machine form m) (GoesOn (InModel f s)) n e text c }
+  says [] s n e text c = record { end = RefusedModel s.model n (bare ENDS_EARLY); reads = refl; is = at_end (form_machine form m) (GoesOn (InModel f s)) n e text c }
   says (l ∷ ls) s n e text c =
       let t = first_line (form_machine form m) (InModel f s) n l ls e text c in
       let (out, leads, by) = line_by (line_code (n + 1) l) s (n + 1) l t.next t.first t.takes in
@@ -107,7 +107,7 @@ module _ {F B : Type 0} (form : FormGhosts F B) (m : Ghosts B) (f : F) where
       refused_comes s n l ls Finishes Refused e (refusal_text (form.is_json f) s.model (n + 1) r) text leads p (Stops Refused, (RefusedFor r, is, (refl, refl)), refl)
 
   line_comes : (out : LineOutcome) (s : ModelSoFar) (n : ℕ) (l : List ℕ) (ls : List (List ℕ)) (end : ModelText) (e : End) (text : List ℕ) → LeadsAt s (n + 1) l out
-      → After out (λ t. ReadsModel t (n + 1) ls end) (end ≡ Scripted s.model (n + 1) ls) (λ code. end ≡ Stopped s.model (n + 1) (bare code)) → AnswersByEnd (form.is_json f) (PrintsBehind form m f) end e text
+      → After out (λ t. ReadsModel t (n + 1) ls end) (end ≡ WholeModel s.model (n + 1) ls) (λ code. end ≡ RefusedModel s.model (n + 1) (bare code)) → AnswersByEnd (form.is_json f) (PrintsBehind form m f) end e text
       → ((t : ModelSoFar) → ReadsModel t (n + 1) ls end → Completes (form_machine form m) (GoesOn (InModel f t)) (n + 1) ls e text) → Completes (form_machine form m) (GoesOn (InModel f s)) n (l ∷ ls) e text
   line_comes (Reads t) s n l ls end e text leads after is on = comes_by s n l ls (Reads t) (GoesOn (InModel f t)) [] e text text leads (refl, refl) (on t after) refl
   line_comes (Refuses code) s n l ls end e text leads after is on =

@@ -13,7 +13,7 @@ use Rattle.trace_text.specs.Json.{refusal_text}
 use Rattle.model_form.specs.Acceptance.{Acceptance, AcceptedAs, RefusedFor, IsAcceptanceOf}
 use Rattle.model_form.specs.FormMachine.{form_machine}
 use Rattle.model_form.specs.FormStates.{form_first}
-use Rattle.model_form.specs.ModelTexts.{ModelText, Scripted, Stopped, EndsModel}
+use Rattle.model_form.specs.ModelTexts.{ModelText, WholeModel, RefusedModel, EndsModel}
 use Rattle.model_form.specs.declared.form.ModelForm.{Ghosts as FormGhosts}
 
 -- what is printed and how the program ends, where no fault comes
@@ -42,8 +42,8 @@ AnswersByAcceptance json Says (RefusedFor r) m n ls e text = (e ≡ Refused) × 
 
 -- by how the model ends
 abbrev pub AnswersByEnd : Bool → Saying → ModelText → End → List ℕ → Type 0
-AnswersByEnd json Says (Scripted m n ls) e text = (v : Acceptance) × IsAcceptanceOf m v × AnswersByAcceptance json Says v m n ls e text
-AnswersByEnd json Says (Stopped m line r) e text = (e ≡ Refused) × (text ≡ refusal_text json m line r)
+AnswersByEnd json Says (WholeModel m n ls) e text = (v : Acceptance) × IsAcceptanceOf m v × AnswersByAcceptance json Says v m n ls e text
+AnswersByEnd json Says (RefusedModel m line r) e text = (e ≡ Refused) × (text ≡ refusal_text json m line r)
 
 -- for a whole input
 abbrev pub IsAnswer : Bool → Saying → List ℕ → End → List ℕ → Type 0
@@ -64,3 +64,8 @@ pub record PrintsBehind {F B : Type 0} (form : FormGhosts F B) (m : Ghosts B) (f
 pub record TextsAreAnswers {F B : Type 0} (form : FormGhosts F B) (m : Ghosts B) : Type 0 where
   pub says : (f : F) (input : List ℕ) (e : End) (text : List ℕ) → IsText (form_machine form m) (form_first f) input e text → IsAnswer (form.is_json f) (PrintsBehind form m f) input e text
   pub comes : (f : F) (input : List ℕ) (e : End) (text : List ℕ) → IsAnswer (form.is_json f) (PrintsBehind form m f) input e text → IsText (form_machine form m) (form_first f) input e text
+
+-- the texts of a machine are exactly what the model's lines say, and behind them what is said there
+pub record AreTold {S : Type 0} (m : Ghosts S) (first : S) (json : Bool) (Says : Saying) : Type 0 where
+  pub says : (input : List ℕ) (e : End) (text : List ℕ) → IsText m first input e text → IsAnswer json Says input e text
+  pub comes : (input : List ℕ) (e : End) (text : List ℕ) → IsAnswer json Says input e text → IsText m first input e text

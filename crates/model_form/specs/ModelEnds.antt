@@ -3,14 +3,14 @@ use Rattle.std.specs.Prelude.{◌≡◌, ℕ}
 use Rattle.cca_base.specs.Accepted.{CompiledModel}
 use Rattle.cca_base.specs.declared.events.Refusal.{Refusal}
 use Rattle.model_form.specs.Acceptance.{AcceptedAs, RefusedFor, IsAcceptanceOf}
-use Rattle.model_form.specs.ModelTexts.{ModelText, Scripted, Stopped}
+use Rattle.model_form.specs.ModelTexts.{ModelText, WholeModel, RefusedModel}
 
 -- the model came to its script, and is accepted
 abbrev pub IsAcceptedEnd : ModelText → Type 0
-IsAcceptedEnd (Scripted m n ls) = (b : CompiledModel) × IsAcceptanceOf m (AcceptedAs b)
-IsAcceptedEnd (Stopped m line r) = ⊥
+IsAcceptedEnd (WholeModel m n ls) = (b : CompiledModel) × IsAcceptanceOf m (AcceptedAs b)
+IsAcceptedEnd (RefusedModel m line r) = ⊥
 
 -- a line of the model is refused, or the model itself at its script
 abbrev pub IsRefusedEnd : ModelText → ℕ → Refusal → Type 0
-IsRefusedEnd (Scripted m n ls) line r = (line ≡ n) × IsAcceptanceOf m (RefusedFor r)
-IsRefusedEnd (Stopped m n s) line r = (line ≡ n) × (r ≡ s)
+IsRefusedEnd (WholeModel m n ls) line r = (line ≡ n) × IsAcceptanceOf m (RefusedFor r)
+IsRefusedEnd (RefusedModel m n s) line r = (line ≡ n) × (r ≡ s)

@@ -8,7 +8,8 @@ ghost use Rattle.model_form.specs.FormMachine.{AtScript};
 ghost use Rattle.model_form.specs.FormStates.{form_first};
 ghost use Rattle.model_form.specs.Openings.{next_by, AwaitsBy};
 
-use crate::form::{ModelForm, Opened, Opening};
+use crate::accepted::Accepted;
+use crate::form::{Begun, ModelForm, Opened, Opening};
 use crate::limits::MAX_LINE;
 use crate::said::{not_accepted, nothing, refusal_of, refuse_stop};
 use acceptance::accept;
@@ -37,12 +38,11 @@ pub struct WithModel<F, B> {
 
 impl<F, B> std::marker::Model for WithModel<F, B> {
     ghost use Rattle.model_form.specs.FormStates.{FormState};
-    ghost use Rattle.cca_base.specs.contracts.formula.Formula as formula;
-    ghost use Rattle.std.specs.Coded.{codes};
+    ghost use Rattle.cca_base.specs.Coded.{model_codes};
 
     ghost Value = { FormState F B };
 
-    ghost coded = { Prim.hlevel (codes, formula.the_row.coded) };
+    ghost coded = { Prim.hlevel model_codes };
 
     ghost use Rattle.model_form.specs.FormStages.{form_state};
 
@@ -56,7 +56,7 @@ fn at_script<F: ModelForm<B>, B: Machine + Drop>(
     model: Model,
     names: IndexMap<Name, Subject>,
     number: u64,
-) -> Result<Opening<B>, AllocError>
+) -> Begun<B>
     requires few { number ≤ MAX_LINES }
     requires complete { IsComplete model }
     requires fit { NamesFit names model }
@@ -65,7 +65,7 @@ fn at_script<F: ModelForm<B>, B: Machine + Drop>(
     ensures turn { IfOk result (λ o. AwaitsBy B.Machine o.opened (number + 1)) }
 {
     match accept(alloc, model) {
-        Ok(compiled) => form.begin(alloc, compiled, names, number),
+        Ok(compiled) => form.begin(alloc, Accepted::new(compiled, names), number),
         Err(stop) => {
             let said = not_accepted(alloc, form.is_json(), number, stop)?;
             Ok(Opening {

@@ -19,7 +19,7 @@ use Rattle.cca_base.proofs.Growth.{component_kept, variable_kept}
 use Rattle.formula_syntax.proofs.LeastLaws.{least_none}
 use Rattle.formula_syntax.specs.Lookups.{subject_of, or_else, place_of}
 use Rattle.formula_syntax.specs.Meanings.{has_twice}
-use Rattle.model_syntax.specs.Codes.{is_long, is_taken, start_mode, list_passes, component_code, new_component, variable_code, new_variable}
+use Rattle.model_syntax.specs.Codes.{is_long, is_taken, start_mode, list_passes, names_code, component_code, new_component, variable_code, new_variable}
 use Rattle.model_syntax.specs.Lines.{is_bare_name}
 use Rattle.model_syntax.proofs.NamesInGrowth.{not_some}
 use Rattle.model_syntax.proofs.FirstPlaces.{none_passes}
@@ -100,6 +100,30 @@ name_is_new m name e =
     All-append (λ other. other ≢ name) (map (λ c. c.name) m.components) (map (λ v. v.name) m.variables)
     (unnamed (λ c. c.name) name m.components p.0) (unnamed (λ v. v.name) name m.variables p.1)
 
+-- ---- a name with its modes or values
+
+-- a name that is free, and different choices, none of them too long and not too many
+pub record AreNewNames (m : PlantModel) (name : List ℕ) (choices : List (List ℕ)) : Type 0 where
+  pub free : subject_of m name ≡ None
+  pub different : has_twice choices ≡ false
+  pub short : is_long name ≡ false
+  pub all_short : list_any is_long choices ≡ false
+  pub few : nat_lt MAX_CHOICES (length choices) ≡ false
+
+-- where no code of a declaration applies, and there is room for it
+are_new_names : (m : PlantModel) (name : List ℕ) (choices : List (List ℕ)) (full : Bool) → names_code m name choices full ≡ None
+    → AreNewNames m name choices × (full ≡ false)
+are_new_names m name choices full e =
+    let b = least_none 3 (is_taken m name || has_twice choices) ((4, list_passes name choices || full) ∷ []) e in
+    let c = least_none 4 (list_passes name choices || full) [] b.1 in
+    let taken = or_parts (is_taken m name) (has_twice choices) b.0 in
+    let limits = or_parts (list_passes name choices) full c.0 in
+    let passes = or_parts (is_long name) (list_any is_long choices || nat_lt MAX_CHOICES (length choices)) limits.0 in
+    let many = or_parts (list_any is_long choices) (nat_lt MAX_CHOICES (length choices)) passes.1 in (
+      record { free = not_some (subject_of m name) taken.0; different = taken.1; short = passes.0; all_short = many.0; few = many.1 },
+      limits.1,
+    )
+
 -- ---- components
 
 -- the start mode is one of the modes
@@ -114,33 +138,16 @@ start_found modes start h = go (is_long start) (place_of modes start) refl h
 -- what holds where no code applies to a component's line
 pub record MayBeComponent (m : PlantModel) (name : List ℕ) (modes : List (List ℕ)) (start : List ℕ) : Type 0 where
   pub found : is_some (start_mode modes start) ≡ true
-  pub free : subject_of m name ≡ None
-  pub different : has_twice modes ≡ false
-  pub short : is_long name ≡ false
-  pub all_short : list_any is_long modes ≡ false
-  pub few : nat_lt MAX_CHOICES (length modes) ≡ false
+  pub names : AreNewNames m name modes
   pub room : nat_le MAX_COMPONENTS (length m.components) ≡ false
 
 pub may_be_component : (m : PlantModel) (name : List ℕ) (modes : List (List ℕ)) (start : List ℕ) → component_code m name modes start ≡ None → MayBeComponent m name modes start
 unfolding component_code
 may_be_component m name modes start e =
-    let limit : List (ℕ × Bool) = (4, list_passes name modes || nat_le MAX_COMPONENTS (length m.components)) ∷ [] in
-    let a = least_none 2 (not (is_some (start_mode modes start))) ((3, is_taken m name || has_twice modes) ∷ limit) e in
-    let b = least_none 3 (is_taken m name || has_twice modes) limit a.1 in
-    let c = least_none 4 (list_passes name modes || nat_le MAX_COMPONENTS (length m.components)) [] b.1 in
-    let taken = or_parts (is_taken m name) (has_twice modes) b.0 in
-    let limits = or_parts (list_passes name modes) (nat_le MAX_COMPONENTS (length m.components)) c.0 in
-    let passes = or_parts (is_long name) (list_any is_long modes || nat_lt MAX_CHOICES (length modes)) limits.0 in
-    let many = or_parts (list_any is_long modes) (nat_lt MAX_CHOICES (length modes)) passes.1 in
-    record {
-      found = not-false (is_some (start_mode modes start)) a.0;
-      free = not_some (subject_of m name) taken.0;
-      different = taken.1;
-      short = passes.0;
-      all_short = many.0;
-      few = many.1;
-      room = limits.1;
-    }
+    let full = nat_le MAX_COMPONENTS (length m.components) in
+    let a = least_none 2 (not (is_some (start_mode modes start))) ((3, is_taken m name || has_twice modes) ∷ (4, list_passes name modes || full) ∷ []) e in
+    let p = are_new_names m name modes full a.1 in
+    record { found = not-false (is_some (start_mode modes start)) a.0; names = p.0; room = p.1 }
 
 pub component_is_kept : (m : PlantModel) (name : List ℕ) (modes : List (List ℕ)) (start : List ℕ) → WellFormed m → list_all is_bare_name (name ∷ modes) ≡ true → component_code m name modes start ≡ None
     → WellFormed (with_component m (new_component name modes start))
@@ -149,41 +156,21 @@ component_is_kept m name modes start w bare e =
     let b = and_parts (is_bare_name name) (list_all is_bare_name modes) bare in
     let within = start_found modes start h.found in
     component_kept m (new_component name modes start) w (below MAX_COMPONENTS (length m.components) h.room)
-    (record { modes = choices modes b.1 h.different h.all_short h.few (omega (arith, within)); start = within })
-    (is_named name b.0 h.short) (name_is_new m name h.free)
+    (record { modes = choices modes b.1 h.names.different h.names.all_short h.names.few (omega (arith, within)); start = within })
+    (is_named name b.0 h.names.short) (name_is_new m name h.names.free)
 
 -- ---- variables
 
-pub record MayBeVariable (m : PlantModel) (name : List ℕ) (values : List (List ℕ)) : Type 0 where
-  pub free : subject_of m name ≡ None
-  pub different : has_twice values ≡ false
-  pub short : is_long name ≡ false
-  pub all_short : list_any is_long values ≡ false
-  pub few : nat_lt MAX_CHOICES (length values) ≡ false
-  pub room : nat_le MAX_VARIABLES (length m.variables) ≡ false
-
-pub may_be_variable : (m : PlantModel) (name : List ℕ) (values : List (List ℕ)) → variable_code m name values ≡ None → MayBeVariable m name values
+-- what holds where no code applies to a variable's line
+pub may_be_variable : (m : PlantModel) (name : List ℕ) (values : List (List ℕ)) → variable_code m name values ≡ None → AreNewNames m name values × (nat_le MAX_VARIABLES (length m.variables) ≡ false)
 unfolding variable_code
-may_be_variable m name values e =
-    let b = least_none 3 (is_taken m name || has_twice values) ((4, list_passes name values || nat_le MAX_VARIABLES (length m.variables)) ∷ []) e in
-    let c = least_none 4 (list_passes name values || nat_le MAX_VARIABLES (length m.variables)) [] b.1 in
-    let taken = or_parts (is_taken m name) (has_twice values) b.0 in
-    let limits = or_parts (list_passes name values) (nat_le MAX_VARIABLES (length m.variables)) c.0 in
-    let passes = or_parts (is_long name) (list_any is_long values || nat_lt MAX_CHOICES (length values)) limits.0 in
-    let many = or_parts (list_any is_long values) (nat_lt MAX_CHOICES (length values)) passes.1 in
-    record {
-      free = not_some (subject_of m name) taken.0;
-      different = taken.1;
-      short = passes.0;
-      all_short = many.0;
-      few = many.1;
-      room = limits.1;
-    }
+may_be_variable m name values e = are_new_names m name values (nat_le MAX_VARIABLES (length m.variables)) e
 
 pub variable_is_kept : (m : PlantModel) (name : List ℕ) (values : List (List ℕ)) (sensed : Bool) → WellFormed m → list_all is_bare_name (name ∷ values) ≡ true → 0 < length values → variable_code m name values ≡ None
     → WellFormed (with_variable m (new_variable name values sensed))
 variable_is_kept m name values sensed w bare some e =
-    let h = may_be_variable m name values e in
+    let p = may_be_variable m name values e in
+    let h = p.0 in
     let b = and_parts (is_bare_name name) (list_all is_bare_name values) bare in
-    variable_kept m (new_variable name values sensed) w (below MAX_VARIABLES (length m.variables) h.room)
+    variable_kept m (new_variable name values sensed) w (below MAX_VARIABLES (length m.variables) p.1)
     (choices values b.1 h.different h.all_short h.few some) (is_named name b.0 h.short) (name_is_new m name h.free)

@@ -90,65 +90,45 @@ module _ (m : PlantModel) (h : WellFormed m) where
   pub failure_grows : (x : Failure) → Grows m (with_failure m x)
   failure_grows x = record { components = keeps_all m.components; variables = keeps_all m.variables; commands = keeps_all m.commands }
 
+  -- the line stands between these
+  line_added : (n : PlantModel) (text : List ℕ) (front back : Lines) (line : List Lexeme) → lines_said m ≡ front ++ back → lines_said n ≡ front ++ line ∷ back → length (joined line) ≤ length text → AddsLine m n text
+  line_added n text front back line before after short = record { front = front; back = back; line = line; before = before; after = after; no_longer = short }
+
   pub component_adds : (x : Component) (text : List ℕ) → length (joined (component_said x)) ≤ length text → AddsLine m (with_component m x) text
   component_adds x text short =
       let n = with_component m x in
       let g = component_grows x in
-      record {
-        front = first ∷ cs;
-        back = vs ++ rs ++ ms ++ fs;
-        line = component_said x;
-        before = below_first first (four cs vs rs ms fs);
-        after = same_page first first refl _ _ _ _ _ (cs ++ component_said x ∷ []) vs rs ms fs (map_push component_said m.components x) refl (rules_stay m n g m.rules h.rules) (moves_stay m n g m.moves h.moves) (failures_stay m n g m.failures h.failures)
-            ∙ more_first first cs vs rs ms fs (component_said x);
-        no_longer = short;
-      }
+      line_added n text (first ∷ cs) (vs ++ rs ++ ms ++ fs) (component_said x) (below_first first (four cs vs rs ms fs))
+      (same_page first first refl _ _ _ _ _ (cs ++ component_said x ∷ []) vs rs ms fs (map_push component_said m.components x) refl (rules_stay m n g m.rules h.rules) (moves_stay m n g m.moves h.moves) (failures_stay m n g m.failures h.failures)
+      ∙ more_first first cs vs rs ms fs (component_said x)) short
 
   pub variable_adds : (x : Variable) (text : List ℕ) → length (joined (variable_said x)) ≤ length text → AddsLine m (with_variable m x) text
   variable_adds x text short =
       let n = with_variable m x in
       let g = variable_grows x in
-      record {
-        front = first ∷ cs ++ vs;
-        back = rs ++ ms ++ fs;
-        line = variable_said x;
-        before = below_first first (three (cs ++ vs) rs ms fs);
-        after = same_page first first refl _ _ _ _ _ cs (vs ++ variable_said x ∷ []) rs ms fs refl (map_push variable_said m.variables x) (rules_stay m n g m.rules h.rules) (moves_stay m n g m.moves h.moves) (failures_stay m n g m.failures h.failures)
-            ∙ more_second first cs vs rs ms fs (variable_said x);
-        no_longer = short;
-      }
+      line_added n text (first ∷ cs ++ vs) (rs ++ ms ++ fs) (variable_said x) (below_first first (three (cs ++ vs) rs ms fs))
+      (same_page first first refl _ _ _ _ _ cs (vs ++ variable_said x ∷ []) rs ms fs refl (map_push variable_said m.variables x) (rules_stay m n g m.rules h.rules) (moves_stay m n g m.moves h.moves) (failures_stay m n g m.failures h.failures)
+      ∙ more_second first cs vs rs ms fs (variable_said x)) short
 
   pub rule_adds : (x : Formula) (text : List ℕ) → length (joined (rule_said (with_rule m x) x)) ≤ length text → AddsLine m (with_rule m x) text
   rule_adds x text short =
       let n = with_rule m x in
       let g = rule_grows x in
       let line = rule_said n x in
-      record {
-        front = first ∷ cs ++ vs ++ rs;
-        back = ms ++ fs;
-        line = line;
-        before = below_first first (append_assoc (cs ++ vs ++ rs) ms fs);
-        after = same_page first first refl _ _ _ _ _ cs vs (rs ++ line ∷ []) ms fs refl refl (map_push (rule_said n) m.rules x ∙ ap (λ (y : Lines). y ++ line ∷ []) (rules_stay m n g m.rules h.rules)) (moves_stay m n g m.moves h.moves)
-            (failures_stay m n g m.failures h.failures)
-            ∙ more_third first cs vs rs ms fs line;
-        no_longer = short;
-      }
+      line_added n text (first ∷ cs ++ vs ++ rs) (ms ++ fs) line (below_first first (append_assoc (cs ++ vs ++ rs) ms fs))
+      (same_page first first refl _ _ _ _ _ cs vs (rs ++ line ∷ []) ms fs refl refl (map_push (rule_said n) m.rules x ∙ ap (λ (y : Lines). y ++ line ∷ []) (rules_stay m n g m.rules h.rules)) (moves_stay m n g m.moves h.moves)
+      (failures_stay m n g m.failures h.failures)
+      ∙ more_third first cs vs rs ms fs line) short
 
   pub failure_adds : (x : Failure) (text : List ℕ) → length (joined (failure_said (with_failure m x) x)) ≤ length text → AddsLine m (with_failure m x) text
   failure_adds x text short =
       let n = with_failure m x in
       let g = failure_grows x in
       let line = failure_said n x in
-      record {
-        front = lines_said m;
-        back = [];
-        line = line;
-        before = sym (append-nil (lines_said m));
-        after = same_page first first refl _ _ _ _ _ cs vs rs ms (fs ++ line ∷ []) refl refl (rules_stay m n g m.rules h.rules) (moves_stay m n g m.moves h.moves)
-            (map_push (failure_said n) m.failures x ∙ ap (λ (y : Lines). y ++ line ∷ []) (failures_stay m n g m.failures h.failures))
-            ∙ more_fifth first cs vs rs ms fs line;
-        no_longer = short;
-      }
+      line_added n text (lines_said m) [] line (sym (append-nil (lines_said m)))
+      (same_page first first refl _ _ _ _ _ cs vs rs ms (fs ++ line ∷ []) refl refl (rules_stay m n g m.rules h.rules) (moves_stay m n g m.moves h.moves)
+      (map_push (failure_said n) m.failures x ∙ ap (λ (y : Lines). y ++ line ∷ []) (failures_stay m n g m.failures h.failures))
+      ∙ more_fifth first cs vs rs ms fs line) short
 
   -- a move may bring a command with it
   pub move_adds : (k : PlantModel) (x : Move) (text : List ℕ) → Grows m (with_move k x) → k.version ≡ m.version → k.components ≡ m.components → k.variables ≡ m.variables → k.rules ≡ m.rules → k.moves ≡ m.moves → k.failures ≡ m.failures
@@ -156,14 +136,8 @@ module _ (m : PlantModel) (h : WellFormed m) where
   move_adds k x text g ez ec ev er em ef short =
       let n = with_move k x in
       let line = move_said n x in
-      record {
-        front = first ∷ cs ++ vs ++ rs ++ ms;
-        back = fs;
-        line = line;
-        before = refl;
-        after = same_page (header_said k.version) first (ap header_said ez) _ _ _ _ _ cs vs rs (ms ++ line ∷ []) fs (ap (map component_said) ec) (ap (map variable_said) ev) (ap (map (rule_said n)) er ∙ rules_stay m n g m.rules h.rules)
-            (map_push (move_said n) k.moves x ∙ ap (λ (y : List Move). map (move_said n) y ++ line ∷ []) em ∙ ap (λ (y : Lines). y ++ line ∷ []) (moves_stay m n g m.moves h.moves))
-            (ap (map (failure_said n)) ef ∙ failures_stay m n g m.failures h.failures)
-            ∙ more_fourth first cs vs rs ms fs line;
-        no_longer = short;
-      }
+      line_added n text (first ∷ cs ++ vs ++ rs ++ ms) fs line refl
+      (same_page (header_said k.version) first (ap header_said ez) _ _ _ _ _ cs vs rs (ms ++ line ∷ []) fs (ap (map component_said) ec) (ap (map variable_said) ev) (ap (map (rule_said n)) er ∙ rules_stay m n g m.rules h.rules)
+      (map_push (move_said n) k.moves x ∙ ap (λ (y : List Move). map (move_said n) y ++ line ∷ []) em ∙ ap (λ (y : Lines). y ++ line ∷ []) (moves_stay m n g m.moves h.moves))
+      (ap (map (failure_said n)) ef ∙ failures_stay m n g m.failures h.failures)
+      ∙ more_fourth first cs vs rs ms fs line) short

@@ -1,5 +1,5 @@
 -- An item is read from its spelling, and from nothing else.
-use Rattle.std.proofs.Common.{◌≡◌, ℕ, Bool, true, false, codes, List, [], ◌∷◌, ◌++◌, Option, Some, None, refl, sym, ap, subst, ◌∙◌, arith}
+use Rattle.std.proofs.Common.{◌≡◌, ◌<◌, length, ℕ, Bool, true, false, codes, List, [], ◌∷◌, ◌++◌, Option, Some, None, refl, sym, ap, subst, ◌∙◌, arith}
 use Rattle.std.proofs.lemmas.Option.{same_Some}
 use Rattle.text_base.proofs.LexemeLaws.{kind_is, lexeme_is}
 use Rattle.list_laws.proofs.Tests.{cond_found}
@@ -9,7 +9,7 @@ use Rattle.text_base.specs.Lexemes.{Lexeme, word, number, symbol, comma, same_ki
 use Rattle.text_base.specs.Lists.{names_at, ended, name_list_spelled, names_spelled, AreNameWords}
 use Rattle.text_base.specs.Chain.{◌>>=◌}
 use Rattle.formula_syntax.specs.Lookups.{or_else}
-use Rattle.model_syntax.specs.Items.{Ends, Item, Header, Component, Variable, Rule, Move, Failure, Script, number_at, ends_at, header_of, header_at, component_at, sensed_at, variable_at, move_at, failure_at, item_of, ends_spelled, sensed_spelled, move_word, line_spelled, IsSpelled}
+use Rattle.model_syntax.specs.Items.{Ends, Item, Header, Component, Variable, Rule, Move, Failure, Script, number_at, ends_at, header_of, header_at, named_list_at, component_at, sensed_at, variable_at, move_at, failure_at, item_of, ends_spelled, sensed_spelled, move_word, line_spelled, IsSpelled}
 use Rattle.text_base.proofs.ChainLaws.{bind_some, then, next_read, after}
 use Rattle.text_base.proofs.NameGrammar.{reads_name, name_read, reads_names, names_read}
 use Rattle.text_base.proofs.PairGrammar.{equals_sign}
@@ -45,16 +45,42 @@ header_written ls i e = go (header_of false (codes "1") ls) refl e
     go (Some j) is e = header_one false (codes "1") ls i refl (is ∙ e)
     go None is e = header_one true (codes "2") ls i refl e
 
+-- ---- a name with a list of names
+
+abbrev names_then : List ℕ → List (List ℕ) × List Lexeme → Option (List ℕ × List (List ℕ) × List Lexeme)
+names_then name names = Some (name, names.0, names.1)
+
+abbrev name_then : List ℕ × List Lexeme → Option (List ℕ × List (List ℕ) × List Lexeme)
+name_then name = next_is equals_sign name.1 >>= λ r. names_at r >>= names_then name.0
+
+reads_list : (name first : List ℕ) (names : List (List ℕ)) (rest : List Lexeme) → AreNameWords (name ∷ []) → AreNameWords (first ∷ names) → next_is comma rest ≡ None
+    → named_list_at (word name ∷ equals_sign ∷ name_list_spelled (first ∷ names) ++ rest) ≡ Some (name, first ∷ names, rest)
+unfolding named_list_at
+reads_list name first names rest h hs none =
+    then (reads_name name (equals_sign ∷ names_spelled first names ++ rest) h.0) name_then ∙ then (reads_names first names rest hs none) (names_then name)
+
+-- a list that was read is written so
+abbrev IsList : List Lexeme → List ℕ × List (List ℕ) × List Lexeme → Type 0
+IsList ls d = (ls ≡ word d.0 ∷ equals_sign ∷ name_list_spelled d.1 ++ d.2) × (0 < length d.1) × AreNameWords (d.0 ∷ []) × AreNameWords d.1
+
+list_read : (ls : List Lexeme) (d : List ℕ × List (List ℕ) × List Lexeme) → named_list_at ls ≡ Some d → IsList ls d
+unfolding named_list_at
+list_read ls d e =
+    let a = bind_some (name_word_at ls) name_then d e in
+    let b = bind_some (next_is equals_sign a.0.1) (λ r. names_at r >>= names_then a.0.0) d a.2 in
+    let n = bind_some (names_at b.0) (names_then a.0.0) d b.2 in
+    let name = name_read ls a.0 a.1 in
+    let names = names_read b.0 n.0 n.1 in
+    let spelled = name.0 ∙ after (word a.0.0) (next_read equals_sign a.0.1 b.0 b.1 ∙ after equals_sign names.0) in
+    subst (IsList ls) (same_Some (a.0.0, n.0.0, n.0.1) d n.2) (spelled, names.1, (name.1, tt), names.2)
+
 -- ---- components
 
 abbrev start_then : List ℕ → List (List ℕ) → List ℕ × List Lexeme → Option Item
 start_then name modes start = ended (Component name modes start.0) start.1
 
-abbrev modes_then : List ℕ → List (List ℕ) × List Lexeme → Option Item
-modes_then name modes = next_is (word (codes "start")) modes.1 >>= λ r. name_word_at r >>= start_then name modes.0
-
-abbrev component_then : List ℕ × List Lexeme → Option Item
-component_then name = next_is equals_sign name.1 >>= λ r. names_at r >>= modes_then name.0
+abbrev modes_then : List ℕ × List (List ℕ) × List Lexeme → Option Item
+modes_then list = next_is (word (codes "start")) list.2 >>= λ r. name_word_at r >>= start_then list.0 list.1
 
 reads_component : (name : List ℕ) (modes : List (List ℕ)) (start : List ℕ)
     → IsSpelled (Component name modes start)
@@ -62,44 +88,26 @@ reads_component : (name : List ℕ) (modes : List (List ℕ)) (start : List ℕ)
 unfolding component_at
 reads_component name [] start h = absurd (omega (arith, h.0))
 reads_component name (mode ∷ modes) start h =
-    let end = word (codes "start") ∷ word start ∷ [] in
-    then (reads_name name (equals_sign ∷ names_spelled mode modes ++ end) h.1.0) component_then
-    ∙ then (reads_names mode modes end h.2 refl) (modes_then name)
+    then (reads_list name mode modes (word (codes "start") ∷ word start ∷ []) (h.1.0, tt) h.2 refl) modes_then
     ∙ then (reads_name start [] h.1.1.0) (start_then name (mode ∷ modes))
-
--- the parts of a component's line, put together
-component_spelled : (name start : List ℕ) (modes : List (List ℕ)) (ls r1 r2 r3 r4 r5 : List Lexeme)
-    → ls ≡ word name ∷ r1 → r1 ≡ equals_sign ∷ r2 → r2 ≡ name_list_spelled modes ++ r3 → r3 ≡ word (codes "start") ∷ r4 → r4 ≡ word start ∷ r5 → r5 ≡ []
-    → word (codes "component") ∷ ls ≡ line_spelled (Component name modes start)
-component_spelled name start modes ls r1 r2 r3 r4 r5 e1 e2 e3 e4 e5 e6 =
-    let end = e4 ∙ after (word (codes "start")) (e5 ∙ after (word start) e6) in
-    let behind = e2 ∙ after equals_sign (e3 ∙ ap (λ (x : List Lexeme). name_list_spelled modes ++ x) end) in
-    after (word (codes "component")) (e1 ∙ after (word name) behind)
 
 component_written : (ls : List Lexeme) (i : Item) → component_at ls ≡ Some i → IsWritten (word (codes "component") ∷ ls) i
 unfolding component_at
 component_written ls i e =
-    let a = bind_some (name_word_at ls) component_then i e in
-    let b = bind_some (next_is equals_sign a.0.1) (λ r. names_at r >>= modes_then a.0.0) i a.2 in
-    let m = bind_some (names_at b.0) (modes_then a.0.0) i b.2 in
-    let s = bind_some (next_is (word (codes "start")) m.0.1) (λ r. name_word_at r >>= start_then a.0.0 m.0.0) i m.2 in
-    let z = bind_some (name_word_at s.0) (start_then a.0.0 m.0.0) i s.2 in
-    let d = ended_read (Component a.0.0 m.0.0 z.0.0) i z.0.1 z.2 in
-    let name = name_read ls a.0 a.1 in
-    let equals = next_read equals_sign a.0.1 b.0 b.1 in
-    let modes = names_read b.0 m.0 m.1 in
-    let keyword = next_read (word (codes "start")) m.0.1 s.0 s.1 in
+    let a = bind_some (named_list_at ls) modes_then i e in
+    let s = bind_some (next_is (word (codes "start")) a.0.2) (λ r. name_word_at r >>= start_then a.0.0 a.0.1) i a.2 in
+    let z = bind_some (name_word_at s.0) (start_then a.0.0 a.0.1) i s.2 in
+    let d = ended_read (Component a.0.0 a.0.1 z.0.0) i z.0.1 z.2 in
+    let list = list_read ls a.0 a.1 in
     let start = name_read s.0 z.0 z.1 in
-    let w = component_spelled a.0.0 z.0.0 m.0.0 ls a.0.1 b.0 m.0.1 s.0 z.0.1 name.0 equals modes.0 keyword start.0 d.0 in
-    same_item IsWritten (word (codes "component") ∷ ls) (Component a.0.0 m.0.0 z.0.0) i d.1 (w, (modes.1, (name.1, (start.1, tt)), modes.2))
+    let end = next_read (word (codes "start")) a.0.2 s.0 s.1 ∙ after (word (codes "start")) (start.0 ∙ after (word z.0.0) d.0) in
+    let w = after (word (codes "component")) (list.0 ∙ ap (λ (x : List Lexeme). word a.0.0 ∷ equals_sign ∷ name_list_spelled a.0.1 ++ x) end) in
+    same_item IsWritten (word (codes "component") ∷ ls) (Component a.0.0 a.0.1 z.0.0) i d.1 (w, (list.1, (list.2.0, (start.1, tt)), list.3))
 
 -- ---- variables
 
-abbrev values_then : List ℕ → List (List ℕ) × List Lexeme → Option Item
-values_then name values = sensed_at name values.0 values.1
-
-abbrev variable_then : List ℕ × List Lexeme → Option Item
-variable_then name = next_is equals_sign name.1 >>= λ r. names_at r >>= values_then name.0
+abbrev values_then : List ℕ × List (List ℕ) × List Lexeme → Option Item
+values_then list = sensed_at list.0 list.1 list.2
 
 reads_sensed : (name : List ℕ) (values : List (List ℕ)) (sensed : Bool) → sensed_at name values (sensed_spelled sensed) ≡ Some (Variable name values sensed)
 reads_sensed name values true = refl
@@ -114,9 +122,7 @@ reads_variable : (name : List ℕ) (values : List (List ℕ)) (sensed : Bool)
 unfolding variable_at
 reads_variable name [] sensed h = absurd (omega (arith, h.0))
 reads_variable name (value ∷ values) sensed h =
-    then (reads_name name (equals_sign ∷ names_spelled value values ++ sensed_spelled sensed) h.1.0) variable_then
-    ∙ then (reads_names value values (sensed_spelled sensed) h.2 (no_comma sensed)) (values_then name)
-    ∙ reads_sensed name (value ∷ values) sensed
+    then (reads_list name value values (sensed_spelled sensed) h.1 h.2 (no_comma sensed)) values_then ∙ reads_sensed name (value ∷ values) sensed
 
 -- a variable is sensed or not
 sensed_read : (name : List ℕ) (values : List (List ℕ)) (ls : List Lexeme) (i : Item) → sensed_at name values ls ≡ Some i → (sensed : Bool) × (ls ≡ sensed_spelled sensed) × (Variable name values sensed ≡ i)
@@ -129,16 +135,11 @@ sensed_read name values (l ∷ ls) i e =
 variable_written : (ls : List Lexeme) (i : Item) → variable_at ls ≡ Some i → IsWritten (word (codes "var") ∷ ls) i
 unfolding variable_at
 variable_written ls i e =
-    let a = bind_some (name_word_at ls) variable_then i e in
-    let b = bind_some (next_is equals_sign a.0.1) (λ r. names_at r >>= values_then a.0.0) i a.2 in
-    let v = bind_some (names_at b.0) (values_then a.0.0) i b.2 in
-    let d = sensed_read a.0.0 v.0.0 v.0.1 i v.2 in
-    let name = name_read ls a.0 a.1 in
-    let equals = next_read equals_sign a.0.1 b.0 b.1 in
-    let values = names_read b.0 v.0 v.1 in
-    let behind = equals ∙ after equals_sign (values.0 ∙ ap (λ (x : List Lexeme). name_list_spelled v.0.0 ++ x) d.1) in
-    let w = after (word (codes "var")) (name.0 ∙ after (word a.0.0) behind) in
-    same_item IsWritten (word (codes "var") ∷ ls) (Variable a.0.0 v.0.0 d.0) i d.2 (w, (values.1, (name.1, tt), values.2))
+    let a = bind_some (named_list_at ls) values_then i e in
+    let d = sensed_read a.0.0 a.0.1 a.0.2 i a.2 in
+    let list = list_read ls a.0 a.1 in
+    let w = after (word (codes "var")) (list.0 ∙ ap (λ (x : List Lexeme). word a.0.0 ∷ equals_sign ∷ name_list_spelled a.0.1 ++ x) d.1) in
+    same_item IsWritten (word (codes "var") ∷ ls) (Variable a.0.0 a.0.1 d.0) i d.2 (w, (list.1, list.2, list.3))
 
 -- ---- ends
 

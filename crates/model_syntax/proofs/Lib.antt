@@ -42,3 +42,4 @@ pub mod PrintedModel
 mod ChainTests
 mod RepairCodes
 mod RepairsAsBefore
+pub mod IndexedGrowth

@@ -72,9 +72,3 @@ pub variable_named : (old new : Names Subject) (m : PlantModel) (x : Variable) �
     → NamesFit new (with_variable m x)
 variable_named old new m x fit free h q =
     h.0 q ∙ ap (λ (o : Option Subject). cond (bytes_eq x.name q) (Some (subjects.Variable (length m.variables))) o) (fit q) ∙ sym (variable_found m x q free)
-
--- names stand for the same where components and variables are the same
-pub same_names : (m n : PlantModel) (q : List ℕ) → n.components ≡ m.components → n.variables ≡ m.variables → subject_of m q ≡ subject_of n q
-same_names m n q cs vs =
-    ap (λ (xs : List Component). or_else (option_map subjects.Component (position (λ c. bytes_eq c.name q) xs)) (option_map subjects.Variable (position (λ v. bytes_eq v.name q) m.variables))) (sym cs)
-    ∙ ap (λ (xs : List Variable). or_else (option_map subjects.Component (position (λ c. bytes_eq c.name q) n.components)) (option_map subjects.Variable (position (λ v. bytes_eq v.name q) xs))) (sym vs)

@@ -113,31 +113,29 @@ module _ (m : PlantModel) (h : HasNames m) where
   counted : {X : Type 0} (f : X → ℕ) (xs : List X) (k : ℕ) (o : Option X) → slice_get xs k ≡ o → slice_index (map f xs) k ≡ unwrap_or (option_map f o) 0
   counted f xs k o e = sym (unwrap_or-slice_get (map f xs) k 0) ∙ ap (λ x. unwrap_or x 0) (slice_get-map f xs k) ∙ ap (λ x. unwrap_or (option_map f x) 0) e
 
+  -- a subject that is a part of the model with this name and these choices
+  part_there : {X : Type 0} (choices : X → List (List ℕ)) (parts : List X) (k n : ℕ) (s : Subject) (x : X) (name : List ℕ) → slice_get parts k ≡ Some x → name_of m s ≡ name → choices_of m s ≡ choices x
+      → IsTrue (is_name name) → subject_of m name ≡ Some s → AreChoices (choices x) → slice_index (map (λ y. length (choices y)) parts) k ≡ n → IsThere s n
+  part_there choices parts k n s x name e called values word found good counts = record {
+    name = rw called word;
+    subject = ap (subject_of m) called ∙ found;
+    choices = subst AreChoices (sym values) good;
+    count = ap length values ∙ sym (counted (λ y. length (choices y)) parts k (Some x) e) ∙ counts;
+  }
+
   component_there : (c n : ℕ) (o : Option Component) → slice_get m.components c ≡ o → slice_index (mode_counts m) c ≡ n → 0 < n → IsThere (subjects.Component c) n
   component_there c n None e k some = let zero_count = counted (λ (p : Component). length p.modes) m.components c None e in absurd (omega (arith, k, some, zero_count))
   component_there c n (Some x) e k some =
-      let named = named_at (λ (p : Component). p.name) m.components c x e in
-      let same : name_of m (subjects.Component c) ≡ x.name = ap (λ o. option_map_or (λ (p : Component). p.name) o []) e in
-      let modes : choices_of m (subjects.Component c) ≡ x.modes = ap (λ o. option_map_or (λ (p : Component). p.modes) o []) e in
-      record {
-        name = rw same (member_at (λ name. IsTrue (is_name name)) component_names c x.name (all_left (λ name. IsTrue (is_name name)) component_names variable_names h.names.each) named);
-        subject = ap (subject_of m) same ∙ component_found c x e;
-        choices = subst AreChoices (sym modes) (member_at IsComponent m.components c x h.components e).modes;
-        count = ap length modes ∙ sym (counted (λ (p : Component). length p.modes) m.components c (Some x) e) ∙ k;
-      }
+      part_there (λ (p : Component). p.modes) m.components c n (subjects.Component c) x x.name e (ap (λ o. option_map_or (λ (p : Component). p.name) o []) e) (ap (λ o. option_map_or (λ (p : Component). p.modes) o []) e)
+      (member_at (λ name. IsTrue (is_name name)) component_names c x.name (all_left (λ name. IsTrue (is_name name)) component_names variable_names h.names.each) (named_at (λ (p : Component). p.name) m.components c x e))
+      (component_found c x e) (member_at IsComponent m.components c x h.components e).modes k
 
   variable_there : (v n : ℕ) (o : Option Variable) → slice_get m.variables v ≡ o → slice_index (value_counts m) v ≡ n → 0 < n → IsThere (subjects.Variable v) n
   variable_there v n None e k some = let zero_count = counted (λ (q : Variable). length q.values) m.variables v None e in absurd (omega (arith, k, some, zero_count))
   variable_there v n (Some x) e k some =
-      let named = named_at (λ (q : Variable). q.name) m.variables v x e in
-      let same : name_of m (subjects.Variable v) ≡ x.name = ap (λ o. option_map_or (λ (q : Variable). q.name) o []) e in
-      let values : choices_of m (subjects.Variable v) ≡ x.values = ap (λ o. option_map_or (λ (q : Variable). q.values) o []) e in
-      record {
-        name = rw same (member_at (λ name. IsTrue (is_name name)) variable_names v x.name (all_right (λ name. IsTrue (is_name name)) component_names variable_names h.names.each) named);
-        subject = ap (subject_of m) same ∙ variable_found v x e;
-        choices = subst AreChoices (sym values) (member_at (λ (q : Variable). AreChoices q.values) m.variables v x h.variables e);
-        count = ap length values ∙ sym (counted (λ (q : Variable). length q.values) m.variables v (Some x) e) ∙ k;
-      }
+      part_there (λ (q : Variable). q.values) m.variables v n (subjects.Variable v) x x.name e (ap (λ o. option_map_or (λ (q : Variable). q.name) o []) e) (ap (λ o. option_map_or (λ (q : Variable). q.values) o []) e)
+      (member_at (λ name. IsTrue (is_name name)) variable_names v x.name (all_right (λ name. IsTrue (is_name name)) component_names variable_names h.names.each) (named_at (λ (q : Variable). q.name) m.variables v x e))
+      (variable_found v x e) (member_at (λ (q : Variable). AreChoices q.values) m.variables v x h.variables e) k
 
   pub there : (s : Subject) → 0 < subject_value s (mode_counts m) (value_counts m) → IsThere s (subject_value s (mode_counts m) (value_counts m))
   there (subjects.Component c) some = component_there c _ (slice_get m.components c) refl refl some

@@ -119,6 +119,18 @@ module _ (m : PlantModel) where
               (append_assoc ta (between ∷ tb) further ∙ parts_said-led allowed between (said m a.0) (map (said m) (firsts (b ∷ es)))) refl (omega arith) x.2,
         )
 
+  -- what the word between them makes of a row of parts
+  row_text : (means : List Formula → Formula) (spelled : List Lexeme → List Lexeme) (parts : List Formula) (deep : ℕ) (cs : List Comparison) (tokens : List Lexeme) (fs : List Formula) (d : ℕ)
+      → IsRow spelled parts deep cs tokens fs d → IsText m spelled (means parts) (deep + 1) cs tokens (means fs) (1 + d)
+  row_text means spelled parts deep cs tokens fs d row = record {
+    same = row.same;
+    formula = ap means row.parts;
+    depth = let e = row.depth in omega (arith, e);
+    known = row.known;
+    once = row.once;
+    kinds = row.kinds;
+  }
+
   -- ---- parts joined by `and` and by `or`
 
   pub conjunction_of : (a b : Part) (es : List Part)
@@ -126,34 +138,14 @@ module _ (m : PlantModel) where
   conjunction_of a b es =
       let x = all Factor Conjunction Single And factor_spelled (factor_formula m) factor_depth factor_comparisons conjunction_spelled (conjuncts m) deepest_factor conjunction_comparisons 0 (word (codes "and")) refl
       (λ p rest. refl) (λ p. refl) (λ p. refl) (λ p. refl) (λ r p rest. refl) (λ r p. refl) (λ r p. refl) (λ r p. refl) (λ e. tight m (said m e.0) (printed e.0) e.0 e.1) a b es
-      in (
-        And x.0 x.1,
-        record {
-          same = x.2.same;
-          formula = ap (λ fs. roll-Formula (Formula-F.All fs)) x.2.parts;
-          depth = let e = x.2.depth in omega (arith, e);
-          known = x.2.known;
-          once = x.2.once;
-          kinds = x.2.kinds;
-        },
-      )
+      in (And x.0 x.1, row_text (λ fs. roll-Formula (Formula-F.All fs)) _ _ _ _ _ _ _ x.2)
 
   pub disjunction_of : (a b : Part) (es : List Part)
       → DisjunctionText m (parts_said 1 (word (codes "or")) (map (said m) (firsts (a ∷ b ∷ es)))) (roll-Formula (Formula-F.Any (firsts (a ∷ b ∷ es)))) (1 + deepest 1 (map printed (firsts (a ∷ b ∷ es))))
   disjunction_of a b es =
       let x = all Conjunction Disjunction Case Or conjunction_spelled (conjunction_formula m) conjunction_depth conjunction_comparisons disjunction_spelled (disjuncts m) deepest_case disjunction_comparisons 1 (word (codes "or")) refl
       (λ p rest. refl) (λ p. refl) (λ p. refl) (λ p. refl) (λ r p rest. refl) (λ r p. refl) (λ r p. refl) (λ r p. refl) (λ e. in_case m (said m e.0) (printed e.0) e.0 e.1) a b es
-      in (
-        Or x.0 x.1,
-        record {
-          same = x.2.same;
-          formula = ap (λ fs. roll-Formula (Formula-F.Any fs)) x.2.parts;
-          depth = let e = x.2.depth in omega (arith, e);
-          known = x.2.known;
-          once = x.2.once;
-          kinds = x.2.kinds;
-        },
-      )
+      in (Or x.0 x.1, row_text (λ fs. roll-Formula (Formula-F.Any fs)) _ _ _ _ _ _ _ x.2)
 
   -- two sides with a word between them
   module _ (a b : Part) (between : Lexeme) (kind : is_of_kind between.0 between.1 ≡ true) (join : Disjunction → Disjunction → Whole) (means : Formula → Formula → Formula)

@@ -37,14 +37,11 @@ module _ (m : PlantModel) (h : HasNames m) (rules : All (IsFormula m) m.rules) (
     abbrev n : PlantModel
     n = with_rules front
 
-    named : HasNames n
-    named = record { names = h.names; components = h.components; variables = h.variables }
-
     sound : IsFormula n f
     sound = let s = All-head (IsFormula m) f rest (all_right (IsFormula m) front (f ∷ rest) (subst (All (IsFormula m)) (sym e) rules)) in record { fits = s.fits; shallow = s.shallow }
 
     read : IsReadAs n (formula_said m f) f
-    read = formula_read n named f sound
+    read = formula_read n (record { names = h.names; components = h.components; variables = h.variables }) f sound
 
     room : nat_le MAX_RULES (length front) ≡ false
     room = let a = ap length e in let b = length-append front (f ∷ rest) in lt-leb MAX_RULES (length front) (omega (arith, a, b, few))

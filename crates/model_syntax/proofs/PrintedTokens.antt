@@ -119,13 +119,15 @@ formulas_go_on m t u v w k allowed text items item h is e f g =
     (parts_go_on t u v w k allowed text (said m item) (map (said m) (drop (suc k) items)) e f
     (ap (λ xs. with_tokens t (parts_from k allowed text (map (said m) xs))) (sym here) ∙ g))
 
-pub implies_said : (m : PlantModel) (f a b : Formula) → f ≡ Implies a b → formula_said m f ≡ part_said 2 (said m a) ++ word (codes "implies") ∷ part_said 2 (said m b)
+pub implies_said : (m : PlantModel) (f x y a b : Formula) → f ≡ Implies x y → a ≡ x → b ≡ y → formula_said m f ≡ part_said 2 (said m a) ++ word (codes "implies") ∷ part_said 2 (said m b)
 unfolding formula.roll-Formula denote.Hole.Carrier.roll
-implies_said m f a b is = ap (formula_said m) is ∙ ap (λ s. s.tokens) (fold-roll-Formula Said (said_step m) (Formula-F.Implies a b))
+implies_said m f x y a b is first second =
+    ap (formula_said m) (is ∙ ap (λ z. Implies z y) (sym first) ∙ ap (λ z. Implies a z) (sym second)) ∙ ap (λ s. s.tokens) (fold-roll-Formula Said (said_step m) (Formula-F.Implies a b))
 
-pub iff_said : (m : PlantModel) (f a b : Formula) → f ≡ Iff a b → formula_said m f ≡ part_said 2 (said m a) ++ word (codes "iff") ∷ part_said 2 (said m b)
+pub iff_said : (m : PlantModel) (f x y a b : Formula) → f ≡ Iff x y → a ≡ x → b ≡ y → formula_said m f ≡ part_said 2 (said m a) ++ word (codes "iff") ∷ part_said 2 (said m b)
 unfolding formula.roll-Formula denote.Hole.Carrier.roll
-iff_said m f a b is = ap (formula_said m) is ∙ ap (λ s. s.tokens) (fold-roll-Formula Said (said_step m) (Formula-F.Iff a b))
+iff_said m f x y a b is first second =
+    ap (formula_said m) (is ∙ ap (λ z. Iff z y) (sym first) ∙ ap (λ z. Iff a z) (sym second)) ∙ ap (λ s. s.tokens) (fold-roll-Formula Said (said_step m) (Formula-F.Iff a b))
 
 -- two parts with a word between them were put there
 pub linked_done : (t u v w : Draft) (ls rest whole : List Lexeme) (l : Lexeme) → u ≡ with_tokens t ls → v ≡ with_token u l → w ≡ with_tokens v rest → whole ≡ ls ++ l ∷ rest → w ≡ with_tokens t whole

@@ -1,5 +1,5 @@
 -- Codes and the rules of repairs.
-use Rattle.std.proofs.Common.{◌≡◌, ◌==◌, ◌&&◌, ◌⊎◌, ℕ, zero, suc, Bool, true, false, not, List, [], ◌∷◌, ◌++◌, Contains, refl, sym, ap, subst, ◌∙◌, inl, inr}
+use Rattle.std.proofs.Common.{◌||◌, ◌≡◌, ◌==◌, ◌&&◌, ◌⊎◌, ℕ, zero, suc, Bool, true, false, not, List, [], ◌∷◌, ◌++◌, Contains, refl, sym, ap, subst, ◌∙◌, inl, inr}
 use Rattle.std.specs.List.{list_any, slice_index}
 use Rattle.std.proofs.lemmas.Bool.{cases_Bool, cases_eq, both_ways, and_parts, and_from, eqb-true, eq-eqb, or_parts, or_from, or_cases, not-true, not_from_false, false_from_ne_true}
 use Rattle.std.proofs.lemmas.List.Elements.{All-contains, Contains-push_cases, Contains-append_left, Contains-append_right}
@@ -10,7 +10,7 @@ use Rattle.cca_base.specs.Model.{WellFormed, IsNext, RepairChain, RepairsFit, Me
 use Rattle.cca_base.proofs.Members.{all_from, contains_here}
 use Rattle.cca_base.proofs.NextModes.{repair_of, repair_parts, next_broken}
 use Rattle.cca_base.proofs.Growth.{ordinary_fits}
-use Rattle.model_syntax.specs.Codes.{leads_to, leads_unmarked, leaves_unmarked, mends_elsewhere, is_move_into_broken, is_repair_into_broken, is_into_broken, is_unmarked_exit, mends_twice, is_repair_cycle, stands_in_chain}
+use Rattle.model_syntax.specs.Codes.{leads_to, mends_elsewhere, is_move_into_broken, is_repair_into_broken, is_into_broken, is_unmarked_exit, mends_twice, is_repair_cycle, stands_in_chain}
 use Rattle.model_syntax.proofs.ChainTests.{to_chain, chains_are_tested}
 
 pub any_some : {X : Type 0} (p : X → Bool) (xs : List X) (y : X) → Contains xs y → p y ≡ true → list_any p xs ≡ true
@@ -57,22 +57,15 @@ module _ (m : PlantModel) (w : WellFormed m) (x : Move) where
     move_into : is_move_into_broken m.moves x ≡ false
     move_into = (or_parts (is_move_into_broken m.moves x) _ into).0
 
-    none_leads : (y : Move) → Contains m.moves y → y.component ≡ c → y.target ≡ x.source → y.repair ≡ true
-    none_leads y among own target = elim (cases_Bool y.repair) [
+    -- where no ordinary move has this end in the mode that x repairs, a move that has it is a repair
+    only_repairs : (end : Move → ℕ) → ((not x.repair && is_broken m.moves c (end x)) || (x.repair && list_any (λ y. not y.repair && (y.component == c && end y == x.source)) m.moves)) ≡ false
+        → (y : Move) → Contains m.moves y → y.component ≡ c → end y ≡ x.source → y.repair ≡ true
+    only_repairs end none y among own there = elim (cases_Bool y.repair) [
       | inl marked ↦ marked
       | inr plain ↦
-          let free = and_false x.repair _ (or_parts (not x.repair && is_broken m.moves c x.target) _ move_into).1 repair in
-          absurd (both_ways (list_any (leads_unmarked c x.source) m.moves) free (any_some (leads_unmarked c x.source) m.moves y among
-          (and_from (not y.repair) _ (not_from_false y.repair plain) (and_from (y.component == c) (y.target == x.source) (eq-eqb y.component c own) (eq-eqb y.target x.source target)))))
-    ]
-
-    none_leaves : (y : Move) → Contains m.moves y → y.component ≡ c → y.source ≡ x.source → y.repair ≡ true
-    none_leaves y among own source = elim (cases_Bool y.repair) [
-      | inl marked ↦ marked
-      | inr plain ↦
-          let free = and_false x.repair _ (or_parts (not x.repair && is_broken m.moves c x.source) _ exit).1 repair in
-          absurd (both_ways (list_any (leaves_unmarked c x.source) m.moves) free (any_some (leaves_unmarked c x.source) m.moves y among
-          (and_from (not y.repair) _ (not_from_false y.repair plain) (and_from (y.component == c) (y.source == x.source) (eq-eqb y.component c own) (eq-eqb y.source x.source source)))))
+          let free = and_false x.repair _ (or_parts (not x.repair && is_broken m.moves c (end x)) _ none).1 repair in
+          absurd (both_ways (list_any (λ y. not y.repair && (y.component == c && end y == x.source)) m.moves) free (any_some (λ y. not y.repair && (y.component == c && end y == x.source)) m.moves y among
+          (and_from (not y.repair) _ (not_from_false y.repair plain) (and_from (y.component == c) (end y == x.source) (eq-eqb y.component c own) (eq-eqb (end y) x.source there)))))
     ]
 
     -- earlier repairs of the same mode lead where x does
@@ -192,14 +185,14 @@ module _ (m : PlantModel) (w : WellFormed m) (x : Move) where
         | inr same ↦ sym (ap (λ (z : Move). z.repair) same) ∙ repair
         | inl old ↦ elim (broken_after y.component y.target broken) [
           | inl before ↦ All-contains (λ z. is_broken m.moves z.component z.target ≡ true → z.repair ≡ true) m.moves y w.repairs.only_repairs_enter old before
-          | inr now ↦ let mine = repair_parts y.component y.target x now in none_leads y old (sym mine.1) (sym mine.2)
+          | inr now ↦ let mine = repair_parts y.component y.target x now in only_repairs (λ z. z.target) move_into y old (sym mine.1) (sym mine.2)
         ]
       ]);
       only_repairs_leave = all_from (λ y. is_broken later y.component y.source ≡ true → y.repair ≡ true) later (λ y among broken. elim (Contains-push_cases m.moves x y among) [
         | inr same ↦ sym (ap (λ (z : Move). z.repair) same) ∙ repair
         | inl old ↦ elim (broken_after y.component y.source broken) [
           | inl before ↦ All-contains (λ z. is_broken m.moves z.component z.source ≡ true → z.repair ≡ true) m.moves y w.repairs.only_repairs_leave old before
-          | inr now ↦ let mine = repair_parts y.component y.source x now in none_leaves y old (sym mine.1) (sym mine.2)
+          | inr now ↦ let mine = repair_parts y.component y.source x now in only_repairs (λ z. z.source) exit y old (sym mine.1) (sym mine.2)
         ]
       ]);
     }
@@ -247,18 +240,23 @@ module _ (m : PlantModel) (x : Move) (rest : List Move) (h : RepairsFit m.versio
   chain_whole d a b (suc n) p =
       (p.0, record { repair = p.1.repair; of_model = there p.1.repair p.1.of_model; mends = p.1.mends; target = p.1.target }, chain_whole d p.0 b n p.2)
 
-  not_move_into : is_move_into_broken m.moves x ≡ false
-  not_move_into = or_from (not x.repair && is_broken m.moves x.component x.target) _
-      (no_and (not x.repair) (is_broken m.moves x.component x.target) (λ plain broken.
-      both_ways x.repair (not-true x.repair plain) (enters x here (broken_whole x.component x.target broken))))
-      (no_and x.repair (list_any (leads_unmarked x.component x.source) m.moves) (λ repair some.
-      let found = Any-from_list_any (leads_unmarked x.component x.source) m.moves some in
+  -- where only repairs have an end in a broken mode: an ordinary move has none, and neither has one before a repair that breaks the mode
+  no_ordinary : (end : Move → ℕ) → ((y : Move) → Contains whole y → is_broken whole y.component (end y) ≡ true → y.repair ≡ true)
+      → ((not x.repair && is_broken m.moves x.component (end x)) || (x.repair && list_any (λ y. not y.repair && (y.component == x.component && end y == x.source)) m.moves)) ≡ false
+  no_ordinary end repairs = or_from (not x.repair && is_broken m.moves x.component (end x)) _
+      (no_and (not x.repair) (is_broken m.moves x.component (end x)) (λ plain broken.
+      both_ways x.repair (not-true x.repair plain) (repairs x here (broken_whole x.component (end x) broken))))
+      (no_and x.repair (list_any (λ y. not y.repair && (y.component == x.component && end y == x.source)) m.moves) (λ repair some.
+      let found = Any-from_list_any (λ y. not y.repair && (y.component == x.component && end y == x.source)) m.moves some in
       let y : Move = found.1 in
-      let parts = and_parts (not y.repair) (y.component == x.component && y.target == x.source) found.4 in
-      let ends = and_parts (y.component == x.component) (y.target == x.source) parts.1 in
-      both_ways y.repair (not-true y.repair parts.0) (enters y (there y (found.0, found.2, found.3))
-      (subst (λ d. is_broken whole d y.target ≡ true) (sym (eqb-true y.component x.component ends.0))
-      (subst (λ t. is_broken whole x.component t ≡ true) (sym (eqb-true y.target x.source ends.1)) (own_source repair))))))
+      let parts = and_parts (not y.repair) (y.component == x.component && end y == x.source) found.4 in
+      let ends = and_parts (y.component == x.component) (end y == x.source) parts.1 in
+      both_ways y.repair (not-true y.repair parts.0) (repairs y (there y (found.0, found.2, found.3))
+      (subst (λ d. is_broken whole d (end y) ≡ true) (sym (eqb-true y.component x.component ends.0))
+      (subst (λ t. is_broken whole x.component t ≡ true) (sym (eqb-true (end y) x.source ends.1)) (own_source repair))))))
+
+  not_move_into : is_move_into_broken m.moves x ≡ false
+  not_move_into = no_ordinary (λ y. y.target) enters
 
   -- in the first version the source of a repair is no target
   no_target : m.version ≡ 1 → x.repair ≡ true → (y : Move) → Contains whole y → leads_to x.component x.source y ≡ true → ⊥
@@ -281,17 +279,7 @@ module _ (m : PlantModel) (x : Move) (rest : List Move) (h : RepairsFit m.versio
   ])
 
   not_exit : is_unmarked_exit m.moves x ≡ false
-  not_exit = or_from (not x.repair && is_broken m.moves x.component x.source) _
-      (no_and (not x.repair) (is_broken m.moves x.component x.source) (λ plain broken.
-      both_ways x.repair (not-true x.repair plain) (leaves x here (broken_whole x.component x.source broken))))
-      (no_and x.repair (list_any (leaves_unmarked x.component x.source) m.moves) (λ repair some.
-      let found = Any-from_list_any (leaves_unmarked x.component x.source) m.moves some in
-      let y : Move = found.1 in
-      let parts = and_parts (not y.repair) (y.component == x.component && y.source == x.source) found.4 in
-      let ends = and_parts (y.component == x.component) (y.source == x.source) parts.1 in
-      both_ways y.repair (not-true y.repair parts.0) (leaves y (there y (found.0, found.2, found.3))
-      (subst (λ d. is_broken whole d y.source ≡ true) (sym (eqb-true y.component x.component ends.0))
-      (subst (λ t. is_broken whole x.component t ≡ true) (sym (eqb-true y.source x.source ends.1)) (own_source repair))))))
+  not_exit = no_ordinary (λ y. y.source) leaves
 
   not_twice : mends_twice m.moves x ≡ false
   not_twice = no_and x.repair (list_any (mends_elsewhere x.component x.source x.target) m.moves) (λ repair some.

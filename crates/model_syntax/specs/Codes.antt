@@ -44,6 +44,10 @@ ends_of m ends = as_component (subject_of m ends.name) >>= λ c. value_of m (sub
 abbrev pub list_passes : List ℕ → List (List ℕ) → Bool
 list_passes name choices = is_long name || (list_any is_long choices || nat_lt MAX_CHOICES (length choices))
 
+-- the least code of a new name and its modes or values, where there may be no room for one more
+abbrev pub names_code : PlantModel → List ℕ → List (List ℕ) → Bool → Option ℕ
+names_code m name choices full = least ((NAME_REPEATED, is_taken m name || has_twice choices) ∷ (LIMIT, list_passes name choices || full) ∷ [])
+
 -- the least code of a line that declares a component
 unfoldable pub component_code : PlantModel → List ℕ → List (List ℕ) → List ℕ → Option ℕ
 component_code m name modes start = least ((NAME_UNKNOWN, not (is_some (start_mode modes start)))
@@ -56,8 +60,7 @@ new_component name modes start = record { name = name; modes = modes; start = un
 
 -- the least code of a line that declares a variable
 unfoldable pub variable_code : PlantModel → List ℕ → List (List ℕ) → Option ℕ
-variable_code m name values = least ((NAME_REPEATED, is_taken m name || has_twice values)
-    ∷ (LIMIT, list_passes name values || nat_le MAX_VARIABLES (length m.variables)) ∷ [])
+variable_code m name values = names_code m name values (nat_le MAX_VARIABLES (length m.variables))
 
 -- the variable that a line declares
 abbrev pub new_variable : List ℕ → List (List ℕ) → Bool → Variable
@@ -142,6 +145,10 @@ is_repair_cycle m x = not (m.version == 1) && (x.repair && stands_in_chain m x.c
 -- what may be wrong with a move between modes that are known
 abbrev pub move_faults : PlantModel → Move → List (ℕ × Bool)
 move_faults m x = (AMBIGUOUS, is_ambiguous m.moves x) ∷ (INTO_BROKEN, is_into_broken m x) ∷ (UNMARKED_EXIT, is_unmarked_exit m.moves x) ∷ (TWO_MENDS, mends_twice m.moves x) ∷ (REPAIR_CYCLE, is_repair_cycle m x) ∷ []
+
+-- the least code of a move between modes that are known, and whose guard is sound
+abbrev pub sound_move_code : PlantModel → Move → List ℕ → Option ℕ
+sound_move_code m x command = least ((LIMIT, is_long command || nat_le MAX_MOVES (length m.moves)) ∷ move_faults m x)
 
 -- the least code of a line with a move or a repair, whose ends may be unknown
 abbrev pub move_code_from : PlantModel → Bool → Option (ℕ × ℕ × ℕ) → List ℕ → Whole → Option ℕ

@@ -49,15 +49,21 @@ header_of second digits ls = do
 unfoldable pub header_at : List Lexeme → Option Item
 header_at ls = or_else (header_of false (codes "1") ls) (header_of true (codes "2") ls)
 
--- behind the word component: a name, its modes, the word start, and a mode
+-- a name, an equals sign and a list of names, and what stands behind
+unfoldable pub named_list_at : List Lexeme → Option (List ℕ × List (List ℕ) × List Lexeme)
+named_list_at ls = do
+  name ← name_word_at ls
+  r ← next_is (symbol (codes "=")) name.1
+  names ← names_at r
+  Some (name.0, names.0, names.1)
+
+-- behind the word component: a name with its modes, and the start mode
 unfoldable pub component_at : List Lexeme → Option Item
 component_at ls = do
-  name ← name_word_at ls
-  r1 ← next_is (symbol (codes "=")) name.1
-  modes ← names_at r1
-  r2 ← next_is (word (codes "start")) modes.1
-  start ← name_word_at r2
-  ended (Component name.0 modes.0 start.0) start.1
+  list ← named_list_at ls
+  r ← next_is (word (codes "start")) list.2
+  start ← name_word_at r
+  ended (Component list.0 list.1 start.0) start.1
 
 -- behind the values of a variable: nothing, or the word sensed
 abbrev pub sensed_at : List ℕ → List (List ℕ) → List Lexeme → Option Item
@@ -67,10 +73,8 @@ sensed_at name values (l ∷ ls) = if is_lexeme (word (codes "sensed")) l then e
 -- behind the word var: a name and its values
 unfoldable pub variable_at : List Lexeme → Option Item
 variable_at ls = do
-  name ← name_word_at ls
-  r ← next_is (symbol (codes "=")) name.1
-  values ← names_at r
-  sensed_at name.0 values.0 values.1
+  list ← named_list_at ls
+  sensed_at list.0 list.1 list.2
 
 -- behind the word move or repair: a component, its modes, a command, and all that stands behind when
 unfoldable pub move_at : Bool → List Lexeme → Option Item

@@ -1,25 +1,24 @@
 -- What a line makes of a model.
-use Rattle.std.specs.Prelude.{◌≡◌, ◌≢◌, ◌<◌, ◌^◌, ◌⊎◌, ℕ, Bool, true, false, not, ◌&&◌, ◌||◌, nat_le, length, List, [], ◌∷◌, map, Option, Some, None, Result, Ok, Err}
+use Rattle.std.specs.Prelude.{◌≡◌, ◌≢◌, ◌<◌, ◌^◌, ◌⊎◌, ℕ, Bool, true, false, not, ◌&&◌, length, List, [], ◌∷◌, map, Option, Some, None, Result, Ok, Err}
 use Rattle.std.specs.List.{list_all}
 use Rattle.std.specs.Fmt.{decimal}
 use Rattle.cca_base.specs.declared.events.Detail.TheVariants.{Nothing}
 use Rattle.cca_base.specs.declared.events.Stop.{Stop}
 use Rattle.cca_base.specs.declared.events.Stop.TheVariants as stops
 use Rattle.cca_base.specs.declared.model.Move.{Move}
-use Rattle.cca_base.specs.declared.limits.TheConstants.{MAX_MOVES}
 use Rattle.cca_base.specs.PlantModel.{PlantModel}
 use Rattle.cca_base.specs.Names.{is_word, is_reserved}
 use Rattle.cca_base.specs.Model.{in_second, with_component, with_variable, with_rule, with_move, with_failure}
 use Rattle.text_base.specs.Tokens.{Tok, tokens_of}
 use Rattle.text_base.specs.Lexemes.{Lexeme, lexeme}
-use Rattle.cca_base.specs.declared.codes.TheConstants.{MALFORMED, LIMIT}
+use Rattle.cca_base.specs.declared.codes.TheConstants.{MALFORMED}
 use Rattle.model_syntax.specs.declared.line_end.LineEnd.{LineEnd}
 use Rattle.model_syntax.specs.declared.line_end.LineEnd.TheVariants as ends
 use Rattle.formula_syntax.specs.Grammar.{Whole, spelling}
 use Rattle.formula_syntax.specs.Meanings.{whole_formula}
 use Rattle.model_syntax.specs.Items.{Ends, Item, item_of}
 use Rattle.model_syntax.specs.Items as items
-use Rattle.model_syntax.specs.Codes.{least, is_long, move_faults, ends_of, component_code, new_component, variable_code, new_variable, rule_code, move_code, new_move, with_named, failure_code, new_failure}
+use Rattle.model_syntax.specs.Codes.{sound_move_code, ends_of, component_code, new_component, variable_code, new_variable, rule_code, move_code, new_move, with_named, failure_code, new_failure}
 
 -- a word that is not reserved, however long it is
 abbrev pub is_bare_name : List ℕ → Bool
@@ -59,7 +58,7 @@ move_next m repair ends command text = unless (move_code m repair ends command t
 
 -- a move whose guard is sound, unless a code applies
 abbrev pub taken_move : PlantModel → Move → List ℕ → Next
-taken_move m x command = unless (least ((LIMIT, is_long command || nat_le MAX_MOVES (length m.moves)) ∷ move_faults m x)) (with_move (with_named m command) x)
+taken_move m x command = unless (sound_move_code m x command) (with_move (with_named m command) x)
 
 -- the model with the failure
 abbrev pub with_fall : PlantModel → Option (ℕ × ℕ × ℕ) → ℕ → PlantModel

@@ -1,12 +1,11 @@
 //! What may be wrong with a move.
 
-ghost use Rattle.std.specs.Prelude.{◌≡◌, ◌∷◌, ◌++◌, [], ◌||◌, nat_le, length};
+ghost use Rattle.std.specs.Prelude.{◌≡◌, ◌&&◌, ◌||◌, not};
 ghost use Rattle.std.specs.List.{list_any};
-ghost use Rattle.cca_base.specs.Model.{WellFormed};
-ghost use Rattle.model_syntax.specs.Codes.{least, is_long, leads_to, leads_unmarked, leaves_unmarked, is_ambiguous, is_move_into_broken, is_repair_into_broken, is_into_broken, is_repair_cycle, is_unmarked_exit, mends_elsewhere, mends_twice, move_faults};
-ghost use Rattle.cca_base.specs.declared.codes.TheConstants.{LIMIT as limit_code};
+ghost use Rattle.cca_base.specs.Model.{WellFormed, is_broken};
+ghost use Rattle.model_syntax.specs.Codes.{leads_to, leads_unmarked, leaves_unmarked, is_ambiguous, is_move_into_broken, is_repair_into_broken, is_into_broken, is_repair_cycle, is_unmarked_exit, mends_elsewhere, mends_twice, sound_move_code};
 
-use crate::checks::is_long;
+use crate::words::is_long;
 use cca_base::codes::{AMBIGUOUS, INTO_BROKEN, LIMIT, REPAIR_CYCLE, TWO_MENDS, UNMARKED_EXIT};
 use cca_base::{MAX_MOVES, Model, Move};
 
@@ -105,11 +104,7 @@ fn mends_twice(moves: &[Move], x: &Move) -> bool
 
 /// The least code of a move between modes that are known, and whose guard is sound.
 pub fn move_code(model: &Model, x: &Move, command: &[u8]) -> Option<u8>
-    ensures code { result ≡ least ((
-      limit_code,
-      is_long command.now || nat_le MAX_MOVES
-          (length model.now.moves),
-    ) ∷ move_faults model.now x.now) }
+    ensures code { result ≡ sound_move_code model.now x.now command.now }
     ensures well_formed { WellFormed model.now }
 {
     let moves = model.moves().as_slice();

@@ -3,7 +3,7 @@
 ghost use Rattle.std.specs.Prelude.{◌≡◌, List, Some, map, IfOk};
 ghost use Rattle.std.specs.Option.{option_map};
 ghost use Rattle.text_base.specs.Lexemes.{Lexeme, lexeme_of};
-ghost use Rattle.model_syntax.specs.Items.{Item as SpelledItem, IsSpelled, line_spelled, number_at, ends_at, header_of, header_at, component_at, sensed_at, variable_at, move_at, failure_at, item_of, shown_ends, shown_item};
+ghost use Rattle.model_syntax.specs.Items.{Item as SpelledItem, IsSpelled, line_spelled, number_at, ends_at, header_of, header_at, named_list_at, component_at, sensed_at, variable_at, move_at, failure_at, item_of, shown_ends, shown_item};
 ghost use Rattle.text_base.specs.Lists.{ended};
 
 use std::alloc::{AllocError, Global};
@@ -110,6 +110,28 @@ fn header_at<'a, 'b>(tokens: &'b [Token<'a>]) -> Option<Item<'a, 'b>>
     }
 }
 
+/// A name, an equals sign and a list of names, and what stands behind.
+#[tactic(auto, unfolding(crate::specs::Items::named_list_at))]
+fn named_list_at<'a, 'b>(
+    alloc: Global,
+    tokens: &'b [Token<'a>],
+) -> Result<Option<(&'a [u8], Vec<&'a [u8]>, &'b [Token<'a>])>, AllocError>
+    ensures { IfOk result (λ read. option_map (λ r.
+        (r.0.now, map (λ w. w.now) r.1.items, map lexeme_of r.2.now)) read
+        ≡ named_list_at (map lexeme_of tokens.now)) }
+{
+    let Some((name, rest)) = name_word_at(tokens) else {
+        return Ok(None);
+    };
+    let Some(rest) = next_is(Kind::Symbol, b"=", rest) else {
+        return Ok(None);
+    };
+    match names_at(alloc, rest)? {
+        Some((names, rest)) => Ok(Some((name, names, rest))),
+        None => Ok(None),
+    }
+}
+
 #[tactic(auto, unfolding(crate::specs::Items::component_at))]
 fn component_at<'a, 'b>(
     alloc: Global,
@@ -118,13 +140,7 @@ fn component_at<'a, 'b>(
     ensures { IfOk result (λ read.
         option_map shown_item read ≡ component_at (map lexeme_of tokens.now)) }
 {
-    let Some((name, rest)) = name_word_at(tokens) else {
-        return Ok(None);
-    };
-    let Some(rest) = next_is(Kind::Symbol, b"=", rest) else {
-        return Ok(None);
-    };
-    let Some((modes, rest)) = names_at(alloc, rest)? else {
+    let Some((name, modes, rest)) = named_list_at(alloc, tokens)? else {
         return Ok(None);
     };
     let Some(rest) = next_is(Kind::Word, b"start", rest) else {
@@ -174,16 +190,10 @@ fn variable_at<'a, 'b>(
     ensures { IfOk result (λ read.
         option_map shown_item read ≡ variable_at (map lexeme_of tokens.now)) }
 {
-    let Some((name, rest)) = name_word_at(tokens) else {
-        return Ok(None);
-    };
-    let Some(rest) = next_is(Kind::Symbol, b"=", rest) else {
-        return Ok(None);
-    };
-    let Some((values, rest)) = names_at(alloc, rest)? else {
-        return Ok(None);
-    };
-    Ok(sensed_at(name, values, rest))
+    match named_list_at(alloc, tokens)? {
+        Some((name, values, rest)) => Ok(sensed_at(name, values, rest)),
+        None => Ok(None),
+    }
 }
 
 #[tactic(auto, unfolding(crate::specs::Items::move_at))]

@@ -2,9 +2,9 @@
 //! the least code that applies, and then the reader is as it was. What is printed of a model is read as that model.
 #![tactic(auto)]
 
-mod additions;
 mod checks;
 mod faults;
+mod indexed_model;
 mod item;
 mod item_lines;
 mod laws;
@@ -19,6 +19,7 @@ mod print_names;
 mod printer;
 mod shorter;
 mod token_lines;
+mod words;
 
 pub use formula_syntax::{read_formula, texts_are_read_one_way};
 pub use item::lines_are_spelled;

@@ -1,45 +1,38 @@
 //! What a line makes of the model, form by form.
 
-ghost use Rattle.std.specs.Prelude.{◌≡◌, ◌∷◌, ◌<◌, ◌||◌, true, not, length, map, nat_le};
-ghost use Rattle.std.specs.List.{list_all};
+ghost use Rattle.std.specs.Prelude.{◌≡◌, ◌<◌, ◌||◌, not, length, map, nat_le};
 ghost use Rattle.text_base.specs.Lexemes.{lexeme_of};
 ghost use Rattle.cca_base.specs.Model.{WellFormed};
-ghost use Rattle.formula_syntax.specs.Lookups.{NamesFit};
 ghost use Rattle.model_syntax.specs.Items.{shown_ends};
-ghost use Rattle.model_syntax.specs.Lines.{is_bare_name, AnswersModel, component_next, variable_next, rule_next, failure_next, IsNextOfText, IsNextOfNumber};
+ghost use Rattle.model_syntax.specs.Items as items;
+ghost use Rattle.model_syntax.specs.Lines.{HasBareNames, AnswersModel, component_next, variable_next, rule_next, failure_next, IsNextOfText, IsNextOfNumber};
 ghost use Rattle.model_syntax.specs.Codes.{is_cost};
 
-use crate::additions::{add_component, add_variable};
 use crate::checks::{component_code, ends_of, variable_code};
+use crate::indexed_model::IndexedModel;
 use crate::item::Ends;
 use cca_base::codes::{LIMIT, MALFORMED, NAME_UNKNOWN};
-use cca_base::{Failure, MAX_COST, MAX_FAILURES, MAX_RULES, Model, Name, Stop, Subject};
+use cca_base::{Failure, MAX_COST, MAX_FAILURES, MAX_RULES, Stop};
 use formula_syntax::{ReadPart, read_strictly};
-use indexmap::IndexMap;
 use std::alloc::Global;
 use text_base::{Token, read_number};
 
 /// A line that declares a component.
 pub fn component_line(
     alloc: Global,
-    model: &mut Model,
-    names: &mut IndexMap<Name, Subject>,
+    model: &mut IndexedModel,
     name: &[u8],
     modes: &[&[u8]],
     start: &[u8],
 ) -> Result<(), Stop>
-    requires fit { NamesFit names.old model.old }
-    requires words { list_all is_bare_name (name.now ∷ map (λ w. w.now) modes.now) ≡ true }
-    ensures next { AnswersModel result model.old model.new (λ next.
+    requires { HasBareNames (items.Component name.now (map (λ w. w.now) modes.now) start.now) }
+    ensures { AnswersModel result model.old model.new (λ next.
         next ≡ component_next model.old name.now (map (λ w. w.now) modes.now) start.now) }
-    ensures fit { NamesFit names.new model.new }
-    ensures commands { model.new.commands ≡ model.old.commands }
-    ensures moves { model.new.moves ≡ model.old.moves }
 {
-    match component_code(model, names, name, modes, start) {
+    match component_code(model, name, modes, start) {
         Some(code) => Err(Stop::refused(code)),
         None => {
-            add_component(alloc, model, names, name, modes, start)?;
+            model.add_component(alloc, name, modes, start)?;
             Ok(())
         }
     }
@@ -48,45 +41,30 @@ pub fn component_line(
 /// A line that declares a variable.
 pub fn variable_line(
     alloc: Global,
-    model: &mut Model,
-    names: &mut IndexMap<Name, Subject>,
+    model: &mut IndexedModel,
     name: &[u8],
     values: &[&[u8]],
     sensed: bool,
 ) -> Result<(), Stop>
-    requires fit { NamesFit names.old model.old }
-    requires words { list_all is_bare_name (name.now ∷ map (λ w. w.now) values.now) ≡ true }
-    requires some { 0 < length values.now }
-    ensures next { AnswersModel result model.old model.new (λ next.
+    requires { HasBareNames (items.Variable name.now (map (λ w. w.now) values.now) sensed) }
+    ensures { AnswersModel result model.old model.new (λ next.
         next ≡ variable_next model.old name.now (map (λ w. w.now) values.now) sensed) }
-    ensures fit { NamesFit names.new model.new }
-    ensures commands { model.new.commands ≡ model.old.commands }
-    ensures moves { model.new.moves ≡ model.old.moves }
 {
-    match variable_code(model, names, name, values) {
+    match variable_code(model, name, values) {
         Some(code) => Err(Stop::refused(code)),
         None => {
-            add_variable(alloc, model, names, name, values, sensed)?;
+            model.add_variable(alloc, name, values, sensed)?;
             Ok(())
         }
     }
 }
 
 /// A line with a rule.
-pub fn rule_line(
-    alloc: Global,
-    model: &mut Model,
-    names: &IndexMap<Name, Subject>,
-    tokens: &[Token],
-) -> Result<(), Stop>
-    requires fit { NamesFit names.now model.old }
-    ensures next { AnswersModel result model.old model.new
+pub fn rule_line(alloc: Global, model: &mut IndexedModel, tokens: &[Token]) -> Result<(), Stop>
+    ensures { AnswersModel result model.old model.new
         (IsNextOfText (map lexeme_of tokens.now) (rule_next model.old)) }
-    ensures fit { NamesFit names.now model.new }
-    ensures commands { model.new.commands ≡ model.old.commands }
-    ensures moves { model.new.moves ≡ model.old.moves }
 {
-    match read_strictly(alloc, model, names, tokens)? {
+    match read_strictly(alloc, &model.named(), tokens)? {
         None => Err(Stop::refused(MALFORMED)),
         Some(ReadPart::Faulty(code)) => Err(Stop::refused(code)),
         Some(ReadPart::Sound { formula, depth: _ }) => {
@@ -100,11 +78,11 @@ pub fn rule_line(
 }
 
 /// Whether the model takes no more rules.
-fn has_full_rules(model: &Model) -> bool
+fn has_full_rules(model: &IndexedModel) -> bool
     ensures value { result ≡ nat_le MAX_RULES (length model.now.rules) }
     ensures well_formed { WellFormed model.now }
 {
-    model.rules().len() >= MAX_RULES
+    model.model().rules().len() >= MAX_RULES
 }
 
 /// Whether a failure may have the cost.
@@ -115,33 +93,24 @@ fn is_cost(cost: u128) -> bool
 }
 
 /// Whether a failure may not have the cost, or the model takes no more failures.
-fn failure_passes(model: &Model, cost: u128) -> bool
+fn failure_passes(model: &IndexedModel, cost: u128) -> bool
     ensures value { result ≡ (not (is_cost cost) || nat_le MAX_FAILURES
         (length model.now.failures)) }
     ensures well_formed { WellFormed model.now }
 {
-    let full = model.failures().len() >= MAX_FAILURES;
+    let full = model.model().failures().len() >= MAX_FAILURES;
     !is_cost(cost) || full
 }
 
 /// A line with a failure.
-pub fn failure_line(
-    model: &mut Model,
-    names: &IndexMap<Name, Subject>,
-    ends: Ends,
-    cost: &[u8],
-) -> Result<(), Stop>
-    requires fit { NamesFit names.now model.old }
-    ensures next { AnswersModel result model.old model.new
+pub fn failure_line(model: &mut IndexedModel, ends: Ends, cost: &[u8]) -> Result<(), Stop>
+    ensures { AnswersModel result model.old model.new
         (IsNextOfNumber cost.now (failure_next model.old (shown_ends ends.entry))) }
-    ensures fit { NamesFit names.now model.new }
-    ensures commands { model.new.commands ≡ model.old.commands }
-    ensures moves { model.new.moves ≡ model.old.moves }
 {
     let Some(cost) = read_number(cost) else {
         return Err(Stop::refused(MALFORMED));
     };
-    let Some((component, source, target)) = ends_of(model, names, ends) else {
+    let Some((component, source, target)) = ends_of(model, ends) else {
         return Err(Stop::refused(NAME_UNKNOWN));
     };
     if failure_passes(model, cost) {

@@ -8,6 +8,7 @@ ghost use Rattle.text_base.specs.Tokens.{IsOfItsKind, token_view};
 ghost use Rattle.formula_syntax.specs.Lookups.{NamesFit};
 ghost use Rattle.model_syntax.specs.Lines.{AnswersLine, LineLeads, LeadsByTokens};
 
+use crate::indexed_model::IndexedModel;
 use crate::line_end::LineEnd;
 use crate::token_lines::tokens_line;
 use cca_base::codes::MALFORMED;
@@ -20,26 +21,19 @@ use text_base::{Token, TokenFault, tokens};
 #[derive(Drop)]
 pub struct ModelReader {
     alloc: Global,
-    model: Model,
-    names: IndexMap<Name, Subject>,
-    commands: IndexMap<Name, u16>,
+    model: IndexedModel,
     begun: bool,
 }
 
 impl std::marker::Model for ModelReader {
-    ghost use Rattle.formula_syntax.specs.Lookups.{NamesFit};
     ghost use Rattle.model_syntax.specs.Lines.{ModelSoFar};
-    ghost use Rattle.model_syntax.specs.Reader.{IsRead};
-    ghost use Rattle.cca_base.specs.contracts.formula.Formula as formula;
-    ghost use Rattle.std.specs.Coded.{codes};
+    ghost use Rattle.cca_base.specs.Coded.{model_codes};
 
     ghost Value = { ModelSoFar };
 
-    ghost coded = { Prim.hlevel (codes, formula.the_row.coded) };
+    ghost coded = { Prim.hlevel model_codes };
 
     ghost view = { λ r. record { model = r.model; begun = r.begun } };
-
-    ghost invariant = { λ r. IsRead r.model r.names r.commands };
 }
 
 impl ModelReader {
@@ -49,9 +43,7 @@ impl ModelReader {
     {
         Ok(ModelReader {
             alloc,
-            model: Model::empty(alloc, 1),
-            names: IndexMap::new(alloc),
-            commands: IndexMap::new(alloc),
+            model: IndexedModel::empty(alloc),
             begun: false,
         })
     }
@@ -60,7 +52,7 @@ impl ModelReader {
     pub fn model(&self) -> &Model
         ensures { result.now ≡ self.now.model }
     {
-        &self.model
+        self.model.model()
     }
 
     /// Reads one line, without its end. After a refusal, or out of memory, the reader is as before.
@@ -79,14 +71,7 @@ impl ModelReader {
         ensures { AnswersLine result self.old self.new
             (LeadsByTokens self.old (Ok (map token_view tokens.now))) }
     {
-        tokens_line(
-            self.alloc,
-            &mut self.model,
-            &mut self.names,
-            &mut self.commands,
-            &mut self.begun,
-            tokens,
-        )
+        tokens_line(self.alloc, &mut self.model, &mut self.begun, tokens)
     }
 
     /// The model of all lines.
@@ -104,13 +89,6 @@ impl ModelReader {
         ensures complete { IsComplete result.0 }
         ensures fit { NamesFit result.1 result.0 }
     {
-        let ModelReader {
-            alloc: _,
-            model,
-            names,
-            commands: _,
-            begun: _,
-        } = self;
-        (model, names)
+        self.model.finish()
     }
 }

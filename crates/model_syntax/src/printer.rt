@@ -35,10 +35,11 @@ impl Printer {
         }
     }
 
-    /// Puts a word behind what is there.
+    /// Puts a word or a number behind what is there.
     #[tactic(auto, unfolding(crate::specs::Drafts::with_token))]
-    pub fn word(&mut self, text: &[u8]) -> Result<(), AllocError>
-        ensures { OnOk result (self.new ≡ with_token self.old (word text.now)) }
+    fn plain_token(&mut self, text: &[u8]) -> Result<(), AllocError>
+        ensures word { OnOk result (self.new ≡ with_token self.old (word text.now)) }
+        ensures number { OnOk result (self.new ≡ with_token self.old (number text.now)) }
     {
         if self.plain {
             self.text.push(b' ')?;
@@ -48,17 +49,18 @@ impl Printer {
         Ok(())
     }
 
+    /// Puts a word behind what is there.
+    pub fn word(&mut self, text: &[u8]) -> Result<(), AllocError>
+        ensures { OnOk result (self.new ≡ with_token self.old (word text.now)) }
+    {
+        self.plain_token(text)
+    }
+
     /// Puts a number behind what is there, by its digits.
-    #[tactic(auto, unfolding(crate::specs::Drafts::with_token))]
     pub fn number(&mut self, digits: &[u8]) -> Result<(), AllocError>
         ensures { OnOk result (self.new ≡ with_token self.old (number digits.now)) }
     {
-        if self.plain {
-            self.text.push(b' ')?;
-        }
-        self.text.extend_from_slice(digits)?;
-        self.plain = true;
-        Ok(())
+        self.plain_token(digits)
     }
 
     /// Puts a symbol behind what is there.

@@ -1,10 +1,11 @@
 -- Least costs of failures one by one, and sums of what the components cost.
-use Rattle.std.proofs.Common.{◌≡◌, ◌≢◌, ◌<◌, ◌≤◌, ◌+◌, ◌*◌, ℕ, List, [], ◌∷◌, ◌++◌, length, sum, min, slice_index, Option, Some, None, Contains, refl, sym, ap, subst, ◌∙◌, inl, inr, arith}
+use Rattle.std.proofs.Common.{◌≡◌, ◌≢◌, ◌<◌, ◌≤◌, ◌+◌, ◌*◌, ℕ, List, [], ◌∷◌, ◌++◌, length, sum, min, slice_get, slice_index, Option, Some, None, Contains, refl, sym, ap, subst, ◌∙◌, inl, inr, arith}
 use Rattle.std.proofs.lemmas.Bool.{cases_lt, cases_eq}
 use Rattle.std.proofs.lemmas.List.{length-append, get_or_append_left}
 use Rattle.std.proofs.Math.Seq.{get_or-append_seam}
 use Rattle.std.proofs.lemmas.List.Elements.{All-contains, Contains-append_left, Contains-push, Contains-push_cases}
 use Rattle.std.proofs.lemmas.List.Sums.{sum_by-append}
+use Rattle.list_laws.proofs.Places.{value_at}
 use Rattle.cca_base.specs.declared.limits.TheConstants.{MAX_COST}
 use Rattle.cca_base.specs.declared.model.Failure.{Failure}
 use Rattle.cca_base.specs.PlantModel.{PlantModel}
@@ -132,6 +133,8 @@ sum_more m good s nominal s2 count total cost h more = record {
   cheap = omega (arith, h.cheap, change_cheap m good count (slice_index s count) (slice_index nominal count) (slice_index s2 count) cost more);
 }
 
--- what holds of three numbers holds of equal ones
-pub along : (P : ℕ → ℕ → ℕ → Type 0) (a b d x y z : ℕ) → a ≡ x → b ≡ y → d ≡ z → P x y z → P a b d
-along P a b d x y z e f g h = subst (λ n. P n b d) (sym e) (subst (λ n. P x n d) (sym f) (subst (P x y) (sym g) h))
+-- what holds of the numbers that stand at a place of three lists holds of the entries there
+pub along : (P : ℕ → ℕ → ℕ → Type 0) (s t u : List ℕ) (i x y z : ℕ) → slice_get s i ≡ Some x → slice_get t i ≡ Some y → slice_get u i ≡ Some z → P x y z
+    → P (slice_index s i) (slice_index t i) (slice_index u i)
+along P s t u i x y z e f g h =
+    subst (λ n. P n (slice_index t i) (slice_index u i)) (sym (value_at s i x e)) (subst (λ n. P x n (slice_index u i)) (sym (value_at t i y f)) (subst (P x y) (sym (value_at u i z g)) h))

@@ -1,5 +1,5 @@
 -- What a checker keeps fits its model after each event, and what is pending stays unmirrored.
-use Rattle.std.proofs.Common.{◌≡◌, ◌≢◌, ◌<◌, ◌||◌, ℕ, false, IsTrue, List, [], length, All, Contains, inl, inr, sym, ap, subst, ◌∙◌, arith}
+use Rattle.std.proofs.Common.{◌≡◌, ◌≢◌, ◌<◌, ◌||◌, ℕ, false, IsTrue, List, [], Option, Some, None, IfSome, length, All, Contains, inl, inr, sym, ap, subst, ◌∙◌, arith}
 use Rattle.std.proofs.lemmas.Bool.{false≢true, cases_eq, ne_eqb}
 use Rattle.std.proofs.lemmas.List.Elements.{All-nil, All-contains}
 use Rattle.std.proofs.lemmas.Option.{slice_get_within}
@@ -16,7 +16,7 @@ use Rattle.cca_base.proofs.Members.{all_from}
 use Rattle.cca_base.proofs.NominalLaws.{moved}
 use Rattle.cca_base.proofs.SetLaws.{has-empty, has-with_number}
 use Rattle.cca_base.proofs.StartLaws.{start_state}
-use Rattle.plan_checker.specs.Checked.{AsGiven}
+use Rattle.trace_laws.specs.Events.{AsGiven}
 use Rattle.plan_checker.specs.Standing.{FitsModel, KeepsPending}
 
 pub start_fits : (m : PlantModel) (ticks : ℕ) → WellFormed m → FitsModel m (start m ticks)
@@ -29,7 +29,7 @@ start_fits m ticks good = record {
   goal = tt;
 }
 
-pub nothing_pending : (x : ExecutiveState) → x.pending ≡ [] → KeepsPending x
+nothing_pending : (x : ExecutiveState) → x.pending ≡ [] → KeepsPending x
 nothing_pending x none = record {
   rising = λ i j d before within. absurd (omega (arith, ap length none, within));
   unmirrored = λ k d within. absurd (omega (arith, ap length none, within));
@@ -66,44 +66,27 @@ module _ (m : PlantModel) (pending : List Pair) (mirrored : ℕ) where
 
 -- ---- events
 
-module _ (m : PlantModel) (good : WellFormed m) where
-  pub event_fits : (x : ExecutiveState) (e : Event) (y : ExecutiveState) → FitsModel m x → MayCome m x.pending x.mirrored e → Changes m AsGiven x e y → FitsModel m y
-  event_fits x (event.Goal pairs) y h may (goal, given, e) = subst (FitsModel m) (sym e) (record {
-    estimate = h.estimate;
-    plant = h.plant;
-    command = h.command;
-    pending = h.pending;
-    mirrored = h.mirrored;
-    goal = subst (All (λ p. HasMode m p.item p.value)) (sym given) may.modes;
-  })
-  event_fits x event.Clear y h may e =
-      subst (FitsModel m) (sym e) (record { estimate = h.estimate; plant = h.plant; command = h.command; pending = h.pending; mirrored = h.mirrored; goal = tt })
-  event_fits x (event.Observe pairs) y h may (both, union, e) = subst (FitsModel m) (sym e) (record {
-    estimate = h.estimate;
-    plant = h.plant;
-    command = h.command;
-    pending = both_values m x.pending x.mirrored pairs both may union h.pending;
-    mirrored = h.mirrored;
-    goal = h.goal;
-  })
-  event_fits x (event.Fault p) y h may e = subst (FitsModel m) (sym e) (record {
-    estimate = h.estimate;
-    plant = moved m x.plant p.item p.value h.plant may;
-    command = h.command;
-    pending = h.pending;
-    mirrored = h.mirrored;
-    goal = h.goal;
-  })
-  event_fits x (event.Mirror v) y h may e = subst (FitsModel m) (sym e) (record {
-    estimate = h.estimate;
-    plant = h.plant;
-    command = h.command;
-    pending = h.pending;
-    mirrored = mirrored_within m x.pending x.mirrored v may h.mirrored;
-    goal = h.goal;
-  })
-  event_fits x event.Reset y h may e = subst (FitsModel m) (sym e) (start_fits m x.ticks good)
-  event_fits x event.Tick y h may e = absurd e
+-- another goal
+wants : (m : PlantModel) (x : ExecutiveState) (goal : Option (List Pair)) → FitsModel m x → IfSome goal (All (λ p. HasMode m p.item p.value)) → FitsModel m (record x { goal = goal })
+wants m x goal h modes = record { estimate = h.estimate; plant = h.plant; command = h.command; pending = h.pending; mirrored = h.mirrored; goal = modes }
+
+-- other observations pending, and other variables mirrored
+knows : (m : PlantModel) (x : ExecutiveState) (pending : List Pair) (mirrored : ℕ) → FitsModel m x → All (λ p. HasValue m p.item p.value) pending
+    → ((v : ℕ) → IsTrue (has mirrored v) → v < length m.variables) → FitsModel m (record x { pending = pending; mirrored = mirrored })
+knows m x pending mirrored h values within = record { estimate = h.estimate; plant = h.plant; command = h.command; pending = values; mirrored = within; goal = h.goal }
+
+pub event_fits : (m : PlantModel) (x : ExecutiveState) (e : Event) (y : ExecutiveState) → WellFormed m → FitsModel m x → MayCome m x.pending x.mirrored e → Changes m AsGiven x e y → FitsModel m y
+event_fits m x (event.Goal pairs) y good h may (goal, given, e) =
+    subst (FitsModel m) (sym e) (wants m x (Some goal) h (subst (All (λ p. HasMode m p.item p.value)) (sym given) may.modes))
+event_fits m x event.Clear y good h may e = subst (FitsModel m) (sym e) (wants m x None h tt)
+event_fits m x (event.Observe pairs) y good h may (both, union, e) =
+    subst (FitsModel m) (sym e) (knows m x both x.mirrored h (both_values m x.pending x.mirrored pairs both may union h.pending) h.mirrored)
+event_fits m x (event.Fault p) y good h may e = subst (FitsModel m) (sym e)
+    (record { estimate = h.estimate; plant = moved m x.plant p.item p.value h.plant may; command = h.command; pending = h.pending; mirrored = h.mirrored; goal = h.goal })
+event_fits m x (event.Mirror v) y good h may e =
+    subst (FitsModel m) (sym e) (knows m x x.pending (with_number x.mirrored v) h h.pending (mirrored_within m x.pending x.mirrored v may h.mirrored))
+event_fits m x event.Reset y good h may e = subst (FitsModel m) (sym e) (start_fits m x.ticks good)
+event_fits m x event.Tick y good h may e = absurd e
 
 pub event_keeps : (m : PlantModel) (x : ExecutiveState) (e : Event) (y : ExecutiveState) → KeepsPending x → MayCome m x.pending x.mirrored e → Changes m AsGiven x e y → KeepsPending y
 event_keeps m x (event.Goal pairs) y h may (goal, given, e) = subst KeepsPending (sym e) (record { rising = h.rising; unmirrored = h.unmirrored })

@@ -72,7 +72,7 @@ module _ (m : PlantModel) (s : List ℕ) (f : Formula) (state : IsState m s) whe
   holds_follows holds t is extends = subst (λ z. Holds m z f) (sym (same_state s t (is.full ∙ sym state.full) extends)) holds
 
 -- what stands in a state is a mode of the model
-pub stands_mode : (m : PlantModel) (s : List ℕ) (p : Pair) → IsState m s → slice_get s p.item ≡ Some p.value → HasMode m p.item p.value
+stands_mode : (m : PlantModel) (s : List ℕ) (p : Pair) → IsState m s → slice_get s p.item ≡ Some p.value → HasMode m p.item p.value
 stands_mode m s p state stands =
     subst (HasMode m p.item) (value_at s p.item p.value stands) (state.modes p.item (subst (λ n. p.item < n) state.full (slice_get_within s p.item p.value stands)))
 

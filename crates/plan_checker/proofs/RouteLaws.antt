@@ -23,7 +23,7 @@ use Rattle.plan_checker.specs.declared.reasons.TheConstants.{STEP, PLAN, GOAL, B
 use Rattle.plan_checker.specs.declared.verdict.Verdict.{Verdict}
 use Rattle.plan_checker.specs.declared.verdict.Verdict.TheVariants.{Yes, No}
 use Rattle.plan_checker.specs.Reasons.{OnCommands, ExplainsTick, HasItsWorld, IsPlanFrom, IsWayBack}
-use Rattle.plan_checker.specs.Routes.{IsRouteVerdict, IsSendVerdict, LeadsHome}
+use Rattle.plan_checker.specs.Routes.{IsRouteVerdict, IsSendVerdict, EndsInMending}
 use Rattle.plan_checker.specs.Steps.{NoStep, NoRun}
 
 -- ---- what is printed, by what it is
@@ -44,6 +44,10 @@ module _ (m : PlantModel) (x : ExecutiveState) (report : TickReport) (cost : ℕ
       subst (λ shown. P shown world) (sym shows) (subst (P (Estimated cost state reply)) (sym has) h)
 
 -- ---- the route
+
+-- a step from a copy of the state is one from the state
+pub step_from : {m : PlantModel} {copy state : State} {k : ℕ} {next : List ℕ} → copy ≡ state → Step m copy.modes k next → Step m state.modes k next
+step_from {m = m} {k = k} {next = next} same step = subst (λ (l : State). Step m l.modes k next) same step
 
 -- a plan and a way back
 abbrev pub route : PlanEnd → PlanEnd → Route
@@ -85,16 +89,16 @@ module _ (m : PlantModel) (s : List ℕ) (goal : Option (List Pair)) (k : ℕ) (
         pub no_goal : (IfSome goal (Extends there) → ⊥) → IsRouteVerdict m s goal k (route (Plan ks) back) (No GOAL)
         no_goal fails = inr (inr (inl (refl, (mid, step), plan_from, λ h. fails (h there runs))))
 
-        home : (end : PlanEnd) → OnCommands end (LeadsHome m s there) → OnCommands end (IsWayBack m s ks)
-        home (Plan ls) leads = λ last r. subst (λ t. LeadsHome m s t ls) (ends_there last r) leads
+        home : (end : PlanEnd) → OnCommands end (EndsInMending m s there) → OnCommands end (IsWayBack m s ks)
+        home (Plan ls) leads = λ last r. subst (λ t. EndsInMending m s t ls) (ends_there last r) leads
         home Long leads = tt
 
-        from_home : (end : PlanEnd) → OnCommands end (IsWayBack m s ks) → OnCommands end (LeadsHome m s there)
+        from_home : (end : PlanEnd) → OnCommands end (IsWayBack m s ks) → OnCommands end (EndsInMending m s there)
         from_home (Plan ls) way = way there runs
         from_home Long way = tt
 
-        pub not_home : IfSome goal (Extends there) → (OnCommands back (LeadsHome m s there) → ⊥) → IsRouteVerdict m s goal k (route (Plan ks) back) (No BACK)
+        pub not_home : IfSome goal (Extends there) → (OnCommands back (EndsInMending m s there) → ⊥) → IsRouteVerdict m s goal k (route (Plan ks) back) (No BACK)
         not_home stands fails = inr (inr (inr (refl, (mid, step), plan_from, goal_stands stands, λ h. fails (from_home back h))))
 
-        pub all_pass : IfSome goal (Extends there) → OnCommands back (LeadsHome m s there) → IsRouteVerdict m s goal k (route (Plan ks) back) Yes
+        pub all_pass : IfSome goal (Extends there) → OnCommands back (EndsInMending m s there) → IsRouteVerdict m s goal k (route (Plan ks) back) Yes
         all_pass stands leads = ((mid, step), plan_from, goal_stands stands, home back leads)

@@ -1,5 +1,5 @@
 -- What a checker keeps fits its model after a yes.
-use Rattle.std.proofs.Common.{◌<◌, ℕ, List, length, refl, sym, subst}
+use Rattle.std.proofs.Common.{◌<◌, ◌+◌, ℕ, Bool, true, List, [], Option, None, length, refl, sym, subst}
 use Rattle.std.specs.Prelude.{IfSome}
 use Rattle.std.proofs.lemmas.List.Elements.{All-nil, All-contains}
 use Rattle.cca_base.specs.declared.cube.Pair.{Pair}
@@ -27,32 +27,20 @@ module _ (m : PlantModel) (good : WellFormed m) where
   sent_within s Achieved h = tt
   sent_within s (Unreachable c mode) h = tt
 
+  -- another estimate, plant and command, with nothing pending
+  counts : (x : ExecutiveState) (estimate plant : List ℕ) (command : Option ℕ) (holding : Bool) (ticks : ℕ) → FitsModel m x → IsState m estimate → IsState m plant
+      → IfSome command (λ k. k < length m.commands)
+      → FitsModel m (record x { estimate = estimate; command = command; plant = plant; pending = []; holding = holding; ticks = ticks })
+  counts x estimate plant command holding ticks h state stands within =
+      record { estimate = state; plant = stands; command = within; pending = All-nil (λ (p : Pair). HasValue m p.item p.value); mirrored = h.mirrored; goal = h.goal }
+
   pub takes_fit : (x : ExecutiveState) (shown : Shown) (y : ExecutiveState) → FitsModel m x → OnEstimate shown (λ cost s reply. IsState m s)
       → OnSend shown (λ s k. (next : List ℕ) × Step m s k next) → Takes m x shown y → FitsModel m y
-  takes_fit x (Estimated cost state reply) y h is step takes = subst (FitsModel m) (sym takes.after) (record {
-    estimate = is;
-    plant = (nominal_is_free m x.plant takes.plant (command_of reply) good h.plant takes.moves).state;
-    command = sent_within state.modes reply step;
-    pending = All-nil (λ (p : Pair). HasValue m p.item p.value);
-    mirrored = h.mirrored;
-    goal = h.goal;
-  })
-  takes_fit x Unexplained y h is step e = subst (FitsModel m) (sym e) (record {
-    estimate = h.estimate;
-    plant = h.plant;
-    command = tt;
-    pending = All-nil (λ (p : Pair). HasValue m p.item p.value);
-    mirrored = h.mirrored;
-    goal = h.goal;
-  })
-  takes_fit x Holding y h is step e = subst (FitsModel m) (sym e) (record {
-    estimate = h.estimate;
-    plant = h.plant;
-    command = tt;
-    pending = All-nil (λ (p : Pair). HasValue m p.item p.value);
-    mirrored = h.mirrored;
-    goal = h.goal;
-  })
+  takes_fit x (Estimated cost state reply) y h is step takes = subst (FitsModel m) (sym takes.after)
+      (counts x state.modes takes.plant (command_of reply) x.holding (x.ticks + 1) h is (nominal_is_free m x.plant takes.plant (command_of reply) good h.plant takes.moves).state
+      (sent_within state.modes reply step))
+  takes_fit x Unexplained y h is step e = subst (FitsModel m) (sym e) (counts x x.estimate x.plant None true (x.ticks + 1) h h.estimate h.plant tt)
+  takes_fit x Holding y h is step e = subst (FitsModel m) (sym e) (counts x x.estimate x.plant None x.holding (x.ticks + 1) h h.estimate h.plant tt)
 
 -- a printed estimate that has a cost is a state
 is_state : (m : PlantModel) (x : ExecutiveState) (shown : Shown) → OnEstimate shown (λ cost s reply. Costs m x.estimate x.command s cost) → OnEstimate shown (λ cost s reply. IsState m s)

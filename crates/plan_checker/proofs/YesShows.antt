@@ -137,17 +137,19 @@ module _ (m : PlantModel) (good : WellFormed m) (x : ExecutiveState) (tick : ℕ
   safety (Estimated cost state (Send k)) world None v = absurd (false≢true ((v 1).line refl).route)
   safety (Estimated cost state (Send k)) world (Some r) v = sent cost state k world r.plan r.back v
 
-module _ (m : PlantModel) (good : WellFormed m) (x : ExecutiveState) (t : Printed) (v : IsVerdict m x t Yes) where
-  pub shows_successor : OnEstimate t.report.shown (λ cost s reply. SomeAreSeen m x) → ShowsSuccessor m x t
-  shows_successor seen = successor m good x t.report.tick t.report.shown t.world t.route v seen
-
-  pub shows_reply : ShowsReply x t
-  shows_reply = replies m good x t.report.tick t.report.shown t.world t.route v
-
-  pub shows_safety : ShowsSafety m x t
-  shows_safety = safety m good x t.report.tick t.report.shown t.world t.route v
-
 -- what holds where the verdict is yes holds on yes
-pub on_yes : (P : Type 0) (v : Verdict) → (v ≡ Yes → P) → OnYes v P
+on_yes : (P : Type 0) (v : Verdict) → (v ≡ Yes → P) → OnYes v P
 on_yes P Yes h = h refl
 on_yes P (No reason) h = tt
+
+-- on yes all three are shown, of the state that is seen from outside
+pub yes_shows : (m : PlantModel) (x z : ExecutiveState) (t : Printed) (verdict : Verdict) → WellFormed m → x ≡ z → IsVerdict m x t verdict
+    → OnYes verdict (OnEstimate t.report.shown (λ cost s reply. SomeAreSeen m x))
+    → OnYes verdict (ShowsSuccessor m z t) × OnYes verdict (ShowsReply z t) × OnYes verdict (ShowsSafety m z t)
+yes_shows m x z t verdict good same v seen =
+    let is : verdict ≡ Yes → IsVerdict m x t Yes = λ e. subst (IsVerdict m x t) e v in
+    subst (λ (y : ExecutiveState). OnYes verdict (ShowsSuccessor m y t) × OnYes verdict (ShowsReply y t) × OnYes verdict (ShowsSafety m y t)) same (
+      on_yes (ShowsSuccessor m x t) verdict (λ e. successor m good x t.report.tick t.report.shown t.world t.route (is e) (subst (λ (w : Verdict). OnYes w (OnEstimate t.report.shown (λ cost s reply. SomeAreSeen m x))) e seen)),
+      on_yes (ShowsReply x t) verdict (λ e. replies m good x t.report.tick t.report.shown t.world t.route (is e)),
+      on_yes (ShowsSafety m x t) verdict (λ e. safety m good x t.report.tick t.report.shown t.world t.route (is e)),
+    )

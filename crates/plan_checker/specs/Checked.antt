@@ -19,10 +19,6 @@ use Rattle.plan_checker.specs.declared.verdict.Verdict.{Verdict}
 use Rattle.plan_checker.specs.declared.verdict.Verdict.TheVariants.{Yes, No}
 use Rattle.plan_checker.specs.Reasons.{Printed, OnEstimate, OnSend}
 
--- a goal is kept as it is given
-abbrev pub AsGiven : List Pair → List Pair → Type 0
-AsGiven pairs goal = goal ≡ pairs
-
 -- from x to y, a tick with an estimate: it and the command are the last printed ones, and the command moves the plant
 pub record TakesEstimate (m : PlantModel) (x : ExecutiveState) (s : List ℕ) (reply : Reply) (y : ExecutiveState) : Type 0 where
   pub plant : List ℕ

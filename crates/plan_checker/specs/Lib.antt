@@ -1,4 +1,5 @@
 pub mod Standing
+pub mod Ticks
 pub mod Reasons
 pub mod Steps
 pub mod Checked

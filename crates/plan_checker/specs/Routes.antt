@@ -29,8 +29,8 @@ IsRouteVerdict m s goal k r = IsVerdictOn
     (OnCommands r.plan (λ ks. OnCommands r.back (IsWayBack m s ks)))
 
 -- the commands lead from a state to a mending of another
-abbrev pub LeadsHome : PlantModel → List ℕ → List ℕ → List ℕ → Type 0
-LeadsHome m s there ls = (last : List ℕ) × Run m there ls last × Mending m s last
+abbrev pub EndsInMending : PlantModel → List ℕ → List ℕ → List ℕ → Type 0
+EndsInMending m s there ls = (last : List ℕ) × Run m there ls last × Mending m s last
 
 -- the verdict on the tests of a sent command
 abbrev pub IsSendVerdict : PlantModel → ExecutiveState → Printed → Verdict → Type 0

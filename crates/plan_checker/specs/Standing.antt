@@ -6,20 +6,6 @@ use Rattle.cca_base.specs.Model.{HasMode}
 use Rattle.cca_base.specs.Sets.{has}
 use Rattle.cca_base.specs.State.{IsState, HasValue}
 use Rattle.cca_base.specs.Trace.{ExecutiveState}
-use Rattle.plan_checker.specs.declared.standing.Standing.{Standing}
-
--- what the code keeps, as the state of an executive
-abbrev pub state_of : Standing → ExecutiveState
-state_of x = record {
-  estimate = x.estimate.modes;
-  command = x.command;
-  plant = x.plant.modes;
-  pending = x.pending.pairs;
-  mirrored = x.mirrored;
-  goal = x.goal;
-  holding = x.holding;
-  ticks = x.ticks;
-}
 
 -- what is pending rises, and is not mirrored
 pub record KeepsPending (x : ExecutiveState) : Type 0 where

@@ -1,12 +1,12 @@
 //! Whether what is shown fits the goal, and whether the checker is holding.
 
 ghost use Rattle.std.specs.Prelude.{◌≡◌, ◌↔◌, IsTrue, Contains};
+ghost use Rattle.std.specs.Option.{option_map};
 ghost use Rattle.plan_checker.specs.Reasons.{FitsGoal, AnswersGoal};
-ghost use Rattle.plan_checker.specs.Standing.{state_of};
 
-use crate::standing::Standing;
 use crate::states::stand_in;
-use cca_base::{List, Pair, Reply, Shown, State};
+use cca_base::{Goal, Pair, Reply, Shown, State};
+use trace_laws::Standing;
 
 /// Whether the pair is one of these.
 fn is_among(pairs: &[Pair], pair: Pair) -> bool
@@ -21,14 +21,14 @@ fn is_among(pairs: &[Pair], pair: Pair) -> bool
 }
 
 /// Whether the reply fits the goal in force.
-fn fits_goal(state: &State, goal: &Option<List<Pair>>, reply: Reply) -> bool
-    ensures { IsTrue result ↔ FitsGoal state.now.modes goal.now reply }
+fn fits_goal(state: &State, goal: &Option<Goal>, reply: Reply) -> bool
+    ensures { IsTrue result ↔ FitsGoal state.now.modes (option_map (λ g. g.pairs) goal.now) reply }
 {
     let modes = state.modes.as_slice();
     let Some(goal) = goal else {
         return reply == Reply::Idle;
     };
-    let pairs = goal.as_slice();
+    let pairs = goal.pairs.as_slice();
     match reply {
         Reply::Idle => false,
         Reply::Achieved => stand_in(pairs, modes),
@@ -42,7 +42,7 @@ fn fits_goal(state: &State, goal: &Option<List<Pair>>, reply: Reply) -> bool
 
 /// Whether holding is shown exactly while holding, and a reply fits the goal.
 pub(crate) fn answers_goal(standing: &Standing, shown: &Shown) -> bool
-    ensures { IsTrue result ↔ AnswersGoal (state_of standing.now) shown.now }
+    ensures { IsTrue result ↔ AnswersGoal standing.now shown.now }
 {
     match shown {
         Shown::Estimated { state, reply, .. } => {

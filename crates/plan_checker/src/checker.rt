@@ -3,19 +3,19 @@
 ghost use Rattle.std.specs.Prelude.{◌≡◌, IfOk, OnOk, OnErr};
 ghost use Rattle.cca_base.specs.State.{HasWorlds};
 ghost use Rattle.cca_base.specs.Trace.{start, MayCome, Changes};
-ghost use Rattle.trace_laws.specs.Events.{IsTick};
-ghost use Rattle.plan_checker.specs.Checked.{AsGiven, TakesAtYes, OnYes, ShowsSuccessor, ShowsReply, ShowsSafety};
+ghost use Rattle.trace_laws.specs.Events.{AsGiven, IsTick};
+ghost use Rattle.plan_checker.specs.Checked.{TakesAtYes, OnYes, ShowsSuccessor, ShowsReply, ShowsSafety};
 ghost use Rattle.plan_checker.specs.Reasons.{printed, IsVerdict};
 ghost use Rattle.plan_checker.specs.Standing.{FitsModel};
 
-use crate::events::change;
 use crate::judged::judge;
-use crate::standing::{Standing, start};
+use crate::rules::rules_of;
 use crate::taken::take;
+use crate::tick::Tick;
 use crate::verdict::Verdict;
 use cca_base::{Event, Model, Route, Seen, TickReport, VarSet, World};
-use consistency::Worlds;
 use std::alloc::{AllocError, Global};
+use trace_laws::Standing;
 
 /// A checker of the ticks that are printed for a model's events. A contract sees it as where an executive stands, with the last
 /// printed estimate and command.
@@ -27,16 +27,16 @@ pub struct Checker {
 
 impl std::marker::Model for Checker {
     ghost use Rattle.cca_base.specs.Trace.{ExecutiveState};
-    ghost use Rattle.plan_checker.specs.Standing.{state_of, KeepsPending};
+    ghost use Rattle.plan_checker.specs.Standing.{KeepsPending};
     ghost use Rattle.std.specs.Coded.{codes};
 
     ghost Value = { ExecutiveState };
 
     ghost coded = { Prim.hlevel codes };
 
-    ghost view = { λ c. state_of c.standing };
+    ghost view = { λ c. c.standing };
 
-    ghost invariant = { λ c. KeepsPending (state_of c.standing) };
+    ghost invariant = { λ c. KeepsPending c.standing };
 }
 
 impl Checker {
@@ -46,7 +46,7 @@ impl Checker {
         ensures fits { IfOk result (FitsModel model.now) }
     {
         let _moves = model.moves();
-        let standing = start(alloc, model, 0)?;
+        let standing = Standing::start(alloc, model, 0)?;
         Ok(Checker { alloc, standing })
     }
 
@@ -60,7 +60,7 @@ impl Checker {
         ensures err { OnErr result (self.new ≡ self.old) }
     {
         let _moves = model.moves();
-        change(self.alloc, model, &mut self.standing, event)?;
+        self.standing.change(self.alloc, model, event)?;
         Ok(())
     }
 
@@ -68,14 +68,14 @@ impl Checker {
     pub fn pending(&self) -> &Seen
         ensures { result.now.pairs ≡ self.now.pending }
     {
-        &self.standing.pending
+        &self.standing.known.pending
     }
 
     /// The mirrored variables.
     pub fn mirrored(&self) -> VarSet
         ensures { result ≡ self.now.mirrored }
     {
-        self.standing.mirrored
+        self.standing.known.mirrored
     }
 
     /// How many ticks had a yes.
@@ -113,19 +113,15 @@ impl Checker {
             OnYes verdict (ShowsSafety model.now self.old
             (printed report.now world.entry route.entry))) }
     {
-        let _moves = model.moves();
-        let worlds = Worlds::of(self.alloc, model)?;
-        let verdict = judge(
-            self.alloc,
-            model,
-            &worlds,
-            &self.standing,
+        let rules = rules_of(self.alloc, model)?;
+        let tick = Tick {
             report,
             world,
             route,
-        )?;
+        };
+        let verdict = judge(&rules, &self.standing, &tick)?;
         if verdict == Verdict::Yes {
-            take(self.alloc, model, &worlds, &mut self.standing, report)?;
+            take(&rules, &mut self.standing, report)?;
         }
         Ok(verdict)
     }

@@ -4,14 +4,13 @@ ghost use Rattle.std.specs.Prelude.{◌≡◌, ◌↔◌, ◌++◌, ◌∷◌, [
 ghost use Rattle.cca_base.specs.declared.model.Failure.{Failure};
 ghost use Rattle.cca_base.specs.State.{IsState};
 ghost use Rattle.cca_base.specs.Successors.{Costs};
-ghost use Rattle.consistency.specs.Worlds.{AreWorldsOf};
 ghost use Rattle.plan_checker.specs.Costs.{lesser_of, IsLeastCost, IsChangeCost, IsTotal};
 
+use crate::rules::Rules;
 use crate::states::is_state;
 use crate::step::make_nominal;
 use cca_base::{Failure, Model, State};
-use consistency::Worlds;
-use std::alloc::{AllocError, Global};
+use std::alloc::AllocError;
 
 /// The lesser of a cost and one that may be known.
 fn lesser(known: Option<u32>, cost: u32) -> u32
@@ -88,26 +87,23 @@ fn total(model: &Model, from: &State, nominal: &State, to: &State) -> Option<u64
 
 /// Whether the state has this cost from the last one under the command. The error is out of memory.
 pub(crate) fn has_cost(
-    alloc: Global,
-    model: &Model,
-    worlds: &Worlds,
+    rules: &Rules,
     last: &State,
     command: Option<u16>,
     state: &State,
     cost: u64,
 ) -> Result<bool, AllocError>
-    requires of { AreWorldsOf model.now worlds.now }
-    requires last { IsState model.now last.now.modes }
+    requires last { IsState rules.now.model.now last.now.modes }
     ensures { IfOk result (λ b.
-        IsTrue b ↔ Costs model.now last.now.modes command state.now.modes cost) }
+        IsTrue b ↔ Costs rules.now.model.now last.now.modes command state.now.modes cost) }
 {
-    let _moves = model.moves();
-    if !is_state(model, state) {
+    let _moves = rules.model.moves();
+    if !is_state(rules.model, state) {
         return Ok(false);
     }
-    let mut nominal = last.copy(alloc)?;
-    make_nominal(alloc, model, worlds, &mut nominal, command)?;
-    match total(model, last, &nominal, state) {
+    let mut nominal = last.copy(rules.alloc)?;
+    make_nominal(rules, &mut nominal, command)?;
+    match total(rules.model, last, &nominal, state) {
         Some(sum) => Ok(sum == cost),
         None => Ok(false),
     }

@@ -6,32 +6,28 @@ ghost use Rattle.cca_base.specs.Formula.{is_within};
 ghost use Rattle.cca_base.specs.Model.{HasMode, is_broken};
 ghost use Rattle.cca_base.specs.State.{IsState, Follows, Holds};
 ghost use Rattle.cca_base.specs.Steps.{support};
-ghost use Rattle.consistency.specs.Worlds.{AreWorldsOf};
 ghost use Rattle.plan_checker.specs.Steps.{AreSupport, IsNamed};
 
 use crate::known::is_sure;
+use crate::rules::Rules;
 use cca_base::{Cube, Formula, Model, Move, Pair, State};
-use consistency::{Worlds, all_pairs};
+use consistency::all_pairs;
 use std::alloc::{AllocError, Global};
 
 /// Whether the formula is true in every world of every state that extends the modes. The error is out of memory.
-fn follows(
-    alloc: Global,
-    model: &Model,
-    worlds: &Worlds,
-    modes: &Cube,
-    formula: &Formula,
-) -> Result<bool, AllocError>
-    requires of { AreWorldsOf model.now worlds.now }
-    requires modes { All (λ p. HasMode model.now p.item p.value) modes.now }
-    requires formula { IsTrue (is_within (length model.now.components) (length model.now.variables)
-        formula.now) }
-    ensures { IfOk result (λ b. IsTrue b ↔ Follows model.now modes.now formula.now) }
+fn follows(rules: &Rules, modes: &Cube, formula: &Formula) -> Result<bool, AllocError>
+    requires modes { All (λ p. HasMode rules.now.model.now p.item p.value) modes.now }
+    requires formula { IsTrue (is_within (length rules.now.model.now.components)
+        (length rules.now.model.now.variables) formula.now) }
+    ensures { IfOk result (λ b. IsTrue b ↔ Follows rules.now.model.now modes.now formula.now) }
 {
     if is_sure(formula, modes.as_slice(), true) {
         return Ok(true);
     }
-    match worlds.find_counter(alloc, model, modes, formula)? {
+    match rules
+        .worlds
+        .find_counter(rules.alloc, rules.model, modes, formula)?
+    {
         Some(_counter) => Ok(false),
         None => Ok(true),
     }
@@ -66,38 +62,26 @@ fn support_of(
 }
 
 /// Whether the guard follows from what the move may lean on in the state. The error is out of memory.
-pub(crate) fn guard_follows(
-    alloc: Global,
-    model: &Model,
-    worlds: &Worlds,
-    state: &State,
-    step: &Move,
-) -> Result<bool, AllocError>
-    requires of { AreWorldsOf model.now worlds.now }
-    requires state { IsState model.now state.now.modes }
-    requires named { IsNamed model.now state.now.modes step.now.command step.now }
+pub(crate) fn guard_follows(rules: &Rules, state: &State, step: &Move) -> Result<bool, AllocError>
+    requires state { IsState rules.now.model.now state.now.modes }
+    requires named { IsNamed rules.now.model.now state.now.modes step.now.command step.now }
     ensures { IfOk result (λ b.
-        IsTrue b ↔ Follows model.now (support model.now state.now.modes step.now) step.now.guard) }
+        IsTrue b ↔ Follows rules.now.model.now
+        (support rules.now.model.now state.now.modes step.now) step.now.guard) }
 {
-    let _moves = model.moves();
-    let modes = support_of(alloc, model, state, step.component)?;
-    follows(alloc, model, worlds, &modes, &step.guard)
+    let _moves = rules.model.moves();
+    let modes = support_of(rules.alloc, rules.model, state, step.component)?;
+    follows(rules, &modes, &step.guard)
 }
 
 /// Whether the guard is true in every world of the state. The error is out of memory.
-pub(crate) fn guard_holds(
-    alloc: Global,
-    model: &Model,
-    worlds: &Worlds,
-    state: &State,
-    step: &Move,
-) -> Result<bool, AllocError>
-    requires of { AreWorldsOf model.now worlds.now }
-    requires state { IsState model.now state.now.modes }
-    requires of_model { Contains model.now.moves step.now }
-    ensures { IfOk result (λ b. IsTrue b ↔ Holds model.now state.now.modes step.now.guard) }
+pub(crate) fn guard_holds(rules: &Rules, state: &State, step: &Move) -> Result<bool, AllocError>
+    requires state { IsState rules.now.model.now state.now.modes }
+    requires of_model { Contains rules.now.model.now.moves step.now }
+    ensures { IfOk result (λ b.
+        IsTrue b ↔ Holds rules.now.model.now state.now.modes step.now.guard) }
 {
-    let _moves = model.moves();
-    let modes = all_pairs(alloc, model, state)?;
-    follows(alloc, model, worlds, &modes, &step.guard)
+    let _moves = rules.model.moves();
+    let modes = all_pairs(rules.alloc, rules.model, state)?;
+    follows(rules, &modes, &step.guard)
 }

@@ -3,109 +3,76 @@
 ghost use Rattle.std.specs.Prelude.{◌↔◌, IsTrue, IfOk, IfSome};
 ghost use Rattle.std.specs.Option.{option_copied};
 ghost use Rattle.cca_base.specs.State.{HasWorlds};
-ghost use Rattle.consistency.specs.Worlds.{AreWorldsOf};
 ghost use Rattle.plan_checker.specs.Checked.{OnYes};
-ghost use Rattle.plan_checker.specs.Reasons.{printed, OnEstimate, HasItsLines, HasItsCost, HasItsWorld, IsWritten, IsVerdict};
+ghost use Rattle.plan_checker.specs.Reasons.{OnEstimate, HasItsLines, HasItsCost, HasItsWorld, IsWritten, IsVerdict};
 ghost use Rattle.plan_checker.specs.Routes.{IsSendVerdict, IsAnswerVerdict};
-ghost use Rattle.plan_checker.specs.Standing.{state_of, FitsModel, KeepsPending};
+ghost use Rattle.plan_checker.specs.Standing.{FitsModel, KeepsPending};
 ghost use Rattle.plan_checker.specs.Worlds.{SomeAreSeen};
+ghost use Rattle.plan_checker.specs.Ticks.{printed_of};
 
 use crate::answer::answers_goal;
 use crate::cost::has_cost;
 use crate::lines::has_its_lines;
 use crate::reasons::{ANSWER, COST, LINE, LONG, WORLD};
 use crate::route::check_route;
-use crate::standing::Standing;
+use crate::rules::Rules;
+use crate::tick::Tick;
 use crate::verdict::Verdict;
 use crate::world::explains_tick;
-use cca_base::{Model, PlanEnd, Reply, Route, Shown, TickReport, World};
-use consistency::Worlds;
-use std::alloc::{AllocError, Global};
+use cca_base::{PlanEnd, Reply, Route, Shown};
+use std::alloc::AllocError;
+use trace_laws::Standing;
 
 /// Whether an estimate has the printed cost. The error is out of memory.
-fn has_its_cost(
-    alloc: Global,
-    model: &Model,
-    worlds: &Worlds,
-    standing: &Standing,
-    report: &TickReport,
-    world: Option<&World>,
-    route: Option<&Route>,
-) -> Result<bool, AllocError>
-    requires of { AreWorldsOf model.now worlds.now }
-    requires fits { FitsModel model.now (state_of standing.now) }
+fn has_its_cost(rules: &Rules, standing: &Standing, tick: &Tick) -> Result<bool, AllocError>
+    requires fits { FitsModel rules.now.model.now standing.now }
     ensures { IfOk result (λ b.
-        IsTrue b ↔ HasItsCost model.now (state_of standing.now)
-        (printed report.now world.entry route.entry)) }
+        IsTrue b ↔ HasItsCost rules.now.model.now standing.now (printed_of tick.now)) }
 {
-    let Shown::Estimated { cost, state, .. } = &report.shown else {
+    let Shown::Estimated { cost, state, .. } = &tick.report.shown else {
         return Ok(true);
     };
-    has_cost(
-        alloc,
-        model,
-        worlds,
-        &standing.estimate,
-        standing.command,
-        state,
-        *cost,
-    )
+    has_cost(rules, &standing.estimate, standing.command, state, *cost)
 }
 
 /// Whether the printed values explain an estimate. The error is out of memory.
-fn has_its_world(
-    alloc: Global,
-    model: &Model,
-    worlds: &Worlds,
-    standing: &Standing,
-    report: &TickReport,
-    world: Option<&World>,
-    route: Option<&Route>,
-) -> Result<bool, AllocError>
-    requires of { AreWorldsOf model.now worlds.now }
-    requires all { HasWorlds model.now }
-    requires fits { FitsModel model.now (state_of standing.now) }
-    requires pending { KeepsPending (state_of standing.now) }
-    requires lines { HasItsLines (state_of standing.now) (printed report.now world route) }
-    requires cost { HasItsCost model.now (state_of standing.now) (printed report.now world route) }
+fn has_its_world(rules: &Rules, standing: &Standing, tick: &Tick) -> Result<bool, AllocError>
+    requires all { HasWorlds rules.now.model.now }
+    requires fits { FitsModel rules.now.model.now standing.now }
+    requires pending { KeepsPending standing.now }
+    requires lines { HasItsLines standing.now (printed_of tick.now) }
+    requires cost { HasItsCost rules.now.model.now standing.now (printed_of tick.now) }
     ensures world { IfOk result (λ b.
-        IsTrue b ↔ HasItsWorld model.now (state_of standing.now)
-        (printed report.now world.entry route.entry)) }
+        IsTrue b ↔ HasItsWorld rules.now.model.now standing.now (printed_of tick.now)) }
     ensures seen { IfOk result (λ b.
-        IsTrue b → OnEstimate report.now.shown (λ cost s reply.
-        SomeAreSeen model.now (state_of standing.now))) }
+        IsTrue b → OnEstimate tick.now.report.now.shown (λ cost s reply.
+        SomeAreSeen rules.now.model.now standing.now)) }
 {
-    let Shown::Estimated { state, .. } = &report.shown else {
+    let Shown::Estimated { state, .. } = &tick.report.shown else {
         return Ok(true);
     };
-    let Some(world) = world else { unreachable!() };
-    explains_tick(alloc, model, worlds, standing, state, world)
+    let Some(world) = tick.world else {
+        unreachable!()
+    };
+    explains_tick(rules, standing, state, world)
 }
 
 /// The verdict on a sent command and its route. The error is out of memory.
-fn check_send(
-    alloc: Global,
-    model: &Model,
-    worlds: &Worlds,
-    standing: &Standing,
-    report: &TickReport,
-    world: Option<&World>,
-    route: Option<&Route>,
-) -> Result<Verdict, AllocError>
-    requires of { AreWorldsOf model.now worlds.now }
-    requires lines { HasItsLines (state_of standing.now) (printed report.now world route) }
-    requires cost { HasItsCost model.now (state_of standing.now) (printed report.now world route) }
-    ensures { IfOk result (IsSendVerdict model.now (state_of standing.now)
-        (printed report.now world.entry route.entry)) }
+fn check_send(rules: &Rules, standing: &Standing, tick: &Tick) -> Result<Verdict, AllocError>
+    requires lines { HasItsLines standing.now (printed_of tick.now) }
+    requires cost { HasItsCost rules.now.model.now standing.now (printed_of tick.now) }
+    ensures { IfOk result (IsSendVerdict rules.now.model.now standing.now (printed_of tick.now)) }
 {
-    let Shown::Estimated { state, reply, .. } = &report.shown else {
+    let Shown::Estimated { state, reply, .. } = &tick.report.shown else {
         return Ok(Verdict::Yes);
     };
     let Reply::Send(command) = reply else {
         return Ok(Verdict::Yes);
     };
-    let Some(route) = route else { unreachable!() };
-    check_route(alloc, model, worlds, state, &standing.goal, *command, route)
+    let Some(route) = tick.route else {
+        unreachable!()
+    };
+    check_route(rules, state, &standing.goal, *command, route)
 }
 
 /// Whether the commands are written out.
@@ -127,56 +94,42 @@ fn is_written_out(route: Option<&Route>) -> bool
 }
 
 /// The verdict on the tests that come after the route's: the answer, and whether all is written out.
-fn check_answer(
-    standing: &Standing,
-    report: &TickReport,
-    world: Option<&World>,
-    route: Option<&Route>,
-) -> Verdict
-    ensures { IsAnswerVerdict (state_of standing.now) (printed report.now world.entry route.entry)
+fn check_answer(standing: &Standing, tick: &Tick) -> Verdict
+    ensures { IsAnswerVerdict standing.now (printed_of tick.now)
         result }
 {
-    if !answers_goal(standing, &report.shown) {
+    if !answers_goal(standing, &tick.report.shown) {
         return Verdict::No(ANSWER);
     }
-    if !is_written_out(route) {
+    if !is_written_out(tick.route) {
         return Verdict::No(LONG);
     }
     Verdict::Yes
 }
 
 /// The verdict on a tick. The error is out of memory.
-pub(crate) fn judge(
-    alloc: Global,
-    model: &Model,
-    worlds: &Worlds,
-    standing: &Standing,
-    report: &TickReport,
-    world: Option<&World>,
-    route: Option<&Route>,
-) -> Result<Verdict, AllocError>
-    requires of { AreWorldsOf model.now worlds.now }
-    requires all { HasWorlds model.now }
-    requires fits { FitsModel model.now (state_of standing.now) }
-    requires pending { KeepsPending (state_of standing.now) }
-    ensures verdict { IfOk result (IsVerdict model.now (state_of standing.now)
-        (printed report.now world.entry route.entry)) }
+pub(crate) fn judge(rules: &Rules, standing: &Standing, tick: &Tick) -> Result<Verdict, AllocError>
+    requires all { HasWorlds rules.now.model.now }
+    requires fits { FitsModel rules.now.model.now standing.now }
+    requires pending { KeepsPending standing.now }
+    ensures verdict { IfOk result (IsVerdict rules.now.model.now standing.now
+        (printed_of tick.now)) }
     ensures seen { IfOk result (λ v.
-        OnYes v (OnEstimate report.now.shown (λ cost s reply.
-        SomeAreSeen model.now (state_of standing.now)))) }
+        OnYes v (OnEstimate tick.now.report.now.shown (λ cost s reply.
+        SomeAreSeen rules.now.model.now standing.now))) }
 {
-    if !has_its_lines(standing, report, world, route) {
+    if !has_its_lines(standing, tick) {
         return Ok(Verdict::No(LINE));
     }
-    if !has_its_cost(alloc, model, worlds, standing, report, world, route)? {
+    if !has_its_cost(rules, standing, tick)? {
         return Ok(Verdict::No(COST));
     }
-    if !has_its_world(alloc, model, worlds, standing, report, world, route)? {
+    if !has_its_world(rules, standing, tick)? {
         return Ok(Verdict::No(WORLD));
     }
-    let sent = check_send(alloc, model, worlds, standing, report, world, route)?;
+    let sent = check_send(rules, standing, tick)?;
     if sent != Verdict::Yes {
         return Ok(sent);
     }
-    Ok(check_answer(standing, report, world, route))
+    Ok(check_answer(standing, tick))
 }

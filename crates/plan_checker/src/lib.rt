@@ -5,7 +5,6 @@
 mod answer;
 mod checker;
 mod cost;
-mod events;
 mod guards;
 mod judged;
 mod known;
@@ -13,11 +12,12 @@ mod laws;
 mod lines;
 pub mod reasons;
 mod route;
+mod rules;
 mod run;
-mod standing;
 mod states;
 mod step;
 mod taken;
+mod tick;
 mod verdict;
 mod world;
 

@@ -1,26 +1,27 @@
 //! A command with its printed plan and way back.
 
 ghost use Rattle.std.specs.Prelude.{◌≡◌, ◌↔◌, ◌∷◌, ℕ, List, IsTrue, IfOk, IfSome, IsNone};
+ghost use Rattle.std.specs.Option.{option_map};
 ghost use Rattle.cca_base.specs.State.{IsState, Extends};
-ghost use Rattle.consistency.specs.Worlds.{AreWorldsOf};
 ghost use Rattle.plan_checker.specs.Reasons.{OnCommands};
-ghost use Rattle.plan_checker.specs.Routes.{IsRouteVerdict, LeadsHome};
+ghost use Rattle.plan_checker.specs.Routes.{IsRouteVerdict, EndsInMending};
 
 use crate::reasons::{BACK, GOAL, PLAN, STEP};
+use crate::rules::Rules;
 use crate::run::run;
 use crate::states::stand_in;
 use crate::step::make_step;
 use crate::verdict::Verdict;
-use cca_base::{List, Model, Pair, PlanEnd, Route, State};
-use consistency::Worlds;
-use std::alloc::{AllocError, Global};
+use cca_base::{Goal, PlanEnd, Route, State};
+use std::alloc::AllocError;
 
 /// Whether the goal in force stands, if there is one.
-fn holds_goal(goal: &Option<List<Pair>>, state: &State) -> bool
-    ensures { IsTrue result ↔ IfSome goal.now (Extends state.now.modes) }
+fn holds_goal(goal: &Option<Goal>, state: &State) -> bool
+    ensures { IsTrue result ↔ IfSome (option_map (λ g.
+        g.pairs) goal.now) (Extends state.now.modes) }
 {
     match goal {
-        Some(goal) => stand_in(goal.as_slice(), state.modes.as_slice()),
+        Some(goal) => stand_in(goal.pairs.as_slice(), state.modes.as_slice()),
         None => true,
     }
 }
@@ -40,47 +41,38 @@ fn rest_of(commands: &[u16], command: u16) -> Option<&[u16]>
 }
 
 /// Whether the commands, if they are written out, lead home to a mending of the first state. The error is out of memory.
-fn leads_home(
-    alloc: Global,
-    model: &Model,
-    worlds: &Worlds,
-    home: &State,
-    there: State,
-    back: &PlanEnd,
-) -> Result<bool, AllocError>
-    requires of { AreWorldsOf model.now worlds.now }
-    requires there { IsState model.now there.modes }
+fn leads_home(rules: &Rules, home: &State, there: State, back: &PlanEnd) -> Result<bool, AllocError>
+    requires there { IsState rules.now.model.now there.modes }
     ensures { IfOk result (λ b.
-        IsTrue b ↔ OnCommands back.now (LeadsHome model.now home.now.modes there.modes)) }
+        IsTrue b ↔ OnCommands back.now
+        (EndsInMending rules.now.model.now home.now.modes there.modes)) }
 {
-    let _moves = model.moves();
+    let _moves = rules.model.moves();
     let PlanEnd::Plan(commands) = back else {
         return Ok(true);
     };
     let mut state = there;
-    if !run(alloc, model, worlds, &mut state, commands.as_slice())? {
+    if !run(rules, &mut state, commands.as_slice())? {
         return Ok(false);
     }
-    Ok(model.is_mending(home, &state))
+    Ok(rules.model.is_mending(home, &state))
 }
 
 /// The verdict on a command, and on its plan and way back as far as they are written out. The error is out of memory.
 pub(crate) fn check_route(
-    alloc: Global,
-    model: &Model,
-    worlds: &Worlds,
+    rules: &Rules,
     state: &State,
-    goal: &Option<List<Pair>>,
+    goal: &Option<Goal>,
     command: u16,
     route: &Route,
 ) -> Result<Verdict, AllocError>
-    requires of { AreWorldsOf model.now worlds.now }
-    requires state { IsState model.now state.now.modes }
-    ensures { IfOk result (IsRouteVerdict model.now state.now.modes goal.now command route.now) }
+    requires state { IsState rules.now.model.now state.now.modes }
+    ensures { IfOk result (IsRouteVerdict rules.now.model.now state.now.modes
+        (option_map (λ g. g.pairs) goal.now) command route.now) }
 {
-    let _moves = model.moves();
-    let mut there = state.copy(alloc)?;
-    if !make_step(alloc, model, worlds, &mut there, command)? {
+    let _moves = rules.model.moves();
+    let mut there = state.copy(rules.alloc)?;
+    if !make_step(rules, &mut there, command)? {
         return Ok(Verdict::No(STEP));
     }
     let PlanEnd::Plan(plan) = &route.plan else {
@@ -89,13 +81,13 @@ pub(crate) fn check_route(
     let Some(rest) = rest_of(plan.as_slice(), command) else {
         return Ok(Verdict::No(PLAN));
     };
-    if !run(alloc, model, worlds, &mut there, rest)? {
+    if !run(rules, &mut there, rest)? {
         return Ok(Verdict::No(PLAN));
     }
     if !holds_goal(goal, &there) {
         return Ok(Verdict::No(GOAL));
     }
-    if !leads_home(alloc, model, worlds, state, there, &route.back)? {
+    if !leads_home(rules, state, there, &route.back)? {
         return Ok(Verdict::No(BACK));
     }
     Ok(Verdict::Yes)

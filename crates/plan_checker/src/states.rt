@@ -1,6 +1,6 @@
 //! Whether numbers are a state or a world of the model, and whether pairs stand in them.
 
-ghost use Rattle.std.specs.Prelude.{◌≡◌, ◌↔◌, ◌<◌, IsTrue, length};
+ghost use Rattle.std.specs.Prelude.{◌≡◌, ◌↔◌, ◌<◌, IsTrue};
 ghost use Rattle.cca_base.specs.State.{IsState, IsWorld, Extends};
 ghost use Rattle.plan_checker.specs.Worlds.{AreValues, KeepsRules};
 

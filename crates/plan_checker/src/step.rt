@@ -1,17 +1,16 @@
 //! One command: the move that it names, its step, and its nominal move.
 
-ghost use Rattle.std.specs.Prelude.{◌≡◌, ◌↔◌, ◌<◌, length, slice_get, Some, IsTrue, IfOk, OnOk, OnErr, IfSome, IsNone, MatchBool};
+ghost use Rattle.std.specs.Prelude.{◌≡◌, ◌↔◌, ◌<◌, length, slice_get, Some, IsTrue, IfOk, OnOk, OnErr, IfSome, IsNone, false};
 ghost use Rattle.cca_base.specs.Model.{WellFormed};
 ghost use Rattle.cca_base.specs.State.{IsState};
 ghost use Rattle.cca_base.specs.Steps.{Step};
 ghost use Rattle.cca_base.specs.Successors.{Nominal};
-ghost use Rattle.consistency.specs.Worlds.{AreWorldsOf};
 ghost use Rattle.plan_checker.specs.Steps.{IsNamed, NoneNamed, NoStep};
 
 use crate::guards::{guard_follows, guard_holds};
+use crate::rules::Rules;
 use cca_base::{Model, Move, State};
-use consistency::Worlds;
-use std::alloc::{AllocError, Global};
+use std::alloc::AllocError;
 
 /// Whether the command names the move from its component's mode.
 fn is_named(state: &State, command: u16, step: &Move) -> bool
@@ -38,24 +37,18 @@ fn named<'a>(model: &'a Model, state: &State, command: u16) -> Option<&'a Move>
 }
 
 /// Makes the command's step, where it is one. The error is out of memory.
-pub(crate) fn make_step(
-    alloc: Global,
-    model: &Model,
-    worlds: &Worlds,
-    state: &mut State,
-    command: u16,
-) -> Result<bool, AllocError>
-    requires of { AreWorldsOf model.now worlds.now }
-    requires state { IsState model.now state.old.modes }
-    ensures step { IfOk result (λ made.
-        MatchBool made (Step model.now state.old.modes command state.new.modes)
-        (NoStep model.now state.old.modes command)) }
-    ensures state { IsState model.now state.new.modes }
+pub(crate) fn make_step(rules: &Rules, state: &mut State, command: u16) -> Result<bool, AllocError>
+    requires state { IsState rules.now.model.now state.old.modes }
+    ensures made { IfOk result (λ made.
+        IsTrue made → Step rules.now.model.now state.old.modes command state.new.modes) }
+    ensures none { IfOk result (λ made.
+        made ≡ false → NoStep rules.now.model.now state.old.modes command) }
+    ensures state { IsState rules.now.model.now state.new.modes }
 {
-    let Some(step) = named(model, state, command) else {
+    let Some(step) = named(rules.model, state, command) else {
         return Ok(false);
     };
-    if !guard_follows(alloc, model, worlds, state, step)? {
+    if !guard_follows(rules, state, step)? {
         return Ok(false);
     }
     state.modes.set(step.component as usize, step.target);
@@ -64,25 +57,23 @@ pub(crate) fn make_step(
 
 /// Makes the nominal move of the command, if there is one. The error is out of memory.
 pub(crate) fn make_nominal(
-    alloc: Global,
-    model: &Model,
-    worlds: &Worlds,
+    rules: &Rules,
     state: &mut State,
     command: Option<u16>,
 ) -> Result<(), AllocError>
-    requires of { AreWorldsOf model.now worlds.now }
-    requires state { IsState model.now state.old.modes }
-    ensures nominal { OnOk result (Nominal model.now state.old.modes command state.new.modes) }
-    ensures state { IsState model.now state.new.modes }
+    requires state { IsState rules.now.model.now state.old.modes }
+    ensures nominal { OnOk result (Nominal rules.now.model.now state.old.modes command
+        state.new.modes) }
+    ensures state { IsState rules.now.model.now state.new.modes }
     ensures err { OnErr result (state.new ≡ state.old) }
 {
     let Some(command) = command else {
         return Ok(());
     };
-    let Some(step) = named(model, state, command) else {
+    let Some(step) = named(rules.model, state, command) else {
         return Ok(());
     };
-    if guard_holds(alloc, model, worlds, state, step)? {
+    if guard_holds(rules, state, step)? {
         state.modes.set(step.component as usize, step.target);
     }
     Ok(())

@@ -14,9 +14,9 @@ use Rattle.planner_step.specs.Planning.{member_of, IsGoal, AreReached}
 use Rattle.planner_step.proofs.Covered.{setting}
 use Rattle.planner_step.proofs.Stuck.{stuck_empty}
 use Rattle.plan_runner.proofs.StillStuck.{stays_on_chain}
-use Rattle.planner_step.proofs.Replies.{inside_reached}
+use Rattle.planner_step.proofs.Replies.{inside_reached, goal_inside}
 use Rattle.plan_runner.specs.Plans.{IsWholePlan}
-use Rattle.plan_runner.specs.WaysBack.{StaysStuck, AreBackPairs, IsWayBack, IsThereAndBack}
+use Rattle.plan_runner.specs.WaysBack.{StaysStuck, AreBackPairs, IsWholeWayBack, IsThereAndBack}
 use Rattle.planner_step.proofs.Along.{plan_of, some_plan}
 use Rattle.plan_runner.proofs.GoingBack.{some_goal, names_all, back_goal_is, back_is_goal}
 
@@ -34,7 +34,7 @@ module _ (t : TableParts) (is : IsTables t) where
     pub reached_back : (from : List ℕ) → CoversState t.classes from → AreReached b.model from goal
     reached_back from cov_from = inside_reached t is from cov_from goal goal_back inside_back
 
-    pub way_of : (from : List ℕ) → CoversState t.classes from → StaysStuck t.classes from to → (shown : PlanEnd) → IsWholePlan t from goal shown → IsWayBack t from to shown
+    pub way_of : (from : List ℕ) → CoversState t.classes from → StaysStuck t.classes from to → (shown : PlanEnd) → IsWholePlan t from goal shown → IsWholeWayBack t from to shown
     way_of from cov_from stays shown plan =
         let is_goal : IsBackGoal b to goal = back_goal_is t is to cov goal pairs in
         record {
@@ -48,7 +48,10 @@ module _ (t : TableParts) (is : IsTables t) where
     some_way : (from : List ℕ) → CoversState t.classes from → (ks last : List ℕ) × Whole b goal from ks last
     some_way from cov_from = some_plan t is from cov_from goal pairs.in_order inside_back
 
-  module _ (s : List ℕ) (cov : CoversState t.classes s) (goal : List Pair) (g : IsGoal b goal) (inside : AreInside (member_of t) goal) where
+  module _ (s : List ℕ) (cov : CoversState t.classes s) (goal : List Pair) (g : IsGoal b goal) (reached : AreReached b.model s goal) where
+    inside : AreInside (member_of t) goal
+    inside = goal_inside t is s cov goal g reached
+
     pub covers_end : (ks last : List ℕ) → Whole b goal s ks last → CoversState t.classes last
     covers_end ks last whole =
         let end = reach.whole_is_allowed b t.classes.base (member_of t) s (setting t is s cov) goal ks last inside whole in
@@ -58,7 +61,7 @@ module _ (t : TableParts) (is : IsTables t) where
     still_stuck ks last whole d stuck =
         (0, sym (reach.empty_stays b t.classes.base (member_of t) s (setting t is s cov) goal ks last inside whole d (stuck_empty t is s cov d stuck)))
 
-    pub ended : (ks last : List ℕ) (shown : PlanEnd) → Whole b goal s ks last → length ks ≤ MAX_PLAN → IsWayBack t last s shown
+    pub ended : (ks last : List ℕ) (shown : PlanEnd) → Whole b goal s ks last → length ks ≤ MAX_PLAN → IsWholeWayBack t last s shown
         → IsRoute b s goal (record { plan = Plan ks; back = shown })
     ended ks last shown whole short back = record {
       compiled = is.classes.compiled;
@@ -72,7 +75,7 @@ module _ (t : TableParts) (is : IsTables t) where
       shows_back = back.plan.shows;
     }
 
-    pub ended_back : (ks last : List ℕ) (shown : PlanEnd) → Whole b goal s ks last → length ks ≤ MAX_PLAN → IsWayBack t last s shown
+    pub ended_back : (ks last : List ℕ) (shown : PlanEnd) → Whole b goal s ks last → length ks ≤ MAX_PLAN → IsWholeWayBack t last s shown
         → IsThereAndBack t s goal (record { plan = Plan ks; back = shown })
     ended_back ks last shown whole short back = record {
       plan = record { commands = ks; last = last; plan = plan_of t is s cov goal g.in_order inside ks last whole; shows = (refl, short) };

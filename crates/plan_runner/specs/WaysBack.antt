@@ -38,7 +38,7 @@ pub record AreBackPairs (c : ClassParts) (s order : List ℕ) (pairs : List Pair
   pub each : (p : Pair) → Contains pairs p ↔ (Contains order p.item × GoesBackTo c s p)
 
 -- the shown way back is the whole plan for exactly these modes, and ends in a mending
-pub record IsWayBack (t : TableParts) (from s : List ℕ) (shown : PlanEnd) : Type 0 where
+pub record IsWholeWayBack (t : TableParts) (from s : List ℕ) (shown : PlanEnd) : Type 0 where
   pub goal : List Pair
   pub is_goal : IsBackGoal t.classes.compiled s goal
   pub names : (p : Pair) → Contains goal p ↔ GoesBackTo t.classes s p
@@ -47,7 +47,7 @@ pub record IsWayBack (t : TableParts) (from s : List ℕ) (shown : PlanEnd) : Ty
 
 -- where the plan is long, so is the way back
 abbrev pub IsBackOf : TableParts → List ℕ → List ℕ → PlanEnd → PlanEnd → Type 0
-IsBackOf t s there (Plan shown) back = IsWayBack t there s back
+IsBackOf t s there (Plan shown) back = IsWholeWayBack t there s back
 IsBackOf t s there Long back = back ≡ Long
 
 -- the whole plan for the goal, and the way back from its end

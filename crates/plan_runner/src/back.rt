@@ -2,7 +2,7 @@
 
 ghost use Rattle.std.specs.Prelude.{IfOk};
 ghost use Rattle.reversibility.specs.ClassParts.{CoversState};
-ghost use Rattle.plan_runner.specs.WaysBack.{StaysStuck, IsWayBack};
+ghost use Rattle.plan_runner.specs.WaysBack.{StaysStuck, IsWholeWayBack};
 
 use crate::goal_back::back_goal;
 use crate::whole::whole_plan;
@@ -21,7 +21,7 @@ pub fn way_back(
     requires from { CoversState tables.now.classes from.now.modes }
     requires to { CoversState tables.now.classes to.now.modes }
     requires stuck { StaysStuck tables.now.classes from.now.modes to.now.modes }
-    ensures { IfOk result (IsWayBack tables.now from.now.modes to.now.modes) }
+    ensures { IfOk result (IsWholeWayBack tables.now from.now.modes to.now.modes) }
 {
     let _classes = tables.classes();
     let goal = back_goal(alloc, tables, to)?;

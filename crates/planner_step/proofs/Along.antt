@@ -20,7 +20,7 @@ use Rattle.reversibility.specs.ClassParts.{CoversState}
 use Rattle.policy_tables.specs.Tables.{TableParts, IsTables}
 use Rattle.planner_step.specs.Planning.{cells_of, member_of}
 use Rattle.planner_step.proofs.Covered.{setting}
-use Rattle.planner_step.specs.Served.{Passes, KeepsStanding, StaysAlong, IsApart, IsPlanTo}
+use Rattle.planner_step.specs.Served.{IsPartWay, KeepsStanding, StaysAlong, IsApart, IsPlanTo}
 use Rattle.planner_step.proofs.Stuck.{stuck_empty}
 
 module _ (b : CompiledModel) (compiled : IsCompiled b) where
@@ -40,7 +40,7 @@ module _ (b : CompiledModel) (compiled : IsCompiled b) where
         allowed_split plan.0 first rest mid last plan.2 (subst (λ x. Run b.model x first mid) (sym same) run.2),
       )
 
-  whole_after : (goal : List Pair) (s ks last mid rest : List ℕ) → Whole b goal s ks last → Passes b.model s ks mid rest → Whole b goal mid rest last
+  whole_after : (goal : List Pair) (s ks last mid rest : List ℕ) → Whole b goal s ks last → IsPartWay b.model s ks mid rest → Whole b goal mid rest last
   whole_after goal s ks last mid rest whole h = whole_split goal s h.first rest mid last (subst (λ l. Whole b goal s l last) h.split whole) h.run
 
   -- what stands of the goal's beginning goes on standing

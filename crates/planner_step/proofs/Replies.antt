@@ -122,12 +122,12 @@ module _ (t : TableParts) (is : IsTables t) (s : List ℕ) (cov : CoversState t.
   inside_reached inside = all_from (λ p. Reach b.model s p.item p.value) goal (λ p among.
       reach_from t is s cov p (inr (All-contains (λ q. member_of t q.item q.value ≡ true) goal p inside among)))
 
-  pub promising : (answer : Answer) → IsAnswer (member_of t) (cells_of t) s goal (reply_of answer) → Promising b s goal (reply_of answer)
+  promising : (answer : Answer) → IsAnswer (member_of t) (cells_of t) s goal (reply_of answer) → Promising b s goal (reply_of answer)
   promising Achieved h = record { chosen = chosen Achieved h; served = λ e. held_served h }
   promising (Send k) h = record { chosen = chosen (Send k) h; served = λ e. inside_served h.1 }
   promising (Unreachable c mode) h = record { chosen = chosen (Unreachable c mode) h; served = λ e. absurd cc }
 
-  pub achieved_exactly : (answer : Answer) → IsAnswer (member_of t) (cells_of t) s goal (reply_of answer) → (answer ≡ Achieved) ↔ Extends s goal
+  achieved_exactly : (answer : Answer) → IsAnswer (member_of t) (cells_of t) s goal (reply_of answer) → (answer ≡ Achieved) ↔ Extends s goal
   achieved_exactly Achieved h = ((λ e. h), (λ held. refl))
   achieved_exactly (Send k) h = ((λ e. absurd cc), (λ held. absurd (h.0 held)))
   achieved_exactly (Unreachable c mode) h = ((λ e. absurd cc), (λ held. absurd (h.0 held)))
@@ -136,7 +136,7 @@ module _ (t : TableParts) (is : IsTables t) (s : List ℕ) (cov : CoversState t.
   never_first reached p first = first.unreached (All-contains (λ q. Reach b.model s q.item q.value) goal p reached
       (subst (λ l. Contains l p) (sym first.split) (Contains-append_right first.before (p ∷ first.after) p (contains_here p p first.after refl))))
 
-  pub reached_exactly : (answer : Answer) → IsAnswer (member_of t) (cells_of t) s goal (reply_of answer)
+  reached_exactly : (answer : Answer) → IsAnswer (member_of t) (cells_of t) s goal (reply_of answer)
       → (is_unreachable (Some (reply_of answer)) ≡ false) ↔ AreReached b.model s goal
   reached_exactly Achieved h = ((λ e. held_reached h), (λ reached. refl))
   reached_exactly (Send k) h = ((λ e. inside_reached h.1), (λ reached. refl))
@@ -147,7 +147,7 @@ module _ (t : TableParts) (is : IsTables t) (s : List ℕ) (cov : CoversState t.
         absurd (never_first reached (record { item = c; value = mode }) first)),
   )
 
-  pub unreachable_exactly : (answer : Answer) → IsAnswer (member_of t) (cells_of t) s goal (reply_of answer) → (p : Pair)
+  unreachable_exactly : (answer : Answer) → IsAnswer (member_of t) (cells_of t) s goal (reply_of answer) → (p : Pair)
       → (answer ≡ Unreachable p.item p.value) ↔ IsFirstUnreached b.model s goal p
   unreachable_exactly Achieved h p = ((λ e. absurd cc), (λ first. absurd (never_first (held_reached h) p first)))
   unreachable_exactly (Send k) h p = ((λ e. absurd cc), (λ first. absurd (never_first (inside_reached h.1) p first)))
@@ -156,3 +156,14 @@ module _ (t : TableParts) (is : IsTables t) (s : List ℕ) (cov : CoversState t.
         (λ e. let same = same_pair c mode p e in subst (IsFirstUnreached b.model s goal) (λ i. record { item = same.0 i; value = same.1 i }) first),
         (λ other. let same = one_unreached b s goal (record { item = c; value = mode }) p first other in λ i. Unreachable (same i).item (same i).value),
       )
+
+  -- what is exact of an answer by the rule
+  pub record IsExactly (answer : Answer) : Type 0 where
+    pub achieved : (answer ≡ Achieved) ↔ Extends s goal
+    pub unreachable : (p : Pair) → (answer ≡ Unreachable p.item p.value) ↔ IsFirstUnreached b.model s goal p
+    pub reached : (is_unreachable (Some (reply_of answer)) ≡ false) ↔ AreReached b.model s goal
+    pub promises : Promising b s goal (reply_of answer)
+
+  pub by_rule : (answer : Answer) → IsAnswer (member_of t) (cells_of t) s goal (reply_of answer) → IsExactly answer
+  by_rule answer h =
+      record { achieved = achieved_exactly answer h; unreachable = unreachable_exactly answer h; reached = reached_exactly answer h; promises = promising answer h }

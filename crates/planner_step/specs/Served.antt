@@ -13,7 +13,7 @@ use Rattle.reversibility.specs.ClassParts.{ClassParts, CoversState}
 use Rattle.policy_tables.specs.Tables.{TableParts}
 
 -- the first commands lead from the state to mid, and the rest of the commands are left
-pub record Passes (m : PlantModel) (s ks mid rest : List ℕ) : Type 0 where
+pub record IsPartWay (m : PlantModel) (s ks mid rest : List ℕ) : Type 0 where
   pub first : List ℕ
   pub split : ks ≡ first ++ rest
   pub run : Run m s first mid
@@ -21,12 +21,12 @@ pub record Passes (m : PlantModel) (s ks mid rest : List ℕ) : Type 0 where
 -- where the first pairs of the goal stand at some place of the plan, they stand from there to its end
 abbrev pub KeepsStanding : PlantModel → List Pair → List ℕ → List ℕ → Type 0
 KeepsStanding m goal s ks = (before after : List Pair) → goal ≡ before ++ after
-    → (early left : List ℕ) → Passes m s ks early left → Extends early before
-    → (late rest : List ℕ) → Passes m early left late rest → Extends late before
+    → (early left : List ℕ) → IsPartWay m s ks early left → Extends early before
+    → (late rest : List ℕ) → IsPartWay m early left late rest → Extends late before
 
 -- the component stands all along the plan where it stood at first
 abbrev pub StaysAlong : PlantModel → List ℕ → List ℕ → ℕ → Type 0
-StaysAlong m s ks d = (mid rest : List ℕ) → Passes m s ks mid rest → slice_index mid d ≡ slice_index s d
+StaysAlong m s ks d = (mid rest : List ℕ) → IsPartWay m s ks mid rest → slice_index mid d ≡ slice_index s d
 
 -- the component is none of the goal's, and no ancestor of one
 abbrev pub IsApart : PlantModel → List Pair → ℕ → Type 0

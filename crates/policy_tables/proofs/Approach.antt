@@ -6,7 +6,7 @@ use Rattle.list_laws.proofs.Places.{some_at}
 use Rattle.cca_base.specs.declared.model.Move.{Move}
 use Rattle.cca_base.specs.PlantModel.{PlantModel}
 use Rattle.cca_base.specs.Model.{WellFormed, HasMode, mode_counts}
-use Rattle.reach_laws.specs.Classes.{Test, OpenMove, OpenWalk, Joined}
+use Rattle.reach_laws.specs.Classes.{Test, IsOpen, OpenMove, OpenWalk, Joined}
 use Rattle.reach_laws.specs.Cells.{IsShortest, Approaches}
 use Rattle.reach_laws.proofs.Needed.{move_in}
 use Rattle.reversibility.specs.Levels.{IsNear, IsLevel, AreLevelsOf}
@@ -55,44 +55,36 @@ module _ (m : PlantModel) (w : WellFormed m) (member : Test) (c : ℕ) where
   apart_some from to zero s ne = absurd (ne s.walk)
   apart_some from to (suc k) s ne = omega arith
 
+  -- a move of the model that is open
+  as_open : (i from : ℕ) (move : Move) → slice_get m.moves i ≡ Some move → move.component ≡ c → move.source ≡ from → IsOpen m member move → OpenMove m member c from move.target
+  as_open i from move at own source open_move = record { move = move; of_model = move_in m i move at; own = own; source = source; target = refl; open_move = open_move }
+
   -- where the distance is one more than a level's number, the moves that lead near by the level are those that approach
   module _ (from to rest : ℕ) (shortest : IsShortest m member c from to (suc rest)) (level : List ℕ) (is : IsLevel (OpenMove m member c) modes rest level) where
+    -- a move that begins a walk of the rest approaches
+    as_approach : (move : Move) → move.component ≡ c → move.source ≡ from → IsOpen m member move → OpenMove m member c from move.target → OpenWalk m member c move.target to rest
+        → Approaches m member c from to (suc rest) move
+    as_approach move own source open_move o walk = record {
+      own = own;
+      source = source;
+      open_move = open_move;
+      rest = rest;
+      counts = refl;
+      before = shortest;
+      after = record { walk = walk; least = λ fewer other. (let le : suc rest ≤ suc fewer = shortest.least (suc fewer) (move.target, o, other) in omega (arith, le)) };
+    }
+
     pub approach_to : (i : ℕ) → (h : LeadsNear m member level c from to i) → Approaches m member c from to (suc rest) h.move
     approach_to i h =
-        let o : OpenMove m member c from h.move.target = record {
-          move = h.move;
-          of_model = move_in m i h.move h.move_at;
-          own = h.own;
-          source = h.source;
-          target = refl;
-          open_move = h.open_move;
-        } in
+        let o : OpenMove m member c from h.move.target = as_open i from h.move h.move_at h.own h.source h.open_move in
         let near : IsNear (OpenMove m member c) rest h.move.target to = (is.each h.move.target to (target_mode m w member c from h.move.target o)).0 h.near in
         let long : suc rest ≤ suc near.count = shortest.least (suc near.count) (h.move.target, o, to_open m w member c h.move.target to near.count near.walk) in
         let same : near.count ≡ rest = omega (arith, long, near.few) in
-        record {
-          own = h.own;
-          source = h.source;
-          open_move = h.open_move;
-          rest = rest;
-          counts = refl;
-          before = shortest;
-          after = record {
-            walk = subst (OpenWalk m member c h.move.target to) same (to_open m w member c h.move.target to near.count near.walk);
-            least = λ fewer walk. (let le : suc rest ≤ suc fewer = shortest.least (suc fewer) (h.move.target, o, walk) in omega (arith, le));
-          };
-        }
+        as_approach h.move h.own h.source h.open_move o (subst (OpenWalk m member c h.move.target to) same (to_open m w member c h.move.target to near.count near.walk))
 
     pub approach_from : (i : ℕ) (move : Move) → slice_get m.moves i ≡ Some move → Approaches m member c from to (suc rest) move → LeadsNear m member level c from to i
     approach_from i move at a =
-        let o : OpenMove m member c from move.target = record {
-          move = move;
-          of_model = move_in m i move at;
-          own = a.own;
-          source = a.source;
-          target = refl;
-          open_move = a.open_move;
-        } in
+        let o : OpenMove m member c from move.target = as_open i from move at a.own a.source a.open_move in
         let few : a.rest ≤ rest = omega (arith, a.counts) in
         record {
           move = move;
@@ -112,16 +104,6 @@ module _ (m : PlantModel) (w : WellFormed m) (member : Test) (c : ℕ) where
         let walk : OpenWalk m member c next to rest = shortest.walk.2 in
         let at : ℕ = o.of_model.0 in (
           at,
-          approach_from at o.move (slice_get-get_or m.moves at o.move o.of_model.1 ∙ ap (λ z. Some z) o.of_model.2) (record {
-            own = o.own;
-            source = o.source;
-            open_move = o.open_move;
-            rest = rest;
-            counts = refl;
-            before = shortest;
-            after = record {
-              walk = subst (λ x. OpenWalk m member c x to rest) (sym o.target) walk;
-              least = λ fewer other. (let le : suc rest ≤ suc fewer = shortest.least (suc fewer) (next, o, subst (λ x. OpenWalk m member c x to fewer) o.target other) in omega (arith, le));
-            };
-          }),
+          approach_from at o.move (slice_get-get_or m.moves at o.move o.of_model.1 ∙ ap (λ z. Some z) o.of_model.2)
+              (as_approach o.move o.own o.source o.open_move (subst (OpenMove m member c from) (sym o.target) o) (subst (λ x. OpenWalk m member c x to rest) (sym o.target) walk)),
         )

@@ -1,9 +1,10 @@
 -- What tables are filled with.
-use Rattle.std.proofs.Common.{◌≡◌, ◌≢◌, ◌<◌, ◌+◌, ◌*◌, ℕ, true, List, [], ◌∷◌, ◌++◌, length, get_or, take, slice_index, sym, ap, subst, ◌∙◌, inl, inr, arith, length-append}
+use Rattle.std.proofs.Common.{◌≡◌, ◌≢◌, ◌<◌, ◌+◌, ◌*◌, ℕ, true, List, [], ◌∷◌, ◌++◌, length, get_or, take, slice_get, slice_index, Some, sym, ap, subst, ◌∙◌, inl, inr, arith, length-append}
 use Rattle.std.proofs.lemmas.Bool.{cases_lt}
 use Rattle.std.proofs.lemmas.List.{get_or-take, length-take-le, get_or_default, get_or_append_left, get_or_push}
 use Rattle.std.proofs.lemmas.Nat.{same_from_place, mul-add-lt}
 use Rattle.cca_base.specs.declared.cube.Pair.{Pair}
+use Rattle.cca_base.specs.declared.model.Component.{Component}
 use Rattle.cca_base.specs.PlantModel.{PlantModel}
 use Rattle.cca_base.specs.Cube.{IsCube, Lacks}
 use Rattle.cca_base.specs.Model.{HasMode, mode_counts}
@@ -15,6 +16,7 @@ use Rattle.reach_laws.specs.Cells.{cell_at, AreCells}
 use Rattle.reach_laws.proofs.Order.{repair_rules}
 use Rattle.reach_laws.proofs.Sound.{covered_joined}
 use Rattle.reversibility.specs.ClassParts.{ClassParts, IsClasses, in_row}
+use Rattle.reversibility.proofs.Standing.{mode_count}
 use Rattle.policy_tables.specs.Filling.{IsRightCell, MayStand, AreRightTo, AreRightRows, AreRightCells, AreFilledTo}
 
 -- ---- cubes in order
@@ -33,7 +35,7 @@ joined_here p is c from to stands inside =
     covered_joined p.compiled.model p.base (in_row p.rows) (repair_rules p.compiled.model is.compiled.accepted.well_formed) is.classes c from to stands inside
 
 -- one place more, in the row of a mode
-pub right_next : (p : ClassParts) (c modes : ℕ) (cells : List Cell) (from to : ℕ) (x : Cell) → to < modes → AreRightTo p c modes cells (from * modes + to) → IsRightCell p c from to x
+right_next : (p : ClassParts) (c modes : ℕ) (cells : List Cell) (from to : ℕ) (x : Cell) → to < modes → AreRightTo p c modes cells (from * modes + to) → IsRightCell p c from to x
     → AreRightTo p c modes (cells ++ x ∷ []) (from * modes + to + 1)
 right_next p c modes cells from to x lt_to h is = record {
   full = length-append cells (x ∷ []) ∙ ap (λ k. k + 1) h.full;
@@ -47,6 +49,18 @@ right_next p c modes cells from to x lt_to h is = record {
         (subst (λ z. IsRightCell p c a z x) same.1 (subst (λ z. IsRightCell p c z to x) same.0 is))
   ];
 }
+
+-- one place more, by the cell that was pushed
+pub right_pushed : (p : ClassParts) (c modes : ℕ) (cells pushed : List Cell) (from to : ℕ) (x : Cell) → pushed ≡ cells ++ x ∷ [] → to < modes → AreRightTo p c modes cells (from * modes + to)
+    → IsRightCell p c from to x → AreRightTo p c modes pushed (from * modes + (to + 1))
+right_pushed p c modes cells pushed from to x is lt h right =
+    let more : from * modes + to + 1 ≡ from * modes + (to + 1) = omega arith in
+    subst (AreRightTo p c modes pushed) more (subst (λ l. AreRightTo p c modes l (from * modes + to + 1)) (sym is) (right_next p c modes cells from to x lt h right))
+
+-- a count of a component's modes, as it was read
+pub modes_read : (m : PlantModel) (c : ℕ) {components : List Component} {x : Component} {n : ℕ} → components ≡ m.components → slice_get components c ≡ Some x → n ≡ length x.modes
+    → n ≡ slice_index (mode_counts m) c
+modes_read m c {x = x} same at counted = counted ∙ sym (mode_count m.components c x (subst (λ l. slice_get l c ≡ Some x) same at))
 
 -- a row is full
 pub row_end : (p : ClassParts) (c : ℕ) (cells : List Cell) (from n : ℕ) → n ≡ slice_index (mode_counts p.compiled.model) c

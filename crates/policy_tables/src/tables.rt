@@ -26,22 +26,15 @@ impl std::marker::Model for Tables {
 
     ghost Value = { TableParts };
 
-    ghost use Rattle.cca_base.specs.contracts.formula.Formula as formula;
-    ghost use Rattle.std.specs.Coded.{codes};
+    ghost use Rattle.cca_base.specs.Coded.{model_codes};
 
-    ghost coded = { Prim.hlevel (codes, formula.the_row.coded) };
+    ghost coded = { Prim.hlevel model_codes };
 
     ghost use Rattle.policy_tables.specs.Tables.{IsTables};
 
-    ghost view = { λ t. record {
-      classes = t.classes;
-      cells = t.cells;
-    } };
+    ghost view = { λ t. record { classes = t.classes; cells = t.cells } };
 
-    ghost invariant = { λ t. IsTables (record {
-      classes = t.classes;
-      cells = t.cells;
-    }) };
+    ghost invariant = { λ t. IsTables (record { classes = t.classes; cells = t.cells }) };
 }
 
 impl Tables {

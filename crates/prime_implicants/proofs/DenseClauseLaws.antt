@@ -169,14 +169,6 @@ list_all_get p [] i d h k = absurd (omega arith)
 list_all_get p (x ∷ xs) zero d h k = (and_parts (p x) (list_all p xs) k).0
 list_all_get p (x ∷ xs) (suc i) d h k = let l : i < length xs = omega arith in list_all_get p xs i d l (and_parts (p x) (list_all p xs) k).1
 
-pub gone_through : (t r all : Bool) → ((t || all) && (r || all)) ≡ ((t && r) || all)
-gone_through true true all = refl
-gone_through true false all = refl
-gone_through false true false = refl
-gone_through false true true = refl
-gone_through false false false = refl
-gone_through false false true = refl
-
 length-union : (a b : List ℕ) → length a ≡ length b → length (union_rows a b) ≡ length b
 length-union [] b e = e
 length-union (s ∷ a) [] e = absurd (omega arith)

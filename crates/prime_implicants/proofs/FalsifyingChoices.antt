@@ -1,28 +1,20 @@
 -- Choices of values that make a row false.
-use Rattle.prime_implicants.specs.Partial.{IsWithin, IsTotal}
+use Rattle.prime_implicants.specs.Partial.{IsWithin}
 use Rattle.prime_implicants.specs.DenseClauses.{fits, row_unfalsified, all_unfalsified, is_zero}
-use Rattle.prime_implicants.specs.Found.{CoversAt, Covers, all_below, is_needed, IsFoundable, AgreesTo, IsChoice, IsChoiceFrom, IsBlockedByRows, IsPrimeByRows, Key, key_of}
+use Rattle.prime_implicants.specs.Found.{AreComplete, CoversAt, Covers, all_below, is_needed, IsFoundable, AgreesTo, IsChoice, IsChoiceFrom, IsPrimeByRows, Key, key_of}
 use Rattle.std.proofs.Common.{◌≡◌, ℕ, zero, suc, ◌+◌, ◌<◌, ◌≤◌, ◌≢◌, Bool, true, false, ◌&&◌, ◌||◌, eqb, List, [], ◌∷◌, length, Option, Some, None, refl, sym, ◌∙◌, ap, subst, arith, set, get_or, ◌⊎◌, inl, inr}
 use Rattle.std.specs.List.{list_all}
 use Rattle.std.specs.Option.{is_none}
 use Rattle.std.specs.Prelude.{MatchOption}
 use Rattle.std.proofs.Common.{get_or-set_other, get_or-set_same}
 use Rattle.prime_implicants.proofs.DenseClauseLaws.{length-within}
-use mathlib.Core.Bool.{and-false}
 use Rattle.cca_base.specs.Sets.{has}
 use Rattle.prime_implicants.proofs.PartialValueLaws.{within_nothing}
 use Rattle.prime_implicants.proofs.Completeness.{all_unfalsified_wider, false_if, blocked_if, extends_self}
 use Rattle.std.proofs.lemmas.List.Folds.{list_all_at}
-use Rattle.std.proofs.lemmas.Bool.{not-false, or_parts, and_parts, eqb-true}
+use Rattle.std.proofs.lemmas.Bool.{cases_Bool, not-false, or_parts, and_parts, eqb-true}
 use Rattle.std.proofs.lemmas.List.{ext_get_or}
 use Rattle.std.proofs.Common.{replicate}
-
-pub fails_below : (n : ℕ) (t : ℕ → Bool) (i : ℕ) → i < n → t i ≡ false → all_below n t ≡ false
-fails_below zero t i h e = absurd (omega arith)
-fails_below (suc n) t i h e =
-    let P : ℕ → Type 0 = λ z. t z ≡ false in
-    let cases : (i < n) ⊎ (i ≡ n) = grind arith in
-    elim cases [ inl l ↦ rw (fails_below n t i l e) | inr same ↦ rw (subst P same e, and-false (all_below n t)) ]
 
 pub passes_below : (n : ℕ) (t : ℕ → Bool) (i : ℕ) → i < n → all_below n t ≡ true → t i ≡ true
 passes_below zero t i h e = absurd (omega arith)
@@ -31,6 +23,9 @@ passes_below (suc n) t i h e =
     let P : ℕ → Type 0 = λ z. t z ≡ true in
     let cases : (i < n) ⊎ (i ≡ n) = grind arith in
     elim cases [ inl l ↦ passes_below n t i l both.0 | inr same ↦ subst P (sym same) both.1 ]
+
+pub fails_below : (n : ℕ) (t : ℕ → Bool) (i : ℕ) → i < n → t i ≡ false → all_below n t ≡ false
+fails_below n t i h e = elim (cases_Bool (all_below n t)) [ inl all ↦ (let passes = passes_below n t i h all in absurd (cc)) | inr fails ↦ fails ]
 
 -- ---- a refuted part of a minimal one is the whole
 
@@ -207,11 +202,6 @@ find_false t [] d e = absurd (cc)
 find_false t (x ∷ xs) d e = find_case t x xs d (t x) refl e (find_false t xs d)
 
 -- ---- what the tests find is what is prime
-
--- what `complete` ensures
-pub record AreComplete (sizes : List ℕ) (first rows : List (List ℕ)) : Type 0 where
-  pub same : (a : List (Option ℕ)) → IsWithin sizes a → IsTotal a → all_unfalsified a rows ≡ all_unfalsified a first
-  pub complete : (q : List (Option ℕ)) → IsWithin sizes q → IsBlockedByRows sizes first q → all_unfalsified q rows ≡ false
 
 within_part : (sizes : List ℕ) (p q : List (Option ℕ)) → IsWithin sizes p → Covers p q → IsWithin sizes q
 within_part [] [] [] w x = tt

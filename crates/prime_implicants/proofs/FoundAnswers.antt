@@ -12,9 +12,9 @@ use Rattle.cca_base.proofs.Members.{all_from, contains_cases, contains_here, con
 use Rattle.clause_form.specs.declared.clause.Clauses.{Clauses}
 use Rattle.prime_implicants.specs.DenseClauses.{all_unfalsified, row_unfalsified, is_zero}
 use Rattle.prime_implicants.proofs.DenseClauseLaws.{list_all_get}
-use Rattle.prime_implicants.specs.Found.{IsFoundable, is_needed, Key, key_from, key_of, all_keys, pairs_of_key, are_listed_from, is_proper, cubes_of_keys, AreOrdered, AreMany}
+use Rattle.prime_implicants.specs.Found.{AreComplete, IsFoundable, is_needed, Key, key_from, key_of, all_keys, pairs_of_key, are_listed_from, is_proper, cubes_of_keys, AreOrdered, AreMany}
 use Rattle.prime_implicants.specs.Primes.{IsPrime, AreAllPrimes, AreMorePrimes}
-use Rattle.prime_implicants.proofs.FalsifyingChoices.{AreComplete, prime_if, found_if, below_size, passes_below, find_false, row_unfalsified-drop}
+use Rattle.prime_implicants.proofs.FalsifyingChoices.{prime_if, found_if, below_size, passes_below, find_false, row_unfalsified-drop}
 use Rattle.prime_implicants.proofs.PartialPairs.{values_in, some_inside}
 use Rattle.prime_implicants.proofs.PrimeCubes.{AreRowsOf, cube_is_prime, partial_is_prime, cube_again}
 use Rattle.prime_implicants.proofs.Counting.{not_among_fewer}
@@ -122,10 +122,10 @@ pub more_primes : (clauses : Clauses) (first rows : List (List ℕ)) (most : ℕ
 more_primes clauses first rows most a m = record {
   cubes = cubes_of_keys m.0;
   in_order = in_order clauses.sizes rows m.0 m.2 (each_stands clauses.sizes rows m.0 m.3);
-  primes = all_from (IsPrime clauses) (cubes_of_keys m.0) (λ cube h. prime_of_cube clauses first rows m.0 cube a m.3 h);
+  each = all_from (IsPrime clauses) (cubes_of_keys m.0) (λ cube h. prime_of_cube clauses first rows m.0 cube a m.3 h);
   many = omega (arith, length-cubes m.0, m.1);
 }
 
 -- there are not both at most so many prime cubes and more
 pub not_more : (clauses : Clauses) (most : ℕ) (cubes : List (List Pair)) → AreAllPrimes clauses most cubes → AreMorePrimes clauses most → ⊥
-not_more clauses most cubes a m = not_among_fewer m.cubes cubes most m.in_order (λ k d l. (a.each (get_or m.cubes k d)).1 (m.primes k d l)) m.many a.few
+not_more clauses most cubes a m = not_among_fewer m.cubes cubes most m.in_order (λ k d l. (a.each (get_or m.cubes k d)).1 (m.each k d l)) m.many a.few

@@ -64,7 +64,7 @@ inside cube ps p = omega (arith, length-append cube (p ∷ ps))
 fit_seam : (cube ps : List Pair) (p : Pair) → All (IsFit 0) (cube ++ p ∷ ps) → IsFit 0 p
 fit_seam cube ps p f = subst (IsFit 0) (get_or-append_seam cube p ps p) (f (length cube) p (inside cube ps p))
 
-lacks_seam : (cube ps : List Pair) (p : Pair) → IsRising (cube ++ p ∷ ps) → Lacks p.item cube
+pub lacks_seam : (cube ps : List Pair) (p : Pair) → IsRising (cube ++ p ∷ ps) → Lacks p.item cube
 lacks_seam cube ps p up k d l e =
     let before = up k (length cube) d l (inside cube ps p) in
     omega (arith, before, ap (λ z. z.item) (get_or-append cube (p ∷ ps) d k l), ap (λ z. z.item) (get_or-append_seam cube p ps d), e)

@@ -1,8 +1,11 @@
 -- Clauses as rows: for each subject the set of the values with which it makes the clause true.
-use Rattle.std.specs.Prelude.{ℕ, Bool, not, ◌==◌, ◌-◌, ◌^◌, ◌&&◌, ◌||◌, List, length, Option, Some, None, map, bit_or, slice_index, slice_set, nat_lt}
+use Rattle.std.specs.Prelude.{◌≡◌, ◌≤◌, IsTrue, ℕ, Bool, not, ◌==◌, ◌-◌, ◌^◌, ◌&&◌, ◌||◌, List, length, Option, Some, None, map, bit_or, slice_index, slice_set, nat_lt}
 use Rattle.std.specs.List.{zip, list_all, list_any}
 use Rattle.cca_base.specs.Sets.{has}
-use Rattle.clause_form.specs.Clauses.{any_below}
+use Rattle.cca_base.specs.declared.limits.TheConstants.{MAX_ROWS}
+use Rattle.clause_form.specs.declared.clause.Clauses.{Clauses}
+use Rattle.clause_form.specs.Clauses.{all_met, any_below}
+use Rattle.prime_implicants.specs.Partial.{Values, given}
 
 -- for each subject a set of values
 abbrev pub Sets : Type 0
@@ -72,3 +75,9 @@ is_sized q row = length row == length q
 -- the row without the subject's set
 abbrev pub fix_row : ℕ → List ℕ → List ℕ
 fix_row x row = slice_set row x 0
+
+-- rows over the clauses' subjects, which are true of the same values and have none past the sets of values
+pub record AreDense (clauses : Clauses) (rows : List (List ℕ)) : Type 0 where
+  pub wide : IsTrue (list_all (is_wide (length clauses.sizes)) rows)
+  pub unfalsified : (xs : Values) → length xs ≡ length clauses.sizes → all_unfalsified (given xs) rows ≡ all_met xs clauses.clauses
+  pub zero : (y : ℕ) → MAX_ROWS ≤ y → IsTrue (list_all (is_zero y) rows)

@@ -1,5 +1,5 @@
 -- Partial values that nothing meeting all rows has, the minimal ones, and their keys.
-use Rattle.std.specs.Prelude.{◌≡◌, ℕ, zero, suc, Bool, true, false, ◌<◌, ◌≤◌, ◌&&◌, ◌||◌, List, [], ◌∷◌, length, Option, Some, None, map, filter, slice_index, slice_index_or, slice_set, ◌≢◌, nat_lt, nat_le}
+use Rattle.std.specs.Prelude.{◌≡◌, ℕ, zero, suc, Bool, true, false, ◌<◌, ◌≤◌, ◌&&◌, ◌||◌, List, [], ◌∷◌, length, Option, Some, None, map, filter, slice_index, slice_index_or, slice_set, IsTrue, ◌≢◌, nat_lt, nat_le}
 use Rattle.std.specs.Option.{is_none, is_some}
 use Rattle.std.proofs.Common.{Vec, Global}
 use Rattle.std.specs.List.Sorted.{IsStrictlySortedBy}
@@ -27,6 +27,11 @@ Covers (o ∷ a) (p ∷ q) = CoversAt o p × Covers a q
 -- no values of all subjects that make all rows true have these
 abbrev pub IsBlockedByRows : List ℕ → List (List ℕ) → List (Option ℕ) → Type 0
 IsBlockedByRows sizes rows q = (a : List (Option ℕ)) → IsWithin sizes a → IsTotal a → Covers a q → all_unfalsified a rows ≡ false
+
+-- rows that are true of the same values of all subjects, of which all that is blocked makes one false
+pub record AreComplete (sizes : List ℕ) (first rows : List (List ℕ)) : Type 0 where
+  pub same : (a : List (Option ℕ)) → IsWithin sizes a → IsTotal a → all_unfalsified a rows ≡ all_unfalsified a first
+  pub complete : (q : List (Option ℕ)) → IsWithin sizes q → IsBlockedByRows sizes first q → all_unfalsified q rows ≡ false
 
 -- blocked, and each blocked part is the whole
 pub record IsPrimeByRows (sizes : List ℕ) (rows : List (List ℕ)) (q : List (Option ℕ)) : Type 0 where
@@ -66,6 +71,10 @@ IsChoice (Some v) s = (s ≢ 0) × (has s v ≡ false)
 abbrev pub IsChoiceFrom : ℕ → List ℕ → List (Option ℕ) → Type 0
 IsChoiceFrom at row p = (i : ℕ) → at ≤ i → i < length p → IsChoice (slice_index_or p i None) (slice_index row i)
 
+-- below a subject the values are these, and from it on they make the row false and no more
+abbrev pub IsChoiceBehind : ℕ → List ℕ → List (Option ℕ) → List (Option ℕ) → Type 0
+IsChoiceBehind at row q p = AgreesTo at q p × IsChoiceFrom at row p
+
 -- how many pairs a cube has, and then each pair's subject and value
 abbrev pub Key : Type 0
 Key = List ℕ
@@ -92,6 +101,12 @@ AreOrdered keys = IsStrictlySortedBy (λ (a b : Vec ℕ Global). slice_cmp nat_c
 abbrev pub AreMany : List ℕ → List (List ℕ) → ℕ → Type 0
 AreMany sizes rows most = (keys : List (Vec ℕ Global)) × (most < length keys) × AreOrdered keys
     × ((t : List ℕ → Bool) → ((p : List (Option ℕ)) → IsFoundable sizes rows p → t (key_of p) ≡ true) → all_keys t keys ≡ true)
+
+-- more keys: each is of values that the tests find, and, unless there are too many, those of the values of which P is true are among them
+pub record AreAdded (sizes : List ℕ) (rows : List (List ℕ)) (most : ℕ) (P : List (Option ℕ) → Type 0) (old new : List (Vec ℕ Global)) : Type 0 where
+  pub sound : (t : Key → Bool) → IsTrue (all_keys t old) → ((p : List (Option ℕ)) → IsFoundable sizes rows p → IsTrue (t (key_of p))) → IsTrue (all_keys t new)
+  pub grown : (t : Key → Bool) → IsTrue (all_keys t new) → IsTrue (all_keys t old)
+  pub found : length new ≤ most → (p : List (Option ℕ)) → IsFoundable sizes rows p → P p → (t : Key → Bool) → IsTrue (all_keys t new) → IsTrue (t (key_of p))
 
 -- the pairs that are listed, each as a subject and a value
 abbrev pub pairs_listed : List ℕ → List Pair

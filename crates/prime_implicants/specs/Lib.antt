@@ -1,4 +1,5 @@
 pub mod DenseClauses
 pub mod Found
+pub mod Many
 pub mod Partial
 pub mod Primes

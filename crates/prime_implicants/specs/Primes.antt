@@ -5,6 +5,7 @@ use Rattle.cca_base.specs.Cube.{AreInCubeOrder, IsPart, IsRising}
 use Rattle.cca_base.specs.State.{Extends}
 use Rattle.clause_form.specs.declared.clause.Clauses.{Clauses}
 use Rattle.clause_form.specs.Clauses.{AreValues, all_met}
+use Rattle.prime_implicants.specs.Many.{AreMoreCubes}
 use Rattle.prime_implicants.specs.declared.answer.Primes.{Primes}
 use Rattle.prime_implicants.specs.declared.answer.Primes.TheVariants.{Every, More}
 
@@ -26,11 +27,8 @@ pub record AreAllPrimes (clauses : Clauses) (most : ℕ) (cubes : List (List Pai
   pub few : length cubes ≤ most
 
 -- more than so many prime cubes
-pub record AreMorePrimes (clauses : Clauses) (most : ℕ) : Type 0 where
-  pub cubes : List (List Pair)
-  pub in_order : AreInCubeOrder cubes
-  pub primes : All (IsPrime clauses) cubes
-  pub many : most < length cubes
+abbrev pub AreMorePrimes : Clauses → ℕ → Type 0
+AreMorePrimes clauses most = AreMoreCubes most (IsPrime clauses)
 
 -- a fact of the cubes, where they are answered
 abbrev pub IfEvery : Primes → (List (List Pair) → Type 0) → Type 0

@@ -5,7 +5,7 @@ ghost use Rattle.std.specs.List.{list_all};
 ghost use Rattle.std.specs.BTreeSet.{btree_set_len};
 ghost use Rattle.prime_implicants.specs.Partial.{IsWithin, Partial};
 ghost use Rattle.prime_implicants.specs.DenseClauses.{all_unfalsified, is_wide, is_zero};
-ghost use Rattle.prime_implicants.specs.Found.{AgreesTo, AreMany, AreOrdered, IsChoiceFrom, IsFoundable, Key, all_keys, key_of};
+ghost use Rattle.prime_implicants.specs.Found.{AreAdded, AreMany, AreOrdered, IsChoiceBehind, IsChoiceFrom, IsFoundable, Key, all_keys, key_of};
 
 use crate::dense_clause::{DenseClause, are_named_unfalsified, are_unfalsified, next_named};
 use crate::found::Found;
@@ -54,14 +54,8 @@ fn choose_row(
     most: usize,
 ) -> Result<(), AllocError>
     requires { length row.now ≡ length sizes.now }
-    ensures sound { OnOk result ((t : Key → Bool) → all_keys t found.old.keys ≡ true
-        → ((p : Partial) → IsFoundable sizes.now rows.now p → t (key_of p) ≡ true)
-        → all_keys t found.new.keys ≡ true) }
-    ensures grown { OnOk result ((t : Key → Bool) → all_keys t found.new.keys ≡ true
-        → all_keys t found.old.keys ≡ true) }
-    ensures found { OnOk result (btree_set_len found.new ≤ most → (p : Partial)
-        → IsFoundable sizes.now rows.now p → IsChoiceFrom 0 row.now p
-        → (t : Key → Bool) → all_keys t found.new.keys ≡ true → t (key_of p) ≡ true) }
+    ensures { OnOk result (AreAdded sizes.now rows.now most (IsChoiceFrom 0 row.now)
+        found.old.keys found.new.keys) }
 {
     let mut partial = nothing(alloc, sizes.len())?;
     if !are_unfalsified(partial.as_slice(), rows) {
@@ -106,14 +100,8 @@ fn choose(
         slice_index_or partial.old i None ≡ None }
     requires unfalsified { all_unfalsified partial.old rows.now ≡ true }
     ensures same { OnOk result (partial.new ≡ partial.old) }
-    ensures sound { OnOk result ((t : Key → Bool) → all_keys t found.old.keys ≡ true
-        → ((p : Partial) → IsFoundable sizes.now rows.now p → t (key_of p) ≡ true)
-        → all_keys t found.new.keys ≡ true) }
-    ensures grown { OnOk result ((t : Key → Bool) → all_keys t found.new.keys ≡ true
-        → all_keys t found.old.keys ≡ true) }
-    ensures found { OnOk result (btree_set_len found.new ≤ most → (p : Partial)
-        → IsFoundable sizes.now rows.now p → AgreesTo at partial.old p → IsChoiceFrom at row.now p
-        → (t : Key → Bool) → all_keys t found.new.keys ≡ true → t (key_of p) ≡ true) }
+    ensures adds { OnOk result (AreAdded sizes.now rows.now most (IsChoiceBehind at row.now
+        partial.old) found.old.keys found.new.keys) }
 {
     let x = next_named(row, at);
     if x == partial.len() {
@@ -148,15 +136,8 @@ fn choose_after(
         slice_index_or partial.old i None ≡ None }
     requires others { all_unfalsified partial.old (filter (is_zero x) rows.now) ≡ true }
     ensures same { OnOk result (partial.new ≡ partial.old) }
-    ensures sound { OnOk result ((t : Key → Bool) → all_keys t found.old.keys ≡ true
-        → ((p : Partial) → IsFoundable sizes.now rows.now p → t (key_of p) ≡ true)
-        → all_keys t found.new.keys ≡ true) }
-    ensures grown { OnOk result ((t : Key → Bool) → all_keys t found.new.keys ≡ true
-        → all_keys t found.old.keys ≡ true) }
-    ensures found { OnOk result (btree_set_len found.new ≤ most → (p : Partial)
-        → IsFoundable sizes.now rows.now p → AgreesTo (x + 1) partial.old p →
-        IsChoiceFrom (x + 1) row.now p
-        → (t : Key → Bool) → all_keys t found.new.keys ≡ true → t (key_of p) ≡ true) }
+    ensures adds { OnOk result (AreAdded sizes.now rows.now most (IsChoiceBehind (x + 1) row.now
+        partial.old) found.old.keys found.new.keys) }
 {
     if !are_named_unfalsified(partial, rows, x) {
         add_minimal(alloc, rows, partial, found)?;

@@ -1,10 +1,11 @@
 //! A clause as one value set for each subject, and its truth under partial values.
 
-ghost use Rattle.std.specs.Prelude.{◌≡◌, ℕ, true, false, ◌<◌, ◌≤◌, All, IfOk, length, replicate};
+ghost use Rattle.std.specs.Prelude.{◌≡◌, ℕ, true, false, ◌<◌, ◌≤◌, IfOk, length, replicate};
 ghost use Rattle.cca_base.specs.declared.limits.TheConstants.{MAX_CHOICES};
 ghost use Rattle.prime_implicants.specs.DenseClauses.{all_unfalsified, row_unfalsified, fits, is_always, is_full, is_stronger, is_zero, named_unfalsified, union_rows};
 
 use cca_base::{List, ValueSet};
+use clause_form::Sizes;
 use std::alloc::{AllocError, Global};
 
 /// A clause as the set of values, for each subject, with which the subject makes it true.
@@ -45,11 +46,11 @@ pub fn union(alloc: Global, a: &DenseClause, b: &DenseClause) -> Result<DenseCla
 }
 
 /// Whether some set has all values of its subject.
-pub fn is_always(sizes: &[u8], row: &DenseClause) -> bool
-    requires { All (λ n. n ≤ MAX_CHOICES) sizes.now }
+pub fn is_always(sizes: &Sizes, row: &DenseClause) -> bool
     ensures { result ≡ is_always sizes.now row.now }
 {
     sizes
+        .as_slice()
         .iter()
         .zip(row.as_slice())
         .any(|(n, s)| is_full(*n, *s))

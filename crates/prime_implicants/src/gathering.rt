@@ -1,8 +1,7 @@
 //! All resolvents on a subject: what the clauses say of it for some of its values.
 
-ghost use Rattle.std.specs.Prelude.{◌≡◌, ℕ, Bool, true, ◌≤◌, ◌<◌, ◌&&◌, ◌||◌, All, IfOk, OnOk, Some, length, slice_index, slice_set};
+ghost use Rattle.std.specs.Prelude.{◌≡◌, ℕ, Bool, true, ◌<◌, ◌&&◌, ◌||◌, IfOk, OnOk, Some, length, slice_index, slice_set};
 ghost use Rattle.std.specs.List.{list_all};
-ghost use Rattle.cca_base.specs.declared.limits.TheConstants.{MAX_CHOICES};
 ghost use Rattle.prime_implicants.specs.Partial.{Partial, IsWithin};
 ghost use Rattle.prime_implicants.specs.DenseClauses.{Sets, all_unfalsified, row_unfalsified, fix_row, is_in, is_sized, is_wide, is_zero, union_rows};
 ghost use Rattle.clause_form.specs.Clauses.{any_below};
@@ -10,6 +9,7 @@ ghost use Rattle.clause_form.specs.Clauses.{any_below};
 use crate::dense_clause::{DenseClause, is_always, never, union};
 use crate::dense_clauses::insert_minimal;
 use cca_base::ValueSet;
+use clause_form::Sizes;
 use std::alloc::{AllocError, Global};
 
 /// The rows once a subject has a value.
@@ -59,11 +59,10 @@ fn push_fixed(
 /// What the rows of the one or those of the other say.
 fn resolve_on(
     alloc: Global,
-    sizes: &[u8],
+    sizes: &Sizes,
     left: &[DenseClause],
     right: &[DenseClause],
 ) -> Result<Vec<DenseClause>, AllocError>
-    requires small { All (λ n. n ≤ MAX_CHOICES) sizes.now }
     requires left { list_all (is_wide (length sizes.now)) left.now ≡ true }
     requires right { list_all (is_wide (length sizes.now)) right.now ≡ true }
     ensures unfalsified { IfOk result (λ r. (q : Partial) → IsWithin sizes.now q
@@ -82,12 +81,11 @@ fn resolve_on(
 // Adds to `out` what the row or all others say.
 fn join_row(
     alloc: Global,
-    sizes: &[u8],
+    sizes: &Sizes,
     row: &DenseClause,
     others: &[DenseClause],
     out: &mut Vec<DenseClause>,
 ) -> Result<(), AllocError>
-    requires small { All (λ n. n ≤ MAX_CHOICES) sizes.now }
     requires wide { is_wide (length sizes.now) row.now ≡ true }
     requires others { list_all (is_wide (length sizes.now)) others.now ≡ true }
     requires out { list_all (is_wide (length sizes.now)) out.old.items ≡ true }
@@ -107,12 +105,11 @@ fn join_row(
 // Adds to `out` what one of the two rows says.
 fn join_one(
     alloc: Global,
-    sizes: &[u8],
+    sizes: &Sizes,
     a: &DenseClause,
     b: &DenseClause,
     out: &mut Vec<DenseClause>,
 ) -> Result<(), AllocError>
-    requires small { All (λ n. n ≤ MAX_CHOICES) sizes.now }
     requires a { is_wide (length sizes.now) a.now ≡ true }
     requires b { is_wide (length sizes.now) b.now ≡ true }
     requires out { list_all (is_wide (length sizes.now)) out.old.items ≡ true }
@@ -133,11 +130,10 @@ fn join_one(
 /// What the rows say of the other subjects: with some value of `x` all are true.
 pub fn gather(
     alloc: Global,
-    sizes: &[u8],
+    sizes: &Sizes,
     rows: &[DenseClause],
     x: usize,
 ) -> Result<Vec<DenseClause>, AllocError>
-    requires small { All (λ n. n ≤ MAX_CHOICES) sizes.now }
     requires subject { x < length sizes.now }
     requires wide { list_all (is_wide (length sizes.now)) rows.now ≡ true }
     ensures wide { IfOk result (λ r. list_all (is_wide (length sizes.now)) r.items ≡ true) }
@@ -150,7 +146,7 @@ pub fn gather(
 {
     let mut out = Vec::new(alloc);
     out.push(never(alloc, sizes.len())?)?;
-    for v in 0..sizes[x] {
+    for v in 0..sizes.get(x) {
         let fixed = condition(alloc, rows, x, v)?;
         out = resolve_on(alloc, sizes, out.as_slice(), fixed.as_slice())?;
     }

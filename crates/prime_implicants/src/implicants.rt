@@ -19,9 +19,9 @@ pub fn primes(alloc: Global, clauses: &Clauses, most: u32) -> Result<Primes, All
     ensures every { IfOk result (λ r. IfEvery r (AreAllPrimes clauses.now most)) }
     ensures more { IfOk result (λ r. IsMore r ↔ AreMorePrimes clauses.now most) }
 {
-    let sizes = clauses.sizes.as_slice();
     let mut rows = least_rows_of(alloc, clauses)?;
-    complete(alloc, sizes, &mut rows)?;
+    complete(alloc, &clauses.sizes, &mut rows)?;
+    let sizes = clauses.sizes.as_slice();
     match all_minimal(alloc, sizes, rows.as_slice(), most as usize)? {
         Some(found) => Ok(Primes::Every(cubes_of(alloc, found)?)),
         None => Ok(Primes::More),

@@ -1,12 +1,11 @@
 //! Clauses as dense rows of value sets.
 
 ghost use Rattle.std.specs.Prelude.{◌≡◌, ℕ, true, ◌≤◌, ◌<◌, ◌||◌, All, IfOk, OnOk, length, nat_le, slice_index, take};
-ghost use Rattle.std.specs.List.{list_all};
 ghost use Rattle.cca_base.specs.declared.limits.TheConstants.{MAX_ROWS};
-ghost use Rattle.clause_form.specs.Clauses.{AreBelow, AreClauses, all_met, is_met, is_true, meets};
+ghost use Rattle.clause_form.specs.Clauses.{AreBelow, AreClauses, is_met, is_true, meets};
 ghost use Rattle.cca_base.specs.Sets.{has};
 ghost use Rattle.prime_implicants.specs.Partial.{Values, given};
-ghost use Rattle.prime_implicants.specs.DenseClauses.{all_unfalsified, row_unfalsified, is_wide, is_zero};
+ghost use Rattle.prime_implicants.specs.DenseClauses.{AreDense, row_unfalsified, is_wide, is_zero};
 
 use crate::dense_clause::{DenseClause, never};
 use crate::dense_clauses::add_all;
@@ -17,10 +16,7 @@ use std::alloc::{AllocError, Global};
 /// The rows of the clauses.
 pub fn rows_of(alloc: Global, clauses: &Clauses) -> Result<Vec<DenseClause>, AllocError>
     requires { AreClauses clauses.now }
-    ensures wide { IfOk result (λ r. list_all (is_wide (length clauses.now.sizes)) r.items ≡ true) }
-    ensures unfalsified { IfOk result (λ r. (xs : Values) → length xs ≡ length clauses.now.sizes
-        → all_unfalsified (given xs) r.items ≡ all_met xs clauses.now.clauses) }
-    ensures zero { IfOk result (λ r. (y : ℕ) → MAX_ROWS ≤ y → list_all (is_zero y) r.items ≡ true) }
+    ensures { IfOk result (λ r. AreDense clauses.now r.items) }
 {
     let mut rows = Vec::new(alloc);
     for clause in clauses.clauses.as_slice() {
@@ -32,10 +28,7 @@ pub fn rows_of(alloc: Global, clauses: &Clauses) -> Result<Vec<DenseClause>, All
 /// The rows of the clauses, without those that say no more than another.
 pub fn least_rows_of(alloc: Global, clauses: &Clauses) -> Result<Vec<DenseClause>, AllocError>
     requires { AreClauses clauses.now }
-    ensures wide { IfOk result (λ r. list_all (is_wide (length clauses.now.sizes)) r.items ≡ true) }
-    ensures unfalsified { IfOk result (λ r. (xs : Values) → length xs ≡ length clauses.now.sizes
-        → all_unfalsified (given xs) r.items ≡ all_met xs clauses.now.clauses) }
-    ensures zero { IfOk result (λ r. (y : ℕ) → MAX_ROWS ≤ y → list_all (is_zero y) r.items ≡ true) }
+    ensures { IfOk result (λ r. AreDense clauses.now r.items) }
 {
     let all = rows_of(alloc, clauses)?;
     let mut least = Vec::new(alloc);

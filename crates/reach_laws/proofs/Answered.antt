@@ -136,6 +136,21 @@ pub record WholeInner (b : CompiledModel) (base : List ℕ) (member : Test) (s k
   pub covers : Covers b.model base member last
   pub empty : (d : ℕ) → HasNone member d → slice_index last d ≡ slice_index s d
 
+-- after a picked command the same classes cover the state
+pub next_setting : (b : CompiledModel) (base : List ℕ) (member : Test) (goal : List Pair) → AreInside member goal → (s next : List ℕ) (k : ℕ) → Setting b.model b.order base member s
+    → PicksForGoal b s goal k → Step b.model s k next → Setting b.model b.order base member next
+next_setting b base member goal inside s next k g (p, first, picks) step =
+    let inside_p : member p.item p.value ≡ true = All-contains (λ q. member q.item q.value ≡ true) goal p inside (missing_among s goal p first) in
+    let made = landed_inner b.model b.order base member s next g k (landed b base member s g p.item p.value k picks inside_p) step in
+    record {
+      well_formed = g.well_formed;
+      ordered = g.ordered;
+      grounded = g.grounded;
+      classes = g.classes;
+      state = step_state b.model s next k made.0.step (repair_rules b.model g.well_formed) g.state;
+      covers = inner_covers b.model base member s next k made.0;
+    }
+
 whole_inner : (b : CompiledModel) (base : List ℕ) (member : Test) (goal : List Pair) → AreInside member goal → (s ks last : List ℕ) → Setting b.model b.order base member s
     → Whole b goal s ks last → WholeInner b base member s ks last
 whole_inner b base member goal inside s [] last g whole = record {
@@ -151,14 +166,7 @@ whole_inner b base member goal inside s (k ∷ ks) last g whole =
     let inside_p : member p.item p.value ≡ true = All-contains (λ q. member q.item q.value ≡ true) goal p inside (missing_among s goal p whole.1.1) in
     let h : Landed b.model base member s k = landed b base member s g p.item p.value k whole.1.2 inside_p in
     let made = landed_inner b.model b.order base member s next g k h step in
-    let g_next : Setting b.model b.order base member next = record {
-      well_formed = g.well_formed;
-      ordered = g.ordered;
-      grounded = g.grounded;
-      classes = g.classes;
-      state = step_state b.model s next k made.0.step (repair_rules b.model g.well_formed) g.state;
-      covers = inner_covers b.model base member s next k made.0;
-    } in
+    let g_next : Setting b.model b.order base member next = next_setting b base member goal inside s next k g whole.1 step in
     let rest : WholeInner b base member next ks last = whole_inner b base member goal inside next ks last g_next whole.4 in
     record {
       run = (next, made.0, rest.run);
@@ -247,18 +255,3 @@ module _ (b : CompiledModel) (base : List ℕ) (member : Test) (from s : List �
 pub way_back : WayBack
 way_back b base member from s g state covers stays goal back =
     (back_inside b base member from s g state covers stays goal back, back_mends b base member from s g state covers stays goal back)
-
--- after a picked command the same classes cover the state
-pub next_setting : (b : CompiledModel) (base : List ℕ) (member : Test) (goal : List Pair) → AreInside member goal → (s next : List ℕ) (k : ℕ) → Setting b.model b.order base member s
-    → PicksForGoal b s goal k → Step b.model s k next → Setting b.model b.order base member next
-next_setting b base member goal inside s next k g (p, first, picks) step =
-    let inside_p : member p.item p.value ≡ true = All-contains (λ q. member q.item q.value ≡ true) goal p inside (missing_among s goal p first) in
-    let made = landed_inner b.model b.order base member s next g k (landed b base member s g p.item p.value k picks inside_p) step in
-    record {
-      well_formed = g.well_formed;
-      ordered = g.ordered;
-      grounded = g.grounded;
-      classes = g.classes;
-      state = step_state b.model s next k made.0.step (repair_rules b.model g.well_formed) g.state;
-      covers = inner_covers b.model base member s next k made.0;
-    }

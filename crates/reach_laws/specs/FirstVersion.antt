@@ -17,7 +17,7 @@ abbrev pub RepairsMendAtOnce : Type 0
 RepairsMendAtOnce = (m : PlantModel) (order base : List ℕ) (member : Test) (s : List ℕ) → Setting m order base member s → m.version ≡ 1
     → (t : List ℕ) (k : ℕ) (step : Step m s k t) → IsTrue step.move.repair → member step.move.component step.move.target ≡ true
 
--- between two covered states, what is broken in the second and has no mode in its class stands in the first on its chain
+-- between two covered states, what is broken in the second and has no mode in its class stands in the first in a mode of the chain of that one
 abbrev pub StuckStays : Type 0
 StuckStays = (m : PlantModel) (base : List ℕ) (member : Test) → WellFormed m → m.version ≡ 1 → AreClasses m base member
     → (from s : List ℕ) → Covers m base member from → Covers m base member s → StaysOnChain m member from s

@@ -29,6 +29,11 @@ move_within m n numbers within place lt move at =
     let same : is.0 ≡ move = same_Some is.0 move (sym is.1 ∙ at) in
     (subst (λ (z : Move). z.source < n) same is.2, subst (λ (z : Move). z.target < n) same is.3)
 
+-- the same of a move that is read in a list of the moves
+pub read_within : (m : PlantModel) (n : ℕ) (numbers : List ℕ) → AreMovesWithin m n numbers → (place : ℕ) → place < length numbers → {moves : List Move} {move : Move} → moves ≡ m.moves
+    → slice_get moves (slice_index numbers place) ≡ Some move → (move.source < n) × (move.target < n)
+read_within m n numbers within place lt {move = move} same at = move_within m n numbers within place lt move (subst (λ l. slice_get l (slice_index numbers place) ≡ Some move) same at)
+
 module _ (m : PlantModel) (numbers : List ℕ) (level : List ℕ) where
   -- what the first n of the moves lead to besides
   abbrev pub IsExpandedBy : ℕ → List ℕ → Type 0

@@ -1,14 +1,10 @@
 -- Where components stand: in their classes, or in their open chains.
-use Rattle.std.proofs.Common.{◌≡◌, false, ◌+◌, ◌<◌, ◌≤◌, ◌↔◌, ℕ, true, zero, suc, List, [], ◌∷◌, length, slice_get, slice_index, Some, refl, sym, ap, subst, ◌∙◌, inl, inr, arith, map}
+use Rattle.std.proofs.Common.{◌≡◌, false, ◌+◌, ◌<◌, ◌↔◌, ℕ, true, zero, suc, List, [], ◌∷◌, length, slice_get, slice_index, Some, sym, ap, subst, ◌∙◌, inl, inr, arith, map}
 use Rattle.std.proofs.lemmas.Bool.{cases_lt, both_ways}
 use Rattle.std.proofs.lemmas.Option.{get_or_from_slice_get, slice_get_within, same_Some, none-some}
 use Rattle.cca_base.specs.Sets.{has}
 use Rattle.reversibility.specs.ClassParts.{ClassParts, IsClasses, in_row}
 use Rattle.cca_base.specs.declared.model.Component.{Component}
-use Rattle.cca_base.specs.PlantModel.{PlantModel}
-use Rattle.cca_base.specs.Model.{WellFormed, IsComponent, mode_counts}
-use Rattle.cca_base.specs.declared.limits.TheConstants.{MAX_CHOICES}
-use Rattle.std.proofs.lemmas.List.Elements.{All-contains}
 use Rattle.reach_laws.specs.Classes.{Stands}
 
 pub mode_count : (components : List Component) (c : ℕ) (x : Component) → slice_get components c ≡ Some x → slice_index (map (λ z. length z.modes) components) c ≡ length x.modes
@@ -26,19 +22,6 @@ below_next P n each last k lt = elim (cases_lt k n) [
 module _ (p : ClassParts) (is : IsClasses p) (s : List ℕ) (c row mode : ℕ) (at_row : slice_get p.rows c ≡ Some row) (at_mode : slice_get s c ≡ Some mode) where
   row_within : c < length p.compiled.model.components
   row_within = omega (arith, slice_get_within p.rows c row at_row, is.rows_full)
-
--- a component has no more modes than it may have
-pub modes_few : (m : PlantModel) → WellFormed m → (c : ℕ) → c < length m.components → slice_index (mode_counts m) c ≤ MAX_CHOICES
-modes_few m w c within =
-    let found = some_at m.components c within in
-    let is : IsComponent found.0 = All-contains IsComponent m.components found.0 w.components (c, within, get_or_from_slice_get m.components c found.0 found.0 found.1) in
-    let few : length found.0.modes ≤ MAX_CHOICES = is.modes.few in
-    omega (arith, mode_count m.components c found.0 found.1, few)
-  where
-    some_at : {X : Type 0} (xs : List X) (i : ℕ) → i < length xs → (x : X) × (slice_get xs i ≡ Some x)
-    some_at [] i h = absurd (omega (arith, h))
-    some_at (x ∷ xs) zero h = (x, refl)
-    some_at (x ∷ xs) (suc i) h = some_at xs i (omega (arith, h))
 
 -- where a component may stand
 module _ (p : ClassParts) (is : IsClasses p) (c row mode : ℕ) (at_row : slice_get p.rows c ≡ Some row) where

@@ -1,6 +1,6 @@
 //! The class of a component: the strongly connected component of its home among the modes that open moves lead to.
 
-ghost use Rattle.std.specs.Prelude.{◌≡◌, ◌<◌, ◌≤◌, ◌↔◌, ℕ, IfOk, IsTrue, MatchOption, length};
+ghost use Rattle.std.specs.Prelude.{◌≡◌, ◌<◌, ◌≤◌, ◌↔◌, ℕ, IfOk, IfSome, IsNone, IsTrue, MatchOption, length};
 ghost use Rattle.cca_base.specs.declared.limits.TheConstants.{MAX_CHOICES};
 ghost use Rattle.cca_base.specs.Model.{HasMode};
 ghost use Rattle.reversibility.specs.Homes.{IsAround, IsHomeBy, IsHomeFrom, IsClassFrom};
@@ -77,9 +77,11 @@ pub(crate) fn class_around(
     requires within { component < length compiled.now.model.components }
     requires full { length rows.now ≡ length compiled.now.model.components }
     requires mode { HasMode compiled.now.model component mode }
-    ensures { IfOk result (λ o. MatchOption o
-        ((a : ℕ) → IsHomeFrom compiled.now.model (in_row rows.now) component mode a → ⊥)
-        (IsClassFrom compiled.now.model (in_row rows.now) component mode)) }
+    ensures some { IfOk result (λ o.
+        IfSome o (IsClassFrom compiled.now.model (in_row rows.now) component mode)) }
+    ensures none { IfOk result (λ o.
+        IsNone o → (a : ℕ) → IsHomeFrom compiled.now.model (in_row rows.now) component mode a →
+        ⊥) }
 {
     let paths = paths_of(alloc, compiled, rows, component)?;
     let Some(home) = home_of(compiled.model(), paths.numbers.as_slice(), component, mode) else {

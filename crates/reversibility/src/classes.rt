@@ -29,10 +29,9 @@ impl std::marker::Model for Classes {
 
     ghost Value = { ClassParts };
 
-    ghost use Rattle.cca_base.specs.contracts.formula.Formula as formula;
-    ghost use Rattle.std.specs.Coded.{codes};
+    ghost use Rattle.cca_base.specs.Coded.{model_codes};
 
-    ghost coded = { Prim.hlevel (codes, formula.the_row.coded) };
+    ghost coded = { Prim.hlevel model_codes };
 
     ghost use Rattle.reversibility.specs.ClassParts.{IsClasses};
 

@@ -1,6 +1,6 @@
 //! A row of a run over its text in version 2.
 use crate::finding::{Finding, compared};
-use crate::run::{Ends, run};
+use crate::run::{Case, Ends, run};
 use std::alloc::{AllocError, Global};
 use titan_top::Status;
 
@@ -14,13 +14,13 @@ fn ask_for_a_run(words: &str) -> bool {
 
 /// How a row comes out over its text in version 2, if its words ask for a run: it has to print what is wanted of the row, and
 /// to be migrated to itself.
-pub fn migrated(
-    alloc: Global,
-    words: &str,
-    input: &[u8],
-    ends: Ends,
-    wanted: &[u8],
-) -> Result<Finding, AllocError> {
+pub fn migrated(alloc: Global, case: Case<'_>) -> Result<Finding, AllocError> {
+    let Case {
+        words,
+        input,
+        ends,
+        wanted,
+    } = case;
     if !ask_for_a_run(words) {
         return Ok(Finding::Right);
     }

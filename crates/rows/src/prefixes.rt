@@ -1,6 +1,6 @@
 //! Runs every prefix of a text.
 use crate::finding::{Finding, compared};
-use crate::run::{Ends, run};
+use crate::run::{Case, run};
 use std::alloc::{AllocError, Global};
 use titan_top::Status;
 
@@ -35,17 +35,11 @@ fn prefix_finding(ended: Status, text: &[u8], wanted: &[u8]) -> Finding {
 }
 
 /// Runs every prefix of the text: each writes as many ticks as it has, and then, unless it is taken to its end, a refusal.
-pub fn prefixes(
-    alloc: Global,
-    words: &str,
-    input: &[u8],
-    ends: Ends,
-    wanted: &[u8],
-) -> Result<Finding, AllocError> {
-    for end in 0..=input.len() {
-        let prefix = &input[..end];
-        let (status, text) = run(alloc, words, prefix, ends)?;
-        let finding = prefix_finding(status, &text, first_lines(wanted, ticks(prefix)));
+pub fn prefixes(alloc: Global, case: Case<'_>) -> Result<Finding, AllocError> {
+    for end in 0..=case.input.len() {
+        let prefix = &case.input[..end];
+        let (status, text) = run(alloc, case.words, prefix, case.ends)?;
+        let finding = prefix_finding(status, &text, first_lines(case.wanted, ticks(prefix)));
         if finding != Finding::Right {
             return Ok(finding);
         }

@@ -3,7 +3,7 @@ use crate::finding::{Finding, compared};
 use crate::in_turn::in_turn;
 use crate::migrated::migrated;
 use crate::prefixes::prefixes;
-use crate::run::{Ends, run, run_endless};
+use crate::run::{Case, Ends, run, run_endless};
 use crate::table::cell;
 use crate::tally::Tally;
 use std::alloc::{AllocError, Global};
@@ -132,24 +132,16 @@ fn input_of<R: Files + AllocGlobal>(
     Ok(Some(bytes))
 }
 
-/// How the row comes out for these words.
-fn words_finding(
-    alloc: Global,
-    row: &Row,
-    words: &str,
-    input: &[u8],
-    wanted: &[u8],
-) -> io::Result<Finding> {
+/// How the row comes out for the words of this case.
+fn words_finding(alloc: Global, row: &Row, case: Case<'_>) -> io::Result<Finding> {
     let (ended, text) = match row.kind {
-        Kind::Whole => run(alloc, words, input, row.ends)?,
-        Kind::Prefixes => return Ok(prefixes(alloc, words, input, row.ends, wanted)?),
-        Kind::Endless => run_endless(alloc, words, row.byte)?,
-        Kind::InTurn => return in_turn(alloc, words, input, row.status),
+        Kind::Whole => run(alloc, case.words, case.input, case.ends)?,
+        Kind::Prefixes => return Ok(prefixes(alloc, case)?),
+        Kind::Endless => run_endless(alloc, case.words, row.byte)?,
+        Kind::InTurn => return in_turn(alloc, case.words, case.input, row.status),
     };
-    match compared(ended, &text, row.status, wanted) {
-        Finding::Right if row.is_steady() => {
-            Ok(migrated(alloc, words, input, row.ends, wanted)?)
-        }
+    match compared(ended, &text, row.status, case.wanted) {
+        Finding::Right if row.is_steady() => Ok(migrated(alloc, case)?),
         finding => Ok(finding),
     }
 }
@@ -170,7 +162,13 @@ fn finding<R: Files + AllocGlobal>(
         return Ok(Finding::NoFile);
     };
     for words in words.split(',') {
-        let finding = words_finding(alloc, row, words, &input, &wanted)?;
+        let case = Case {
+            words,
+            input: &input,
+            ends: row.ends,
+            wanted: &wanted,
+        };
+        let finding = words_finding(alloc, row, case)?;
         if finding != Finding::Right {
             return Ok(finding);
         }

@@ -28,6 +28,15 @@ impl Ends {
     };
 }
 
+/// What is run, and the text that must come out.
+#[derive(Clone, Copy, Debug)]
+pub struct Case<'a> {
+    pub words: &'a str,
+    pub input: &'a [u8],
+    pub ends: Ends,
+    pub wanted: &'a [u8],
+}
+
 /// The words, which stand between blanks.
 pub fn words_of(alloc: Global, words: &str) -> Result<Vec<String>, AllocError> {
     let mut list = Vec::new(alloc);

@@ -7,7 +7,7 @@ use Rattle.line_machine.specs.declared.machine.End.{End}
 use Rattle.line_machine.specs.declared.machine.End.TheVariants.{Ended, Rejected, Refused}
 use Rattle.model_form.specs.Acceptance.{Acceptance, AcceptedAs, RefusedFor, IsAcceptanceOf}
 use Rattle.model_form.specs.Answers.{Saying, AnswersByAcceptance, AnswersByEnd}
-use Rattle.model_form.specs.ModelTexts.{ModelText, Scripted, Stopped, EndsModel}
+use Rattle.model_form.specs.ModelTexts.{ModelText, WholeModel, RefusedModel, EndsModel}
 use Rattle.run_form.specs.Document.{Document, DocumentEnd, Complete, RefusedAt, SaysScript, SaysByEnd, IsReadWhole, HasRefusedLine, refused_at}
 use Rattle.run_form.proofs.DocumentsAreOne.{documents_are_one}
 
@@ -39,15 +39,15 @@ module _ (json : Bool) (Says : Saying) (of_script : (b : CompiledModel) (n : ℕ
     pub says : SaysByEnd end document
     pub ends : e ≡ end_of document.ending
 
-  behind_document : (v : Acceptance) (m : PlantModel) (n : ℕ) (ls : List (List ℕ)) (e : End) (text : List ℕ) → IsAcceptanceOf m v → AnswersByAcceptance json Says v m n ls e text → IsDocumentOf (Scripted m n ls) e
+  behind_document : (v : Acceptance) (m : PlantModel) (n : ℕ) (ls : List (List ℕ)) (e : End) (text : List ℕ) → IsAcceptanceOf m v → AnswersByAcceptance json Says v m n ls e text → IsDocumentOf (WholeModel m n ls) e
   behind_document (AcceptedAs b) m n ls e text is h =
       let (r, says, same) = of_script b n ls e text h in
       record { document = r; says = (AcceptedAs b, is, subst (λ (k : PlantModel). SaysScript k [] 0 n ls r) is.1 says); ends = same }
   behind_document (RefusedFor rf) m n ls e text is h = record { document = refused_at m n rf; says = (RefusedFor rf, is, refl); ends = h.0 }
 
   pub the_document : (end : ModelText) (e : End) (text : List ℕ) → AnswersByEnd json Says end e text → IsDocumentOf end e
-  the_document (Scripted m n ls) e text (v, is, h) = behind_document v m n ls e text is h
-  the_document (Stopped m line r) e text h = record { document = refused_at m line r; says = refl; ends = h.0 }
+  the_document (WholeModel m n ls) e text (v, is, h) = behind_document v m n ls e text is h
+  the_document (RefusedModel m line r) e text h = record { document = refused_at m line r; says = refl; ends = h.0 }
 
   module _ (input text : List ℕ) (end : ModelText) (reads : EndsModel input end) where
     -- this is printed

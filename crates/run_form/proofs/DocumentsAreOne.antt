@@ -6,7 +6,7 @@ use Rattle.cca_base.specs.PlantModel.{PlantModel}
 use Rattle.trace_laws.specs.Events.{mirrored_after}
 use Rattle.trace_laws.proofs.PendingKnown.{one_pending}
 use Rattle.model_form.specs.Acceptance.{Acceptance, AcceptedAs, RefusedFor}
-use Rattle.model_form.specs.ModelTexts.{ModelText, Scripted, Stopped}
+use Rattle.model_form.specs.ModelTexts.{ModelText, WholeModel, RefusedModel}
 use Rattle.model_form.specs.OneStep.{acceptance_is_one}
 use Rattle.model_form.proofs.OneModelText.{texts_are_one}
 use Rattle.run_form.specs.Document.{Document, SaysBy, SaysScript, SaysByAcceptance, SaysByEnd, line_says, with_event}
@@ -34,8 +34,8 @@ accepted_one (AcceptedAs c) m n ls a b h k = script_one ls m [] 0 n a b h k
 accepted_one (RefusedFor r) m n ls a b h k = h ∙ sym k
 
 end_one : (end : ModelText) (a b : Document) → SaysByEnd end a → SaysByEnd end b → a ≡ b
-end_one (Scripted m n ls) a b (v, is, h) (w, is', k) = accepted_one w m n ls a b (subst (λ (z : Acceptance). SaysByAcceptance z m n ls a) (acceptance_is_one m v w is is') h) k
-end_one (Stopped m line r) a b h k = h ∙ sym k
+end_one (WholeModel m n ls) a b (v, is, h) (w, is', k) = accepted_one w m n ls a b (subst (λ (z : Acceptance). SaysByAcceptance z m n ls a) (acceptance_is_one m v w is is') h) k
+end_one (RefusedModel m line r) a b h k = h ∙ sym k
 
 -- an input says one thing
 pub documents_are_one : DocumentsAreOne

@@ -12,8 +12,8 @@ use Rattle.run_form.proofs.RunsTold.{runs_are_told}
 
 pub run_agrees : (notation : Notation) (made : Option (List ℕ)) → FormAgrees (run_meaning notation made)
 run_agrees notation made = record {
-  says = runs_are_told.says notation;
-  comes = λ input e text end reads h. runs_are_told.comes notation input e text (end, reads, h);
+  says = (runs_are_told notation).says;
+  comes = λ input e text end reads h. (runs_are_told notation).comes input e text (end, reads, h);
   fixed = run_fixed;
   ended = document_ended (is_json notation) (SaysRun notation) (run_document notation);
   refused = document_refused (is_json notation) (SaysRun notation) (run_document notation);

@@ -1,16 +1,17 @@
 -- A run ends behind a line only where that is refused, and is never rejected.
-use Rattle.std.proofs.Common.{◌≡◌, ◌⊎◌, ℕ, inl, inr, List, Option, Some, None, Result, Ok, Err, refl, sym, ◌∙◌}
+use Rattle.std.proofs.Common.{◌≡◌, ◌⊎◌, ℕ, List, Option, Some, None, Result, Ok, Err, refl}
 use Rattle.cca_base.specs.declared.events.Event.{Event}
 use Rattle.cca_base.specs.Accepted.{CompiledModel}
 use Rattle.line_machine.specs.Next.{Stops}
 use Rattle.line_machine.specs.Runs.{IsSure, IsText}
 use Rattle.line_machine.specs.declared.machine.End.{End}
-use Rattle.line_machine.specs.declared.machine.End.TheVariants.{Ended, Rejected, Refused}
-use Rattle.line_machine.proofs.EndsSo.{same_end, not_end, sure_so, text_so}
+use Rattle.line_machine.specs.declared.machine.End.TheVariants.{Rejected, Refused}
+use Rattle.line_machine.proofs.EndsSo.{same_end, not_end, sure_so}
 use Rattle.line_machine.proofs.RunsAreOne.{IsFixed}
 use Rattle.script_reader.specs.EventLines.{event_line}
 use Rattle.model_form.specs.FormStates.{FormState}
-use Rattle.model_form.proofs.FormEnds.{form_steps_so, form_closes_so, form_is_fixed}
+use Rattle.model_form.proofs.FormEnds.{form_steps_so, form_is_fixed}
+use Rattle.model_form.proofs.NeverRejected.{refused_not, ended_not, never_rejected}
 use Rattle.run_form.specs.OneScript.{begins_one_way, script_steps_are_one, script_closes_are_one}
 use Rattle.run_form.specs.RunMachine.{run_form, run_machine}
 use Rattle.run_form.specs.ScriptMachine.{ScriptState, Begins, ActsBy, ScriptSteps, script_machine, script_first, after_event}
@@ -33,31 +34,8 @@ script_refused x n l e text h = acts_refused (event_line x.compiled.model x.stat
 pub run_sure_refused : (first : FormState RunAs ScriptState) (bytes : List ℕ) (e : End) (text : List ℕ) → IsSure run_machine first bytes (Stops e) text → IsRefused e
 run_sure_refused = sure_so run_machine IsRefused refl (form_steps_so run_form script_machine IsRefused refl begins_refused script_refused)
 
--- nothing is rejected
-abbrev IsNotRejected : End → Type 0
-IsNotRejected e = e ≡ Rejected → ⊥
-
-refused_not : (e : End) → e ≡ Refused → IsNotRejected e
-refused_not e h k = absurd (clash (sym h ∙ k))
-  where
-    clash : Refused ≡ Rejected → ⊥
-    clash c = absurd cc
-
-ended_not : (e : End) → e ≡ Ended → IsNotRejected e
-ended_not e h k = absurd (clash (sym h ∙ k))
-  where
-    clash : Ended ≡ Rejected → ⊥
-    clash c = absurd cc
-
-run_text_not : (first : FormState RunAs ScriptState) (input : List ℕ) (e : End) (text : List ℕ) → IsText run_machine first input e text → IsNotRejected e
-run_text_not =
-    text_so run_machine IsNotRejected (refused_not Refused refl)
-    (form_steps_so run_form script_machine IsNotRejected (refused_not Refused refl) (λ f b n e text h. refused_not e (begins_refused f b n e text h)) (λ x n l e text h. refused_not e (script_refused x n l e text h)))
-    (form_closes_so run_form script_machine IsNotRejected (refused_not Refused refl) (λ x n e text h. ended_not e h.0))
-
 pub run_never_rejected : (first : FormState RunAs ScriptState) (bytes text : List ℕ) → IsText run_machine first bytes Rejected text ⊎ IsSure run_machine first bytes (Stops Rejected) text → ⊥
-run_never_rejected first bytes text (inl is) = run_text_not first bytes Rejected text is refl
-run_never_rejected first bytes text (inr sure) = refused_not Rejected (run_sure_refused first bytes Rejected text sure) refl
+run_never_rejected = never_rejected run_form script_machine (λ f b n e text h. refused_not e (begins_refused f b n e text h)) (λ x n l e text h. refused_not e (script_refused x n l e text h)) (λ x n e text h. ended_not e h.0)
 
 -- a state and a line lead to one state and one text
 pub run_fixed : IsFixed run_machine

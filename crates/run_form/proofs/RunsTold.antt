@@ -5,10 +5,8 @@ use Rattle.cca_base.specs.Trace.{start}
 use Rattle.line_machine.specs.Completes.{Completes}
 use Rattle.line_machine.specs.Next.{Next, GoesOn}
 use Rattle.line_machine.specs.declared.machine.End.{End}
-use Rattle.model_form.specs.Answers.{Answer, answer, PrintsBehind, TextsAreAnswers}
-use Rattle.model_form.proofs.Following.{answer_follows}
-use Rattle.model_form.proofs.TextsAreAnswers.{texts_are_answers}
-use Rattle.run_form.specs.Notations.{is_json}
+use Rattle.model_form.specs.Answers.{Answer, answer, PrintsBehind}
+use Rattle.model_form.proofs.Following.{are_told}
 use Rattle.run_form.specs.Printed.{SaysRun}
 use Rattle.run_form.specs.RunLaws.{RunsAreTold}
 use Rattle.run_form.specs.RunMachine.{run_form}
@@ -57,9 +55,4 @@ module _ (notation : Notation) where
       }
 
 pub runs_are_told : RunsAreTold
-runs_are_told =
-    let t : TextsAreAnswers run_form script_machine = texts_are_answers run_form script_machine in
-    record {
-      says = λ notation input e text is. answer_follows (is_json notation) (PrintsBehind run_form script_machine (form notation)) (SaysRun notation) (told notation) input e text (t.says (form notation) input e text is);
-      comes = λ notation input e text is. t.comes (form notation) input e text (answer_follows (is_json notation) (SaysRun notation) (PrintsBehind run_form script_machine (form notation)) (tells notation) input e text is);
-    }
+runs_are_told notation = are_told run_form script_machine (form notation) (SaysRun notation) (told notation) (tells notation)

@@ -178,7 +178,7 @@ module _ (w : Notation) (quiet : IsLineByLine w) where
 
   -- a whole text of bytes that came
   told_so_far : (bytes came more : List ℕ) (e : End) (text : List ℕ) → came ++ more ≡ bytes → IsText run_machine (run_first w) came e text → (IsOver : Type 0) → IsOwnAnswer w came bytes IsOver (answer e text) → IsRunSoFar w bytes IsOver text
-  told_so_far bytes came more e text parts is IsOver own = inr (came, more, answer e text, parts, runs_are_told.says w came e text is, refl, own)
+  told_so_far bytes came more e text parts is IsOver own = inr (came, more, answer e text, parts, (runs_are_told w).says came e text is, refl, own)
 
   module _ (a : List ℕ) where
     -- the bytes behind the last LF change nothing where the run goes on

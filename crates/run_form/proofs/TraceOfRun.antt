@@ -21,7 +21,7 @@ use Rattle.model_form.specs.Acceptance.{Acceptance, AcceptedAs, RefusedFor, IsAc
 use Rattle.model_form.specs.Answers.{Answer, refused_answer, AnswersByAcceptance, AnswersByEnd}
 use Rattle.model_form.specs.Limits.{line_code, unless_long}
 use Rattle.model_form.specs.ModelEnds.{IsRefusedEnd}
-use Rattle.model_form.specs.ModelTexts.{ModelText, Scripted, Stopped, EndsModel}
+use Rattle.model_form.specs.ModelTexts.{ModelText, WholeModel, RefusedModel, EndsModel}
 use Rattle.model_form.proofs.SameAnswer.{same_answer}
 use Rattle.run_form.specs.Document.{Document, SaysBy, SaysScript, refused_at}
 use Rattle.run_form.specs.Headline.{IsTraceOf, IsFixedTrace, IsRefusedBefore}
@@ -87,17 +87,17 @@ refused_before : (notation : Notation) (input : List ℕ) (end : ModelText) (m :
 refused_before notation input end m line r a ends refused e =
     record { line = line; refusal = r; end = end; ends = ends; refused = refused; reading = refl; answer = e ∙ sym (printed_counts notation (refused_at m line r) [] [] ∙ printed_refused notation m (counts_of []) line r) }
 
-prints_traced : (notation : Notation) (input : List ℕ) (v : Acceptance) (m : PlantModel) (n : ℕ) (ls : List (List ℕ)) (a : Answer) → EndsModel input (Scripted m n ls) → IsAcceptanceOf m v
+prints_traced : (notation : Notation) (input : List ℕ) (v : Acceptance) (m : PlantModel) (n : ℕ) (ls : List (List ℕ)) (a : Answer) → EndsModel input (WholeModel m n ls) → IsAcceptanceOf m v
     → AnswersByAcceptance (is_json notation) (SaysRun notation) v m n ls a.end a.text → IsTraceOf notation input a
 prints_traced notation input (AcceptedAs b) m n ls a ends is (r, reports, text, own, trace, told, e) =
     let says : SaysScript m [] 0 n ls r = subst (λ (k : PlantModel). SaysScript k [] 0 n ls r) is.1 own in
-    (r, (Scripted m n ls, ends, (AcceptedAs b, is, says)), inr (script_traced notation b n ls r reports text a is.0 own trace told e))
+    (r, (WholeModel m n ls, ends, (AcceptedAs b, is, says)), inr (script_traced notation b n ls r reports text a is.0 own trace told e))
 prints_traced notation input (RefusedFor rf) m n ls a ends is h =
-    (refused_at m n rf, (Scripted m n ls, ends, (RefusedFor rf, is, refl)), inl (refused_before notation input (Scripted m n ls) m n rf a ends (refl, is) (same_answer h.0 h.1)))
+    (refused_at m n rf, (WholeModel m n ls, ends, (RefusedFor rf, is, refl)), inl (refused_before notation input (WholeModel m n ls) m n rf a ends (refl, is) (same_answer h.0 h.1)))
 
 run_traced : (notation : Notation) (input : List ℕ) (end : ModelText) (a : Answer) → EndsModel input end → AnswersByEnd (is_json notation) (SaysRun notation) end a.end a.text → IsTraceOf notation input a
-run_traced notation input (Scripted m n ls) a ends (v, is, h) = prints_traced notation input v m n ls a ends is h
-run_traced notation input (Stopped m line r) a ends h = (refused_at m line r, (Stopped m line r, ends, refl), inl (refused_before notation input (Stopped m line r) m line r a ends (refl, refl) (same_answer h.0 h.1)))
+run_traced notation input (WholeModel m n ls) a ends (v, is, h) = prints_traced notation input v m n ls a ends is h
+run_traced notation input (RefusedModel m line r) a ends h = (refused_at m line r, (RefusedModel m line r, ends, refl), inl (refused_before notation input (RefusedModel m line r) m line r a ends (refl, refl) (same_answer h.0 h.1)))
 
 -- what a run prints is traced
 pub traced : (notation : Notation) (input : List ℕ) (a : Answer) → IsRunOf notation input a → IsTraceOf notation input a

@@ -9,7 +9,7 @@ use Rattle.script_reader.specs.EventLines.{event_line}
 use Rattle.trace_laws.specs.Events.{PendingAfter, mirrored_after}
 use Rattle.model_form.specs.Acceptance.{Acceptance, AcceptedAs, RefusedFor, IsAcceptanceOf}
 use Rattle.model_form.specs.Limits.{line_code, unless_long}
-use Rattle.model_form.specs.ModelTexts.{ModelText, Scripted, Stopped, EndsModel}
+use Rattle.model_form.specs.ModelTexts.{ModelText, WholeModel, RefusedModel, EndsModel}
 
 -- how an input ends: at its end, or at the first line that is refused
 pub data DocumentEnd : Type 0 where
@@ -58,8 +58,8 @@ SaysByAcceptance (RefusedFor refusal) m n ls r = r ≡ refused_at m n refusal
 
 -- what a whole input says, by how its model ends
 abbrev pub SaysByEnd : ModelText → Document → Type 0
-SaysByEnd (Scripted m n ls) r = (v : Acceptance) × IsAcceptanceOf m v × SaysByAcceptance v m n ls r
-SaysByEnd (Stopped m line refusal) r = r ≡ refused_at m line refusal
+SaysByEnd (WholeModel m n ls) r = (v : Acceptance) × IsAcceptanceOf m v × SaysByAcceptance v m n ls r
+SaysByEnd (RefusedModel m line refusal) r = r ≡ refused_at m line refusal
 
 -- the input says this
 abbrev pub IsDocument : List ℕ → Document → Type 0

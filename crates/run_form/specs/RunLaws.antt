@@ -3,15 +3,14 @@ use Rattle.std.specs.Io.KnownBytes.{IsAtEnd}
 use Rattle.std.specs.Prelude.{◌≡◌, ◌⊎◌, ℕ, List, [], ◌++◌, Option}
 use Rattle.line_machine.specs.Driven.{Prints}
 use Rattle.line_machine.specs.Next.{Next, Stops}
-use Rattle.line_machine.specs.Runs.{IsSure, IsText}
-use Rattle.line_machine.specs.declared.machine.End.{End}
+use Rattle.line_machine.specs.Runs.{IsSure}
 use Rattle.line_machine.specs.declared.machine.End.TheVariants.{Ended}
-use Rattle.model_form.specs.Answers.{Answer, answer}
+use Rattle.model_form.specs.Answers.{Answer, AreTold}
 use Rattle.model_form.specs.FormStates.{FormState}
 use Rattle.run_form.specs.Document.{Document, IsDocument}
 use Rattle.run_form.specs.Headline.{IsTraceOf}
-use Rattle.run_form.specs.Notations.{closing}
-use Rattle.run_form.specs.Printed.{IsRunOf}
+use Rattle.run_form.specs.Notations.{closing, is_json}
+use Rattle.run_form.specs.Printed.{IsRunOf, SaysRun}
 use Rattle.run_form.specs.RunMachine.{run_machine, run_first}
 use Rattle.run_form.specs.ScriptMachine.{ScriptState}
 use Rattle.run_form.specs.declared.counts.Counts.{Counts}
@@ -19,9 +18,8 @@ use Rattle.run_form.specs.declared.notation.Notation.{Notation}
 use Rattle.run_form.specs.declared.run.RunAs.{RunAs}
 
 -- the texts of the machine are what a run prints, both ways
-pub record RunsAreTold : Type 0 where
-  pub says : (notation : Notation) (input : List ℕ) (e : End) (text : List ℕ) → IsText run_machine (run_first notation) input e text → IsRunOf notation input (answer e text)
-  pub comes : (notation : Notation) (input : List ℕ) (e : End) (text : List ℕ) → IsRunOf notation input (answer e text) → IsText run_machine (run_first notation) input e text
+abbrev pub RunsAreTold : Type 0
+RunsAreTold = (notation : Notation) → AreTold run_machine (run_first notation) (is_json notation) (SaysRun notation)
 
 -- an input says one thing
 abbrev pub DocumentsAreOne : Type 0

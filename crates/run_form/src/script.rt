@@ -16,12 +16,12 @@ ghost use Rattle.trace_laws.specs.Events.{Acts};
 use crate::counts::{Counts, summary};
 use crate::notation::{Notation, is_json};
 use crate::told::told;
-use cca_base::{Compiled, Event, Model, Name, Refusal, Stop, Subject};
+use cca_base::{Event, Model, Name, Refusal, Stop, Subject};
 use executive_loop::Executive;
 use indexmap::IndexMap;
 use line_machine::{End, Machine, Said};
-use model_form::{MAX_LINE, nothing, refusal_of, refuse_stop};
-use script_reader::read_named_event;
+use model_form::{Accepted, MAX_LINE, nothing, refusal_of, refuse_stop};
+use script_reader::{NamedModel, read_named_event};
 use std::alloc::{AllocError, Global};
 
 /// An accepted model, its names, and its executive.
@@ -36,12 +36,11 @@ pub struct Script {
 impl std::marker::Model for Script {
     ghost use Rattle.formula_syntax.specs.Lookups.{NamesFit};
     ghost use Rattle.run_form.specs.ScriptMachine.{ScriptState};
-    ghost use Rattle.cca_base.specs.contracts.formula.Formula as formula;
-    ghost use Rattle.std.specs.Coded.{codes};
+    ghost use Rattle.cca_base.specs.Coded.{model_codes};
 
     ghost Value = { ScriptState };
 
-    ghost coded = { Prim.hlevel (codes, formula.the_row.coded) };
+    ghost coded = { Prim.hlevel model_codes };
 
     ghost view = { λ s. record { notation = s.notation; compiled = s.executive.compiled; state = s.executive.state; counts = s.counts } };
 
@@ -63,12 +62,11 @@ fn read(
         executive.now.state.mirrored)) }
     ensures compiled { IsCompiled executive.now.compiled }
 {
-    let model = executive.compiled().model();
+    let model = NamedModel::new(executive.compiled().model(), names);
     read_named_event(
         alloc,
         line,
         model,
-        names,
         executive.pending(),
         executive.mirrored(),
     )
@@ -107,21 +105,16 @@ impl Script {
     ghost use Rattle.run_form.specs.ScriptMachine.{ScriptSteps, ScriptAwaits};
 
     /// Before the first line of the script.
-    pub fn open(
-        alloc: Global,
-        notation: Notation,
-        compiled: Compiled,
-        names: IndexMap<Name, Subject>,
-    ) -> Result<Script, AllocError>
-        requires { NamesFit names compiled.model }
+    pub fn open(alloc: Global, notation: Notation, accepted: Accepted) -> Result<Script, AllocError>
         ensures { IfOk result (λ s.
             s ≡ record {
               notation = notation;
-              compiled = compiled;
-              state = start compiled.model 0;
+              compiled = accepted;
+              state = start accepted.model 0;
               counts = counts_of [];
             }) }
     {
+        let (compiled, names) = accepted.into_parts();
         let executive = Executive::open(alloc, compiled)?;
         Ok(Script {
             notation,

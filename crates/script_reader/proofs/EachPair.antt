@@ -1,5 +1,5 @@
 -- What pairs of names stand for, one by one.
-use Rattle.std.proofs.Common.{◌≡◌, suc, List, [], ◌∷◌, length, Option, Some, None, Contains, inl, inr, refl, sym, ap, subst, ◌∙◌}
+use Rattle.std.proofs.Common.{◌≡◌, ℕ, suc, List, [], ◌∷◌, length, Option, Some, None, Contains, inl, inr, refl, sym, ap, subst, ◌∙◌}
 use Rattle.std.proofs.lemmas.Option.{same_Some}
 use Rattle.cca_base.proofs.Members.{contains_cases, contains_here, contains_there, contains_none}
 use Rattle.cca_base.specs.declared.cube.Pair.{Pair}
@@ -71,3 +71,11 @@ missing_by f p ps (Some q) e later h =
 pub missing : (f : NamedPair → Option Pair) (ps : List NamedPair) → each_pair f ps ≡ None → (p : NamedPair) × Contains ps p × (f p ≡ None)
 missing f [] h = absurd cc
 missing f (p ∷ ps) h = missing_by f p ps (f p) refl (missing f ps) h
+
+-- what a pair stands for, by its item and its value
+pub pair_parts : (item : Option ℕ) (value : ℕ → Option ℕ) (q : Pair) → (item >>= λ c. value c >>= λ k. Some (record { item = c; value = k })) ≡ Some q → (item ≡ Some q.item) × (value q.item ≡ Some q.value)
+pair_parts item value q h =
+    let c = bind_some item (λ (c : ℕ). value c >>= λ k. Some (record { item = c; value = k })) q h in
+    let k = bind_some (value c.0) (λ (k : ℕ). Some (record { item = c.0; value = k })) q c.2 in
+    let same : record { item = c.0; value = k.0 } ≡ q = same_Some (record { item = c.0; value = k.0 }) q k.2 in
+    (c.1 ∙ ap (λ (x : Pair). Some x.item) same, subst (λ (x : Pair). value x.item ≡ Some x.value) same k.1)

@@ -21,11 +21,9 @@ use Rattle.cca_base.specs.Model.{HasMode}
 use Rattle.cca_base.specs.Sets.{has}
 use Rattle.cca_base.specs.State.{HasValue}
 use Rattle.cca_base.specs.Trace.{MayBeSeen, MayCome}
-use Rattle.text_base.specs.Chain.{◌>>=◌}
 use Rattle.text_base.specs.Tokens.{Tok, tokens_of}
 use Rattle.text_base.specs.Lexemes.{Lexeme, lexeme}
 use Rattle.text_base.specs.Pairs.{NamedPair}
-use Rattle.text_base.proofs.ChainLaws.{bind_some}
 use Rattle.formula_syntax.specs.Lookups.{value_of}
 use Rattle.formula_syntax.proofs.LeastLaws.{least_none}
 use Rattle.formula_syntax.proofs.ModesByName.{mode_of_component, value_of_variable}
@@ -34,7 +32,7 @@ use Rattle.script_reader.specs.Items.{Item, Goal, Clear, Observe, Fault, Mirror,
 use Rattle.script_reader.specs.Named.{component_of, variable_of, mode_pair, value_pair, stands_for, each_pair}
 use Rattle.script_reader.specs.EventCodes.{has_item, has_item_twice, is_sensed, is_broken_pair, goal_code, observe_code, mirror_code}
 use Rattle.script_reader.specs.EventLines.{unless, named_event, event_of, as_event, by_form, by_tokens, event_line, AnswersAs}
-use Rattle.script_reader.proofs.EachPair.{as_many, comes_from}
+use Rattle.script_reader.proofs.EachPair.{as_many, comes_from, pair_parts}
 use Rattle.script_reader.proofs.ItemGrammar.{item_written}
 
 -- ---- tests that fail
@@ -58,18 +56,10 @@ once_each (p ∷ ps) h =
 -- ---- what names stand for
 
 pub mode_is : (m : PlantModel) (p : NamedPair) (q : Pair) → mode_pair m p ≡ Some q → HasMode m q.item q.value
-mode_is m p q h =
-    let c = bind_some (component_of m p.name) (λ (c : ℕ). value_of m (subjects.Component c) p.value >>= λ mode. Some (record { item = c; value = mode })) q h in
-    let mode = bind_some (value_of m (subjects.Component c.0) p.value) (λ (mode : ℕ). Some (record { item = c.0; value = mode })) q c.2 in
-    let same : record { item = c.0; value = mode.0 } ≡ q = same_Some (record { item = c.0; value = mode.0 }) q mode.2 in
-    subst (λ (x : Pair). HasMode m x.item x.value) same (mode_of_component m c.0 mode.0 p.value mode.1)
+mode_is m p q h = mode_of_component m q.item q.value p.value (pair_parts (component_of m p.name) (λ c. value_of m (subjects.Component c) p.value) q h).1
 
-pub value_is : (m : PlantModel) (p : NamedPair) (q : Pair) → value_pair m p ≡ Some q → HasValue m q.item q.value
-value_is m p q h =
-    let v = bind_some (variable_of m p.name) (λ (v : ℕ). value_of m (subjects.Variable v) p.value >>= λ value. Some (record { item = v; value = value })) q h in
-    let value = bind_some (value_of m (subjects.Variable v.0) p.value) (λ (value : ℕ). Some (record { item = v.0; value = value })) q v.2 in
-    let same : record { item = v.0; value = value.0 } ≡ q = same_Some (record { item = v.0; value = value.0 }) q value.2 in
-    subst (λ (x : Pair). HasValue m x.item x.value) same (value_of_variable m v.0 value.0 p.value value.1)
+value_is : (m : PlantModel) (p : NamedPair) (q : Pair) → value_pair m p ≡ Some q → HasValue m q.item q.value
+value_is m p q h = value_of_variable m q.item q.value p.value (pair_parts (variable_of m p.name) (λ v. value_of m (subjects.Variable v) p.value) q h).1
 
 sensed_by : (m : PlantModel) (pending : List Pair) (mirrored v : ℕ) (o : Option Variable) → slice_get m.variables v ≡ o → option_map_or (λ (x : Variable). x.sensed) o false ≡ true
     → has_item pending v ≡ false → has mirrored v ≡ false → MayBeSeen m pending mirrored v

@@ -1,6 +1,5 @@
 -- An item is read from its spelling, and from nothing else.
-use Rattle.std.proofs.Common.{◌≡◌, ℕ, ◌<◌, cond, codes, List, [], ◌∷◌, ◌++◌, length, Option, Some, None, refl, sym, ap, ◌∙◌, append-nil, arith}
-use Rattle.text_base.specs.Chain.{◌>>=◌}
+use Rattle.std.proofs.Common.{◌≡◌, ℕ, ◌<◌, cond, codes, List, [], ◌∷◌, ◌++◌, length, Option, Some, None, refl, sym, ap, subst, ◌∙◌, append-nil, arith}
 use Rattle.text_base.specs.Lexemes.{Lexeme, word, is_lexeme, name_word_at}
 use Rattle.text_base.specs.Lists.{ended}
 use Rattle.text_base.specs.Pairs.{NamedPair, pair_at, pairs_at, pair_spelled, pairs_spelled, pair_list_spelled, ArePairWords}
@@ -8,7 +7,7 @@ use Rattle.text_base.proofs.ChainLaws.{bind_some, then, after}
 use Rattle.text_base.proofs.FormGrammar.{ended_read, same_item, only, keyword}
 use Rattle.text_base.proofs.NameGrammar.{reads_name, name_read}
 use Rattle.text_base.proofs.PairGrammar.{pair_grammar, reads_pairs, pairs_read}
-use Rattle.script_reader.specs.Items.{Item, Goal, Clear, Observe, Fault, Mirror, Reset, Tick, goal_at, observe_at, fault_at, mirror_at, item_of, spelling, IsSpelled}
+use Rattle.script_reader.specs.Items.{Item, Goal, Clear, Observe, Fault, Mirror, Reset, Tick, pairs_item, fault_at, mirror_at, item_of, spelling, IsSpelled}
 
 -- this item is spelled so
 abbrev IsWritten : List Lexeme → Item → Type 0
@@ -20,38 +19,31 @@ module _ (form : List NamedPair → Item) where
   abbrev pairs_then : List NamedPair × List Lexeme → Option Item
   pairs_then pairs = ended (form pairs.0) pairs.1
 
-  reads_form : (p : NamedPair) (ps : List NamedPair) → ArePairWords (p ∷ ps) → (pairs_at (pairs_spelled p ps) >>= pairs_then) ≡ Some (form (p ∷ ps))
-  reads_form p ps h = then (ap pairs_at (sym (append-nil (pairs_spelled p ps))) ∙ reads_pairs p ps [] h refl) pairs_then
+  reads_form : (ps : List NamedPair) → 0 < length ps → ArePairWords ps → pairs_item form (pair_list_spelled ps) ≡ Some (form ps)
+  unfolding pairs_item
+  reads_form [] some h = absurd (omega (arith, some))
+  reads_form (p ∷ ps) some h = then (ap pairs_at (sym (append-nil (pairs_spelled p ps))) ∙ reads_pairs p ps [] h refl) pairs_then
 
   -- the pairs of an item that was read so
-  form_read : (ls : List Lexeme) (i : Item) → (pairs_at ls >>= pairs_then) ≡ Some i → (ps : List NamedPair) × (form ps ≡ i) × (ls ≡ pair_list_spelled ps) × (0 < length ps) × ArePairWords ps
+  form_read : (ls : List Lexeme) (i : Item) → pairs_item form ls ≡ Some i → (ps : List NamedPair) × (form ps ≡ i) × (ls ≡ pair_list_spelled ps) × (0 < length ps) × ArePairWords ps
+  unfolding pairs_item
   form_read ls i e =
       let a = bind_some (pairs_at ls) pairs_then i e in
       let d = ended_read (form a.0.0) i a.0.1 a.2 in
       let pairs = pairs_read ls a.0 a.1 in
       (a.0.0, d.1, pairs.0 ∙ ap (λ (x : List Lexeme). pair_list_spelled a.0.0 ++ x) d.0 ∙ append-nil (pair_list_spelled a.0.0), pairs.1, pairs.2)
 
-reads_goal : (ps : List NamedPair) → IsSpelled (Goal ps) → goal_at (pair_list_spelled ps) ≡ Some (Goal ps)
-unfolding goal_at
-reads_goal [] h = absurd (omega (arith, h.0))
-reads_goal (p ∷ ps) h = reads_form Goal p ps h.1
+  -- that item is written so behind its word
+  form_written : (l : Lexeme) → ((ps : List NamedPair) → 0 < length ps → ArePairWords ps → IsWritten (l ∷ pair_list_spelled ps) (form ps)) → (ls : List Lexeme) (i : Item) → pairs_item form ls ≡ Some i → IsWritten (l ∷ ls) i
+  form_written l written ls i e =
+      let r = form_read ls i e in
+      same_item IsWritten (l ∷ ls) (form r.0) i r.1 (subst (λ x. IsWritten (l ∷ x) (form r.0)) (sym r.2) (written r.0 r.3 r.4))
 
-goal_written : (ls : List Lexeme) (i : Item) → goal_at ls ≡ Some i → IsWritten (word (codes "goal") ∷ ls) i
-unfolding goal_at
-goal_written ls i e =
-    let r = form_read Goal ls i e in
-    same_item IsWritten (word (codes "goal") ∷ ls) (Goal r.0) i r.1 (after (word (codes "goal")) r.2, (r.3, r.4))
+goal_written : (ls : List Lexeme) (i : Item) → pairs_item Goal ls ≡ Some i → IsWritten (word (codes "goal") ∷ ls) i
+goal_written = form_written Goal (word (codes "goal")) (λ ps some h. (refl, (some, h)))
 
-reads_observe : (ps : List NamedPair) → IsSpelled (Observe ps) → observe_at (pair_list_spelled ps) ≡ Some (Observe ps)
-unfolding observe_at
-reads_observe [] h = absurd (omega (arith, h.0))
-reads_observe (p ∷ ps) h = reads_form Observe p ps h.1
-
-observe_written : (ls : List Lexeme) (i : Item) → observe_at ls ≡ Some i → IsWritten (word (codes "observe") ∷ ls) i
-unfolding observe_at
-observe_written ls i e =
-    let r = form_read Observe ls i e in
-    same_item IsWritten (word (codes "observe") ∷ ls) (Observe r.0) i r.1 (after (word (codes "observe")) r.2, (r.3, r.4))
+observe_written : (ls : List Lexeme) (i : Item) → pairs_item Observe ls ≡ Some i → IsWritten (word (codes "observe") ∷ ls) i
+observe_written = form_written Observe (word (codes "observe")) (λ ps some h. (refl, (some, h)))
 
 -- ---- one pair, and one name
 
@@ -90,9 +82,9 @@ mirror_written ls i e =
 -- ---- lines
 
 pub item_again : (i : Item) → IsSpelled i → item_of (spelling i) ≡ Some i
-item_again (Goal ps) h = reads_goal ps h
+item_again (Goal ps) h = reads_form Goal ps h.0 h.1
 item_again Clear h = refl
-item_again (Observe ps) h = reads_observe ps h
+item_again (Observe ps) h = reads_form Observe ps h.0 h.1
 item_again (Fault p) h = reads_fault p h
 item_again (Mirror name) h = reads_mirror name h
 item_again Reset h = refl
@@ -112,7 +104,7 @@ abbrev from_fault : Lexeme → List Lexeme → Option Item
 from_fault l ls = cond (is_lexeme (word (codes "fault")) l) (fault_at ls) (from_mirror l ls)
 
 abbrev from_observe : Lexeme → List Lexeme → Option Item
-from_observe l ls = cond (is_lexeme (word (codes "observe")) l) (observe_at ls) (from_fault l ls)
+from_observe l ls = cond (is_lexeme (word (codes "observe")) l) (pairs_item Observe ls) (from_fault l ls)
 
 abbrev from_clear : Lexeme → List Lexeme → Option Item
 from_clear l ls = cond (is_lexeme (word (codes "clear")) l) (ended Clear ls) (from_observe l ls)
@@ -131,11 +123,11 @@ module _ (l : Lexeme) (ls : List Lexeme) (i : Item) where
   fault_or e = keyword IsWritten (codes "fault") l ls i (fault_at ls) (from_mirror l ls) e (fault_written ls i) mirror_or
 
   observe_or : from_observe l ls ≡ Some i → IsWritten (l ∷ ls) i
-  observe_or e = keyword IsWritten (codes "observe") l ls i (observe_at ls) (from_fault l ls) e (observe_written ls i) fault_or
+  observe_or e = keyword IsWritten (codes "observe") l ls i (pairs_item Observe ls) (from_fault l ls) e (observe_written ls i) fault_or
 
   clear_or : from_clear l ls ≡ Some i → IsWritten (l ∷ ls) i
   clear_or e = keyword IsWritten (codes "clear") l ls i (ended Clear ls) (from_observe l ls) e (λ h. only IsWritten (word (codes "clear")) Clear i ls h (refl, tt)) observe_or
 
 pub item_written : (ls : List Lexeme) (i : Item) → item_of ls ≡ Some i → (ls ≡ spelling i) × IsSpelled i
 item_written [] i e = absurd cc
-item_written (l ∷ ls) i e = keyword IsWritten (codes "goal") l ls i (goal_at ls) (from_clear l ls) e (goal_written ls i) (clear_or l ls i)
+item_written (l ∷ ls) i e = keyword IsWritten (codes "goal") l ls i (pairs_item Goal ls) (from_clear l ls) e (goal_written ls i) (clear_or l ls i)

@@ -14,14 +14,12 @@ use Rattle.cca_base.specs.declared.formula.Subject.TheVariants.{Component, Varia
 use Rattle.cca_base.specs.declared.model.Component.{Component as ComponentOfModel}
 use Rattle.cca_base.specs.declared.model.Variable.{Variable as VariableOfModel}
 use Rattle.cca_base.specs.PlantModel.{PlantModel}
-use Rattle.text_base.specs.Chain.{◌>>=◌}
 use Rattle.text_base.specs.Pairs.{NamedPair}
-use Rattle.text_base.proofs.ChainLaws.{bind_some}
 use Rattle.formula_syntax.specs.Lookups.{value_of, as_component, as_variable, or_else}
 use Rattle.script_reader.specs.Named.{component_of, variable_of, mode_pair, value_pair, each_pair}
 use Rattle.script_reader.specs.EventCodes.{has_item, has_item_twice}
 use Rattle.script_reader.specs.Laws.{HaveNameTwice}
-use Rattle.script_reader.proofs.EachPair.{each_of, comes_from, goes_to}
+use Rattle.script_reader.proofs.EachPair.{each_of, comes_from, goes_to, pair_parts}
 
 -- ---- members that pass a test
 
@@ -106,18 +104,10 @@ module _ (m : PlantModel) where
   some_variable = record { name = []; values = []; sensed = false }
 
   mode_item : (p : NamedPair) (q : Pair) → mode_pair m p ≡ Some q → component_of m p.name ≡ Some q.item
-  mode_item p q h =
-      let c = bind_some (component_of m p.name) (λ (c : ℕ). value_of m (Component c) p.value >>= λ mode. Some (record { item = c; value = mode })) q h in
-      let mode = bind_some (value_of m (Component c.0) p.value) (λ (mode : ℕ). Some (record { item = c.0; value = mode })) q c.2 in
-      let same : record { item = c.0; value = mode.0 } ≡ q = same_Some (record { item = c.0; value = mode.0 }) q mode.2 in
-      c.1 ∙ ap (λ (x : Pair). Some x.item) same
+  mode_item p q h = (pair_parts (component_of m p.name) (λ c. value_of m (Component c) p.value) q h).0
 
   value_item : (p : NamedPair) (q : Pair) → value_pair m p ≡ Some q → variable_of m p.name ≡ Some q.item
-  value_item p q h =
-      let v = bind_some (variable_of m p.name) (λ (v : ℕ). value_of m (Variable v) p.value >>= λ value. Some (record { item = v; value = value })) q h in
-      let value = bind_some (value_of m (Variable v.0) p.value) (λ (value : ℕ). Some (record { item = v.0; value = value })) q v.2 in
-      let same : record { item = v.0; value = value.0 } ≡ q = same_Some (record { item = v.0; value = value.0 }) q value.2 in
-      v.1 ∙ ap (λ (x : Pair). Some x.item) same
+  value_item p q h = (pair_parts (variable_of m p.name) (λ v. value_of m (Variable v) p.value) q h).0
 
   -- a component's name is one
   pub mode_names : OneName (component_of m) (mode_pair m)

@@ -1,5 +1,5 @@
 -- The answer to an item is the one of the table: its least code, or the event that it names.
-use Rattle.std.proofs.Common.{◌≡◌, ◌⊎◌, ◌↔◌, ◌<◌, ℕ, Bool, true, false, not, ◌||◌, ◌==◌, List, [], ◌∷◌, Option, Some, None, Result, Ok, Err, inl, inr, refl, sym, ap, subst, ◌∙◌, arith}
+use Rattle.std.proofs.Common.{Contains, ◌≡◌, ◌⊎◌, ◌↔◌, ◌<◌, ℕ, Bool, true, false, not, ◌||◌, ◌==◌, List, [], ◌∷◌, Option, Some, None, Result, Ok, Err, inl, inr, refl, sym, ap, subst, ◌∙◌, arith}
 use Rattle.std.specs.List.{list_any}
 use Rattle.std.proofs.lemmas.Bool.{cases_order, not-true, not_from_false, eqb-true, eq-eqb, or_left, or_right}
 use Rattle.std.proofs.lemmas.Option.{same_Some}
@@ -63,14 +63,18 @@ module _ (m : PlantModel) (pending : List Pair) (mirrored : ℕ) where
   never : {A : Type 0} → (A → ⊥) → A ↔ (false ≡ true)
   never h = (λ x. absurd (h x), λ e. no e)
 
+  -- each pair of the line stands for something
+  all_known : (f : NamedPair → Option Pair) (pairs : List NamedPair) (qs : List Pair) (p : NamedPair) → each_pair f pairs ≡ Some qs → Contains pairs p → f p ≡ None → ⊥
+  all_known f pairs qs p h among none =
+      let to = goes_to f pairs qs p h among in
+      let both : None ≡ Some to.0 = sym none ∙ to.2 in
+      absurd cc
+
   -- ---- goals
 
   module _ (pairs : List NamedPair) (qs : List Pair) (h : each_pair (stands_for Modes m) pairs ≡ Some qs) where
     goal_known : NamesUnknown m (Goal pairs) → ⊥
-    goal_known (p, among, none) =
-        let to = goes_to (stands_for Modes m) pairs qs p h among in
-        let both : None ≡ Some to.0 = sym none ∙ to.2 in
-        absurd cc
+    goal_known (p, among, none) = all_known (stands_for Modes m) pairs qs p h among none
 
     goal_broken : WantsBroken m (Goal pairs) ↔ (list_any (is_broken_pair m) qs ≡ true)
     goal_broken = (
@@ -107,10 +111,7 @@ module _ (m : PlantModel) (pending : List Pair) (mirrored : ℕ) where
 
   module _ (pairs : List NamedPair) (qs : List Pair) (h : each_pair (stands_for Values m) pairs ≡ Some qs) where
     values_known : NamesUnknown m (Observe pairs) → ⊥
-    values_known (p, among, none) =
-        let to = goes_to (stands_for Values m) pairs qs p h among in
-        let both : None ≡ Some to.0 = sym none ∙ to.2 in
-        absurd cc
+    values_known (p, among, none) = all_known (stands_for Values m) pairs qs p h among none
 
     -- a variable of the line passes a test exactly where its pair does
     by_variable : (test : ℕ → Bool) (v : ℕ) → NamesVariable m (Observe pairs) v → test v ≡ true → list_any (λ (q : Pair). test q.item) qs ≡ true

@@ -1,5 +1,5 @@
 -- The forms of event lines.
-use Rattle.std.specs.Prelude.{◌<◌, length, ℕ, List, [], ◌∷◌, Option, None, codes, map, if◌then◌else◌}
+use Rattle.std.specs.Prelude.{◌≡◌, ◌<◌, length, ℕ, List, [], ◌∷◌, Option, Some, None, codes, map, if◌then◌else◌}
 use Rattle.text_base.specs.Chain.{◌>>=◌}
 use Rattle.text_base.specs.Lexemes.{Lexeme, word, is_lexeme, name_word_at}
 use Rattle.text_base.specs.Lists.{ended, AreNameWords}
@@ -17,13 +17,14 @@ pub data Item : Type 0 where
   Reset : Item
   Tick : Item
 
--- behind the word goal: pairs
-unfoldable pub goal_at : List Lexeme → Option Item
-goal_at ls = pairs_at ls >>= λ pairs. ended (Goal pairs.0) pairs.1
+-- behind the word goal or observe: pairs
+unfoldable pub pairs_item : (List NamedPair → Item) → List Lexeme → Option Item
+pairs_item form ls = pairs_at ls >>= λ pairs. ended (form pairs.0) pairs.1
 
--- behind the word observe: pairs
-unfoldable pub observe_at : List Lexeme → Option Item
-observe_at ls = pairs_at ls >>= λ pairs. ended (Observe pairs.0) pairs.1
+-- these pairs are all that stands there, or no pairs are
+abbrev pub AreOnlyPairs : List Lexeme → Option (List NamedPair) → Type 0
+AreOnlyPairs ls (Some pairs) = (form : List NamedPair → Item) → pairs_item form ls ≡ Some (form pairs)
+AreOnlyPairs ls None = (form : List NamedPair → Item) → pairs_item form ls ≡ None
 
 -- behind the word fault: a pair
 unfoldable pub fault_at : List Lexeme → Option Item
@@ -37,9 +38,9 @@ mirror_at ls = name_word_at ls >>= λ name. ended (Mirror name.0) name.1
 abbrev pub item_of : List Lexeme → Option Item
 item_of [] = None
 item_of (l ∷ ls) =
-    if is_lexeme (word (codes "goal")) l then goal_at ls
+    if is_lexeme (word (codes "goal")) l then pairs_item Goal ls
     else (if is_lexeme (word (codes "clear")) l then ended Clear ls
-    else (if is_lexeme (word (codes "observe")) l then observe_at ls
+    else (if is_lexeme (word (codes "observe")) l then pairs_item Observe ls
     else (if is_lexeme (word (codes "fault")) l then fault_at ls
     else (if is_lexeme (word (codes "mirror")) l then mirror_at ls
     else (if is_lexeme (word (codes "reset")) l then ended Reset ls

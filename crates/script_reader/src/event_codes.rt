@@ -5,8 +5,9 @@ ghost use Rattle.std.specs.List.{list_any};
 ghost use Rattle.cca_base.specs.Sets.{has};
 ghost use Rattle.script_reader.specs.EventCodes.{has_item, has_item_twice, is_sensed, is_broken_pair, goal_code, observe_code, mirror_code};
 
+use crate::context::Context;
 use cca_base::codes::{BROKEN_GOAL, MIRRORED, NOT_SENSED, REPEATED_PAIR};
-use cca_base::{Model, Pair, Seen, VarSet};
+use cca_base::{Model, Pair, VarSet};
 
 /// Whether one of the pairs is of the item.
 fn has_item(pairs: &[Pair], item: u16) -> bool
@@ -77,14 +78,16 @@ pub fn goal_code(model: &Model, pairs: &[Pair]) -> Option<u8>
 
 /// The least code of observations.
 #[tactic(auto, unfolding(crate::specs::EventCodes::observe_code))]
-pub fn observe_code(model: &Model, pending: &Seen, mirrored: VarSet, pairs: &[Pair]) -> Option<u8>
-    ensures { result ≡ observe_code model.now pending.now.pairs mirrored pairs.now }
+pub fn observe_code(context: &Context, pairs: &[Pair]) -> Option<u8>
+    ensures { result ≡ observe_code context.now.model context.now.pending.now.pairs
+        context.now.mirrored
+        pairs.now }
 {
-    if has_unsensed(model, pairs) {
+    if has_unsensed(context.model.model(), pairs) {
         Some(NOT_SENSED)
-    } else if has_item_twice(pairs) || has_pending(pending.pairs.as_slice(), pairs) {
+    } else if has_item_twice(pairs) || has_pending(context.pending.pairs.as_slice(), pairs) {
         Some(REPEATED_PAIR)
-    } else if has_mirrored(mirrored, pairs) {
+    } else if has_mirrored(context.mirrored, pairs) {
         Some(MIRRORED)
     } else {
         None
@@ -93,14 +96,16 @@ pub fn observe_code(model: &Model, pending: &Seen, mirrored: VarSet, pairs: &[Pa
 
 /// The least code of a variable that is to be mirrored.
 #[tactic(auto, unfolding(crate::specs::EventCodes::mirror_code))]
-pub fn mirror_code(model: &Model, pending: &Seen, mirrored: VarSet, v: u16) -> Option<u8>
-    ensures { result ≡ mirror_code model.now pending.now.pairs mirrored v }
+pub fn mirror_code(context: &Context, v: u16) -> Option<u8>
+    ensures { result ≡ mirror_code context.now.model context.now.pending.now.pairs
+        context.now.mirrored
+        v }
 {
-    if !is_sensed(model, v) {
+    if !is_sensed(context.model.model(), v) {
         Some(NOT_SENSED)
-    } else if has_item(pending.pairs.as_slice(), v) {
+    } else if has_item(context.pending.pairs.as_slice(), v) {
         Some(REPEATED_PAIR)
-    } else if mirrored.has(v) {
+    } else if context.mirrored.has(v) {
         Some(MIRRORED)
     } else {
         None

@@ -1,10 +1,11 @@
 //! What an event line says, by words in place of names.
 
-ghost use Rattle.std.specs.Prelude.{◌≡◌, List, Some, map, IfOk};
+ghost use Rattle.std.specs.Prelude.{◌≡◌, Some, map, IfOk};
 ghost use Rattle.std.specs.Option.{option_map};
 ghost use Rattle.text_base.specs.Lexemes.{lexeme_of};
 ghost use Rattle.text_base.specs.Lists.{ended};
-ghost use Rattle.script_reader.specs.Items.{goal_at, observe_at, fault_at, mirror_at, item_of, shown_item};
+ghost use Rattle.text_base.specs.Pairs.{shown_pair};
+ghost use Rattle.script_reader.specs.Items.{AreOnlyPairs, pairs_item, fault_at, mirror_at, item_of, shown_item};
 
 use std::alloc::{AllocError, Global};
 use text_base::{Kind, NamedPair, Token, is_lexeme, name_word_at, pair_at, pairs_at};
@@ -29,26 +30,23 @@ fn ended<'a>(item: Item<'a>, tokens: &[Token]) -> Option<Item<'a>>
     if tokens.is_empty() { Some(item) } else { None }
 }
 
-#[tactic(auto, unfolding(crate::specs::Items::goal_at))]
-fn goal_at<'a>(alloc: Global, tokens: &[Token<'a>]) -> Result<Option<Item<'a>>, AllocError>
-    ensures { IfOk result (λ read.
-        option_map shown_item read ≡ goal_at (map lexeme_of tokens.now)) }
+/// The pairs, where nothing follows.
+#[tactic(auto, unfolding(crate::specs::Items::pairs_item))]
+fn only_pairs<'a>(
+    alloc: Global,
+    tokens: &[Token<'a>],
+) -> Result<Option<Vec<NamedPair<'a>>>, AllocError>
+    ensures { IfOk result (λ read. AreOnlyPairs (map lexeme_of tokens.now)
+        (option_map (λ pairs. map shown_pair pairs.items) read)) }
 {
     let Some((pairs, rest)) = pairs_at(alloc, tokens)? else {
         return Ok(None);
     };
-    Ok(ended(Item::Goal(pairs), rest))
-}
-
-#[tactic(auto, unfolding(crate::specs::Items::observe_at))]
-fn observe_at<'a>(alloc: Global, tokens: &[Token<'a>]) -> Result<Option<Item<'a>>, AllocError>
-    ensures { IfOk result (λ read.
-        option_map shown_item read ≡ observe_at (map lexeme_of tokens.now)) }
-{
-    let Some((pairs, rest)) = pairs_at(alloc, tokens)? else {
-        return Ok(None);
-    };
-    Ok(ended(Item::Observe(pairs), rest))
+    if rest.is_empty() {
+        Ok(Some(pairs))
+    } else {
+        Ok(None)
+    }
 }
 
 #[tactic(auto, unfolding(crate::specs::Items::fault_at))]
@@ -76,11 +74,17 @@ pub fn item_of<'a>(alloc: Global, tokens: &[Token<'a>]) -> Result<Option<Item<'a
         [] => Ok(None),
         [first, rest @ ..] => {
             if is_lexeme(first, Kind::Word, b"goal") {
-                goal_at(alloc, rest)
+                match only_pairs(alloc, rest)? {
+                    Some(pairs) => Ok(Some(Item::Goal(pairs))),
+                    None => Ok(None),
+                }
             } else if is_lexeme(first, Kind::Word, b"clear") {
                 Ok(ended(Item::Clear, rest))
             } else if is_lexeme(first, Kind::Word, b"observe") {
-                observe_at(alloc, rest)
+                match only_pairs(alloc, rest)? {
+                    Some(pairs) => Ok(Some(Item::Observe(pairs))),
+                    None => Ok(None),
+                }
             } else if is_lexeme(first, Kind::Word, b"fault") {
                 Ok(fault_at(rest))
             } else if is_lexeme(first, Kind::Word, b"mirror") {

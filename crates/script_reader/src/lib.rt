@@ -2,6 +2,7 @@
 //! applies to it for the observations that are pending and the variables that are mirrored.
 #![tactic(auto)]
 
+mod context;
 mod event;
 mod event_codes;
 mod event_line;
@@ -10,4 +11,5 @@ mod laws;
 mod named;
 
 pub use event_line::{read_event, read_named_event};
+pub use formula_syntax::NamedModel;
 pub use laws::{least_codes_are_answered, lines_are_spelled, lines_say_items};

@@ -8,7 +8,7 @@ use Rattle.model_form.specs.Acceptance.{Acceptance, AcceptedAs, RefusedFor, IsAc
 use Rattle.model_form.specs.Answers.{AnswersByAcceptance, AnswersByEnd}
 use Rattle.model_form.specs.FormMeaning.{FormAgrees}
 use Rattle.model_form.specs.ModelEnds.{IsAcceptedEnd, IsRefusedEnd}
-use Rattle.model_form.specs.ModelTexts.{ModelText, Scripted, Stopped}
+use Rattle.model_form.specs.ModelTexts.{ModelText, WholeModel, RefusedModel}
 use Rattle.model_form.specs.OneStep.{acceptance_is_one}
 use Rattle.model_form.proofs.OneModelText.{texts_are_one}
 use Rattle.show_form.specs.ShowMeaning.{show_meaning}
@@ -21,31 +21,31 @@ abbrev ShowsSo : ModelText → End → List ℕ → Type 0
 ShowsSo end e text = AnswersByEnd false SaysShown end e text
 
 shown_ended : (end : ModelText) (text : List ℕ) → ShowsSo end Ended text → IsAcceptedEnd end
-shown_ended (Scripted m n ls) text (AcceptedAs b, is, h) = (b, is)
-shown_ended (Scripted m n ls) text (RefusedFor r, is, h) = let never : Ended ≡ Refused = h.0 in absurd cc
-shown_ended (Stopped m line r) text h = let never : Ended ≡ Refused = h.0 in absurd cc
+shown_ended (WholeModel m n ls) text (AcceptedAs b, is, h) = (b, is)
+shown_ended (WholeModel m n ls) text (RefusedFor r, is, h) = let never : Ended ≡ Refused = h.0 in absurd cc
+shown_ended (RefusedModel m line r) text h = let never : Ended ≡ Refused = h.0 in absurd cc
 
 shown_refused : (end : ModelText) (text : List ℕ) → ShowsSo end Refused text → (line : ℕ) × (r : Refusal) × IsRefusedEnd end line r
-shown_refused (Scripted m n ls) text (AcceptedAs b, is, h) = let never : Refused ≡ Ended = h.0 in absurd cc
-shown_refused (Scripted m n ls) text (RefusedFor r, is, h) = (n, r, (refl, is))
-shown_refused (Stopped m line r) text h = (line, r, (refl, refl))
+shown_refused (WholeModel m n ls) text (AcceptedAs b, is, h) = let never : Refused ≡ Ended = h.0 in absurd cc
+shown_refused (WholeModel m n ls) text (RefusedFor r, is, h) = (n, r, (refl, is))
+shown_refused (RefusedModel m line r) text h = (line, r, (refl, refl))
 
 shown_not : (end : ModelText) (text : List ℕ) → ShowsSo end Rejected text → ⊥
-shown_not (Scripted m n ls) text (AcceptedAs b, is, h) = let never : Rejected ≡ Ended = h.0 in absurd cc
-shown_not (Scripted m n ls) text (RefusedFor r, is, h) = let never : Rejected ≡ Refused = h.0 in absurd cc
-shown_not (Stopped m line r) text h = let never : Rejected ≡ Refused = h.0 in absurd cc
+shown_not (WholeModel m n ls) text (AcceptedAs b, is, h) = let never : Rejected ≡ Ended = h.0 in absurd cc
+shown_not (WholeModel m n ls) text (RefusedFor r, is, h) = let never : Rejected ≡ Refused = h.0 in absurd cc
+shown_not (RefusedModel m line r) text h = let never : Rejected ≡ Refused = h.0 in absurd cc
 
 -- what becomes of the model is one
 same_acceptance : (m : PlantModel) (n : ℕ) (ls : List (List ℕ)) (e : End) (text : List ℕ) (v w : Acceptance) → IsAcceptanceOf m v → IsAcceptanceOf m w → AnswersByAcceptance false SaysShown v m n ls e text → AnswersByAcceptance false SaysShown w m n ls e text
 same_acceptance m n ls e text v w is is' h = subst (λ (z : Acceptance). AnswersByAcceptance false SaysShown z m n ls e text) (acceptance_is_one m v w is is') h
 
 shown_is_ended : (end : ModelText) (e : End) (text : List ℕ) → ShowsSo end e text → IsAcceptedEnd end → e ≡ Ended
-shown_is_ended (Scripted m n ls) e text (v, is, h) (b, is') = (same_acceptance m n ls e text v (AcceptedAs b) is is' h).0
-shown_is_ended (Stopped m line r) e text h accepted = absurd accepted
+shown_is_ended (WholeModel m n ls) e text (v, is, h) (b, is') = (same_acceptance m n ls e text v (AcceptedAs b) is is' h).0
+shown_is_ended (RefusedModel m line r) e text h accepted = absurd accepted
 
 shown_is_refused : (end : ModelText) (e : End) (text : List ℕ) (line : ℕ) (r : Refusal) → ShowsSo end e text → IsRefusedEnd end line r → e ≡ Refused
-shown_is_refused (Scripted m n ls) e text line r (v, is, h) (at, is') = (same_acceptance m n ls e text v (RefusedFor r) is is' h).0
-shown_is_refused (Stopped m k s) e text line r h refused = h.0
+shown_is_refused (WholeModel m n ls) e text line r (v, is, h) (at, is') = (same_acceptance m n ls e text v (RefusedFor r) is is' h).0
+shown_is_refused (RefusedModel m k s) e text line r h refused = h.0
 
 pub show_agrees : FormAgrees show_meaning
 show_agrees = record {

@@ -1,17 +1,16 @@
 -- What the machine of `show` prints for an input is its model's text, or the line of a refusal.
-use Rattle.std.proofs.Common.{◌≡◌, ℕ, false, List, [], ◌++◌, refl, sym, subst, ◌∙◌, append-nil}
+use Rattle.std.proofs.Common.{◌≡◌, ℕ, List, [], ◌++◌, refl, sym, subst, ◌∙◌, append-nil}
 use Rattle.cca_base.specs.Accepted.{CompiledModel, IsCompiled}
 use Rattle.line_machine.specs.Next.{Next, Stops}
 use Rattle.line_machine.specs.declared.machine.End.{End}
 use Rattle.line_machine.specs.declared.machine.End.TheVariants.{Ended}
 use Rattle.trace_text.specs.Compiled.{show_text}
 use Rattle.line_machine.specs.Completes.{Completes}
-use Rattle.model_form.specs.Answers.{PrintsBehind, TextsAreAnswers}
+use Rattle.model_form.specs.Answers.{PrintsBehind}
 use Rattle.model_form.specs.NoLines.{no_lines}
 use Rattle.model_form.specs.declared.no_lines.NoLines.{NoLines}
-use Rattle.model_form.proofs.Following.{answer_follows}
+use Rattle.model_form.proofs.Following.{are_told}
 use Rattle.line_machine.proofs.RunLines.{at_stop, stops}
-use Rattle.model_form.proofs.TextsAreAnswers.{texts_are_answers}
 use Rattle.show_form.specs.Shown.{show_form, SaysShown, ModelsAreShown}
 use Rattle.show_form.specs.declared.show.Show.{Show}
 
@@ -35,9 +34,4 @@ shown_is s b n ls e text compiled p = record {
 }
 
 pub models_are_shown : ModelsAreShown
-models_are_shown =
-    let t : TextsAreAnswers show_form no_lines = texts_are_answers show_form no_lines in
-    record {
-      says = λ input e text is. answer_follows false (PrintsBehind show_form no_lines (record {})) SaysShown (is_shown (record {})) input e text (t.says (record {}) input e text is);
-      comes = λ input e text is. t.comes (record {}) input e text (answer_follows false SaysShown (PrintsBehind show_form no_lines (record {})) (shown_is (record {})) input e text is);
-    }
+models_are_shown = are_told show_form no_lines (record {}) SaysShown (is_shown (record {})) (shown_is (record {}))

@@ -9,4 +9,4 @@ mod sent;
 
 pub use options::choices;
 pub use plant::Plant;
-pub use sent::nominal;
+pub use sent::{nominal, obey};

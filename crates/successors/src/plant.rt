@@ -7,7 +7,7 @@ ghost use Rattle.cca_base.specs.Model.{HasMode};
 ghost use Rattle.cca_base.specs.State.{IsState, start_modes};
 ghost use Rattle.cca_base.specs.Successors.{Nominal};
 
-use crate::sent::nominal;
+use crate::sent::obey;
 use cca_base::{Compiled, List, Pair, State};
 use std::alloc::{AllocError, Global};
 use std::marker::Model;
@@ -50,9 +50,7 @@ impl Plant {
         ensures moves { Nominal compiled.now.model self.old (Some command) self.new }
         ensures fits { IsState compiled.now.model self.new }
     {
-        if let Some(pair) = nominal(compiled, &self.state, Some(command)) {
-            self.fault(pair);
-        }
+        obey(compiled, &mut self.state, Some(command));
     }
 
     /// Puts one component in one mode. A pair of a model that the plant fits leaves it fitting.

@@ -1,9 +1,9 @@
-//! Where a command sends a component. A guard is tested by the prime implicants of its move, so this takes no memory.
+//! Where a command sends a component, and the plant with it. A guard is tested by the prime implicants of its move, so this takes no memory.
 
 ghost use Rattle.std.specs.Prelude.{◌≡◌, ◌↔◌, ◌<◌, IsTrue, IfSome, IsNone, Some, length, slice_get};
 ghost use Rattle.cca_base.specs.Model.{HasMode};
 ghost use Rattle.cca_base.specs.State.{IsState};
-ghost use Rattle.cca_base.specs.Successors.{IsCommanded};
+ghost use Rattle.cca_base.specs.Successors.{IsCommanded, Nominal};
 ghost use Rattle.cca_base.specs.declared.model.Move.{Move};
 ghost use Rattle.successors.specs.Nominal.{IsSent, NoneSent, SomeStands};
 
@@ -57,4 +57,15 @@ pub fn nominal(compiled: &Compiled, state: &State, command: Option<u16>) -> Opti
         }
     }
     None
+}
+
+/// Makes the nominal move of the command, if there is one.
+pub fn obey(compiled: &Compiled, plant: &mut State, command: Option<u16>)
+    requires { IsState compiled.now.model plant.old.modes }
+    ensures moves { Nominal compiled.now.model plant.old.modes command plant.new.modes }
+    ensures fits { IsState compiled.now.model plant.new.modes }
+{
+    if let Some(pair) = nominal(compiled, plant, command) {
+        plant.modes.set(pair.item as usize, pair.value);
+    }
 }

@@ -44,7 +44,7 @@ begins_behind line from ts to us k s b = record {
 pub in_first : (t : Tok) (ts : List Tok) (k : ℕ) → t.start ≤ k → k < t.end → IsInToken (t ∷ ts) k
 in_first t ts k low high = (t, (0, omega arith, refl), low, high)
 
-pub in_rest : (t : Tok) (ts : List Tok) (k : ℕ) → IsInToken ts k → IsInToken (t ∷ ts) k
+in_rest : (t : Tok) (ts : List Tok) (k : ℕ) → IsInToken ts k → IsInToken (t ∷ ts) k
 in_rest t ts k h = let c = h.1 in (h.0, (suc c.0, omega (arith, c.1), c.2), h.2, h.3)
 
 -- a place behind the first token is in one of the others

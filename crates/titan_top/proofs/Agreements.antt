@@ -4,7 +4,6 @@ use Rattle.line_machine.specs.Next.{Stops}
 use Rattle.line_machine.specs.Runs.{IsSure, IsText}
 use Rattle.line_machine.specs.declared.machine.End.TheVariants.{Rejected}
 use Rattle.model_form.specs.FormMeaning.{FormAgrees}
-use Rattle.show_form.specs.Shown.{show_first}
 use Rattle.show_form.proofs.ShowAgrees.{show_agrees}
 use Rattle.show_form.proofs.ShowEnds.{show_never_rejected}
 use Rattle.run_form.specs.RunMachine.{run_first}
@@ -12,12 +11,12 @@ use Rattle.run_form.specs.declared.notation.Notation.TheVariants.{Summary}
 use Rattle.run_form.proofs.RunAgrees.{run_agrees}
 use Rattle.run_form.proofs.RunEnds.{run_never_rejected}
 use Rattle.check_form.proofs.CheckAgrees.{check_agrees}
-use Rattle.migrate_form.specs.MigrateMachine.{migrate_first}
 use Rattle.migrate_form.proofs.MigrateAgrees.{migrate_agrees}
 use Rattle.migrate_form.proofs.MigrateEnds.{migrate_never_rejected}
 use Rattle.titan_top.specs.Meanings.{meaning_of}
 use Rattle.titan_top.specs.declared.words.Form.{Form}
 use Rattle.titan_top.specs.declared.words.Form.TheVariants.{Run, Show, Trial, Check, Migrate}
+use Rattle.model_form.specs.FormStates.{form_first}
 
 pub agrees : (form : Form) → FormAgrees (meaning_of form)
 agrees (Run notation) = run_agrees notation _
@@ -32,7 +31,7 @@ SaysNo form bytes text = IsText (meaning_of form).machine (meaning_of form).firs
 
 pub only_check_rejects : (form : Form) (bytes text : List ℕ) → SaysNo form bytes text → form ≡ Check
 only_check_rejects (Run notation) bytes text h = absurd (run_never_rejected (run_first notation) bytes text h)
-only_check_rejects Show bytes text h = absurd (show_never_rejected show_first bytes text h)
+only_check_rejects Show bytes text h = absurd (show_never_rejected (form_first (record {})) bytes text h)
 only_check_rejects (Trial seed) bytes text h = absurd (run_never_rejected (run_first (Summary seed)) bytes text h)
 only_check_rejects Check bytes text h = refl
-only_check_rejects Migrate bytes text h = absurd (migrate_never_rejected migrate_first bytes text h)
+only_check_rejects Migrate bytes text h = absurd (migrate_never_rejected (form_first (record {})) bytes text h)

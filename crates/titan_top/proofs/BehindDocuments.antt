@@ -14,36 +14,37 @@ use Rattle.text_base.specs.Lexemes.{Lexeme, lexeme, word}
 use Rattle.text_base.specs.Tokens.{Tok, tokens_of}
 use Rattle.text_base.proofs.LexemeLaws.{lexeme_is}
 use Rattle.check_form.specs.CheckScript.{ScriptSoFar, ScriptOutcome, Reads, Ends, Traced, ReadsScript, LeadsByCode, LeadsUnless, ScriptLeads, EventLeads, is_word_alone, is_trace_line, with_event}
-use Rattle.model_form.specs.ModelTexts.{ModelText, Scripted, Stopped, ReadsModel, After}
-use Rattle.run_form.specs.Document.{Document, Complete, RefusedAt, SaysBy, SaysScript, refused_at}
+use Rattle.model_form.specs.ModelTexts.{ModelText, WholeModel, RefusedModel, ReadsModel, After}
+use Rattle.run_form.specs.Document.{Document, Complete, SaysBy, SaysScript}
 use Rattle.model_form.specs.Limits.{line_code, unless_long}
+use Rattle.migrate_form.proofs.MigratedTexts.{refused_never as never_complete}
 
 -- ---- the model
 
 -- the same end of a model's lines, with more lines behind
 abbrev pub with_more : List (List ℕ) → ModelText → ModelText
-with_more more (Scripted m n rest) = Scripted m n (rest ++ more)
-with_more more (Stopped m line r) = Stopped m line r
+with_more more (WholeModel m n rest) = WholeModel m n (rest ++ more)
+with_more more (RefusedModel m line r) = RefusedModel m line r
 
 -- the lines come to the script
-abbrev pub IsScripted : ModelText → Type 0
-IsScripted (Scripted m n rest) = Unit {0}
-IsScripted (Stopped m line r) = ⊥
+abbrev pub IsWholeModel : ModelText → Type 0
+IsWholeModel (WholeModel m n rest) = Unit {0}
+IsWholeModel (RefusedModel m line r) = ⊥
 
-never_scripted : (end : ModelText) (m : PlantModel) (line : ℕ) (code : ℕ) → IsScripted end → end ≡ Stopped m line (bare code) → ⊥
-never_scripted end m line code scripted is = subst IsScripted is scripted
+never_whole : (end : ModelText) (m : PlantModel) (line : ℕ) (code : ℕ) → IsWholeModel end → end ≡ RefusedModel m line (bare code) → ⊥
+never_whole end m line code scripted is = subst IsWholeModel is scripted
 
 module _ (more : List (List ℕ)) where
-  model_line_goes_on : (o : LineOutcome) (s : ModelSoFar) (n : ℕ) (ls : List (List ℕ)) (end : ModelText) → IsScripted end
+  model_line_goes_on : (o : LineOutcome) (s : ModelSoFar) (n : ℕ) (ls : List (List ℕ)) (end : ModelText) → IsWholeModel end
       → ((t : ModelSoFar) → ReadsModel t (n + 1) ls end → ReadsModel t (n + 1) (ls ++ more) (with_more more end))
-      → After o (λ t. ReadsModel t (n + 1) ls end) (end ≡ Scripted s.model (n + 1) ls) (λ code. end ≡ Stopped s.model (n + 1) (bare code))
-      → After o (λ t. ReadsModel t (n + 1) (ls ++ more) (with_more more end)) (with_more more end ≡ Scripted s.model (n + 1) (ls ++ more)) (λ code. with_more more end ≡ Stopped s.model (n + 1) (bare code))
+      → After o (λ t. ReadsModel t (n + 1) ls end) (end ≡ WholeModel s.model (n + 1) ls) (λ code. end ≡ RefusedModel s.model (n + 1) (bare code))
+      → After o (λ t. ReadsModel t (n + 1) (ls ++ more) (with_more more end)) (with_more more end ≡ WholeModel s.model (n + 1) (ls ++ more)) (λ code. with_more more end ≡ RefusedModel s.model (n + 1) (bare code))
   model_line_goes_on (ReadsLine t) s n ls end scripted on h = on t h
-  model_line_goes_on (RefusesLine code) s n ls end scripted on h = absurd (never_scripted end s.model (n + 1) code scripted h)
+  model_line_goes_on (RefusesLine code) s n ls end scripted on h = absurd (never_whole end s.model (n + 1) code scripted h)
   model_line_goes_on Finishes s n ls end scripted on h = ap (with_more more) h
 
-  pub model_goes_on : (ls : List (List ℕ)) (s : ModelSoFar) (n : ℕ) (end : ModelText) → IsScripted end → ReadsModel s n ls end → ReadsModel s n (ls ++ more) (with_more more end)
-  model_goes_on [] s n end scripted h = absurd (never_scripted end s.model n _ scripted h)
+  pub model_goes_on : (ls : List (List ℕ)) (s : ModelSoFar) (n : ℕ) (end : ModelText) → IsWholeModel end → ReadsModel s n ls end → ReadsModel s n (ls ++ more) (with_more more end)
+  model_goes_on [] s n end scripted h = absurd (never_whole end s.model n _ scripted h)
   model_goes_on (l ∷ ls) s n end scripted (o, leads, after) =
       (o, leads, model_line_goes_on o s n ls end scripted (λ t h. model_goes_on ls t (n + 1) end scripted h) after)
 
@@ -61,12 +62,6 @@ trace_item says (Ok (t ∷ u ∷ ts)) h = absurd (false≢true h)
 trace_is_no_event : (m : PlantModel) (pending : List Pair) (mirrored : ℕ) (l : List ℕ) → is_trace_line l ≡ true → event_line m pending mirrored l ≡ Err MALFORMED
 unfolding is_trace_line event_line
 trace_is_no_event m pending mirrored l h = trace_item (event_of m pending mirrored) (tokens_of l) h
-
--- a refused document is not complete
-never_complete : (m : PlantModel) (n code : ℕ) (r : Document) → r.ending ≡ Complete → r ≡ refused_at m n (bare code) → ⊥
-never_complete m n code r complete is =
-    let never : RefusedAt n (bare code) ≡ Complete = sym (ap (λ (d : Document). d.ending) is) ∙ complete in
-    absurd cc
 
 module _ (m : PlantModel) (l : List ℕ) (said : Result (Option Event) ℕ) where
   no_trace_by : (b : Bool) → b ≡ is_trace_line l → (is_trace_line l ≡ true → (code : ℕ) × (said ≡ Err code)) → (s : ScriptSoFar) (o : ScriptOutcome) → ((code : ℕ) → said ≡ Err code → ⊥) → EventLeads said s o → LeadsUnless b said s o

@@ -13,14 +13,14 @@ use Rattle.line_machine.specs.declared.send.Cut.{Cut}
 use Rattle.line_machine.specs.declared.send.Cut.TheVariants as cuts
 use Rattle.line_machine.proofs.SentPieces.{append_known-nil}
 use Rattle.line_machine.proofs.SureTextBegins.{quiet_sure, decided}
-use Rattle.show_form.specs.Shown.{show_machine, show_first}
+use Rattle.show_form.specs.Shown.{show_machine}
 use Rattle.show_form.proofs.ShowEnds.{show_is_quiet}
 use Rattle.run_form.specs.RunMachine.{run_machine, run_first}
 use Rattle.run_form.specs.declared.notation.Notation.{Notation}
 use Rattle.run_form.proofs.RunEnds.{run_sure_refused}
-use Rattle.check_form.specs.CheckForm.{check_machine, check_first}
+use Rattle.check_form.specs.CheckForm.{check_machine}
 use Rattle.check_form.proofs.NotBefore.{check_sure_not, check_is_quiet}
-use Rattle.migrate_form.specs.MigrateMachine.{migrate_machine, migrate_first}
+use Rattle.migrate_form.specs.MigrateMachine.{migrate_machine}
 use Rattle.migrate_form.proofs.MigrateEnds.{migrate_sure_refused}
 use Rattle.titan_top.specs.Meanings.{meaning_of}
 use Rattle.titan_top.specs.Output.{NothingRefused}
@@ -31,6 +31,7 @@ use Rattle.titan_top.specs.declared.words.Form.{Form}
 use Rattle.titan_top.specs.declared.words.Form.TheVariants.{Run, Show, Check, Migrate}
 use Rattle.titan_top.proofs.Agreements.{agrees, only_check_rejects}
 use Rattle.titan_top.proofs.FormStatuses.{no_cut_ended, no_cut_rejected, end_ended, end_rejected, end_not_fault}
+use Rattle.model_form.specs.FormStates.{form_first}
 
 cut_read : (c : Cut) → cut_status c ≡ ReadFault → c ≡ cuts.ReadFault
 cut_read cuts.ReadFault h = refl
@@ -82,19 +83,19 @@ run_at_end w form left left' out out' r is s h = ended_at_end run_machine (run_f
 
 pub check_at_end : (form : Form) (left left' out out' : Option (List ℕ)) (r : Result End Cut) → form ≡ Check → StreamedFor form left left' out out' r → status_of r ≡ Ended → IsAtEnd left'
 check_at_end form left left' out out' r is s h =
-    ended_at_end check_machine check_first (λ taken text k. check_sure_not check_first taken ends.Ended text k refl) left left' out out' r (subst (λ (f : Form). StreamedFor f left left' out out' r) is s) h
+    ended_at_end check_machine (form_first (record {})) (λ taken text k. check_sure_not (form_first (record {})) taken ends.Ended text k refl) left left' out out' r (subst (λ (f : Form). StreamedFor f left left' out out' r) is s) h
 
-migration_never : (taken text : List ℕ) → IsSure migrate_machine migrate_first taken (Stops ends.Ended) text → ⊥
-migration_never taken text h = let k : ends.Ended ≡ ends.Refused = migrate_sure_refused migrate_first taken ends.Ended text h in absurd cc
+migration_never : (taken text : List ℕ) → IsSure migrate_machine (form_first (record {})) taken (Stops ends.Ended) text → ⊥
+migration_never taken text h = let k : ends.Ended ≡ ends.Refused = migrate_sure_refused (form_first (record {})) taken ends.Ended text h in absurd cc
 
 pub migration_at_end : (form : Form) (left left' out out' : Option (List ℕ)) (r : Result End Cut) → form ≡ Migrate → StreamedFor form left left' out out' r → status_of r ≡ Ended → IsAtEnd left'
-migration_at_end form left left' out out' r is s h = ended_at_end migrate_machine migrate_first migration_never left left' out out' r (subst (λ (f : Form). StreamedFor f left left' out out' r) is s) h
+migration_at_end form left left' out out' r is s h = ended_at_end migrate_machine (form_first (record {})) migration_never left left' out out' r (subst (λ (f : Form). StreamedFor f left left' out out' r) is s) h
 
 -- ---- what was shown was read to its script
 
-show_taken : (taken : List ℕ) (left : Option (List ℕ)) (text : List ℕ) → ((IsText show_machine show_first taken ends.Ended text × IsAtEnd left) ⊎ IsSure show_machine show_first taken (Stops ends.Ended) text) → IsText show_machine show_first taken ends.Ended text
+show_taken : (taken : List ℕ) (left : Option (List ℕ)) (text : List ℕ) → ((IsText show_machine (form_first (record {})) taken ends.Ended text × IsAtEnd left) ⊎ IsSure show_machine (form_first (record {})) taken (Stops ends.Ended) text) → IsText show_machine (form_first (record {})) taken ends.Ended text
 show_taken taken left text (inl h) = h.0
-show_taken taken left text (inr h) = subst (λ (b : List ℕ). IsText show_machine show_first b ends.Ended text) (append-nil taken) (decided show_machine show_first taken [] text ends.Ended h)
+show_taken taken left text (inr h) = subst (λ (b : List ℕ). IsText show_machine (form_first (record {})) b ends.Ended text) (append-nil taken) (decided show_machine (form_first (record {})) taken [] text ends.Ended h)
 
 -- some bytes moved, and the form refuses nothing in them
 abbrev HasRead : Form → Option (List ℕ) → Option (List ℕ) → Type 0
@@ -102,7 +103,7 @@ HasRead form left left' = (taken : List ℕ) × (left ≡ prepend_known taken le
 
 to_script_by : (left left' out out' : Option (List ℕ)) (e : End) → e ≡ ends.Ended → StreamedFor Show left left' out out' (Ok e) → HasRead Show left left'
 to_script_by left left' out out' e is s =
-    let says : WroteWhole show_machine show_first s.driven.taken left' out out' ends.Ended = subst (λ (f : End). WroteWhole show_machine show_first s.driven.taken left' out out' f) is s.driven.says in
+    let says : WroteWhole show_machine (form_first (record {})) s.driven.taken left' out out' ends.Ended = subst (λ (f : End). WroteWhole show_machine (form_first (record {})) s.driven.taken left' out out' f) is s.driven.says in
     let (end, reads, own) = (agrees Show).says s.driven.taken ends.Ended says.text (show_taken s.driven.taken left' says.text says.whole) in
     (s.driven.taken, s.driven.moved, (agrees Show).ended s.driven.taken says.text end reads own)
 
@@ -125,7 +126,7 @@ module _ {S : Type 0} (m : Ghosts S) (first : S) (quiet : IsQuiet m) where
   quiet_silent left left' out out' (Err c) s h = silent_by left left' out out' c (cut_read c h) s
 
 pub show_silent : (form : Form) (left left' out out' : Option (List ℕ)) (r : Result End Cut) → form ≡ Show → StreamedFor form left left' out out' r → status_of r ≡ ReadFault → out' ≡ out
-show_silent form left left' out out' r is s h = quiet_silent show_machine show_first show_is_quiet left left' out out' r (subst (λ (f : Form). StreamedFor f left left' out out' r) is s) h
+show_silent form left left' out out' r is s h = quiet_silent show_machine (form_first (record {})) show_is_quiet left left' out out' r (subst (λ (f : Form). StreamedFor f left left' out out' r) is s) h
 
 pub check_silent : (form : Form) (left left' out out' : Option (List ℕ)) (r : Result End Cut) → form ≡ Check → StreamedFor form left left' out out' r → status_of r ≡ ReadFault → out' ≡ out
-check_silent form left left' out out' r is s h = quiet_silent check_machine check_first check_is_quiet left left' out out' r (subst (λ (f : Form). StreamedFor f left left' out out' r) is s) h
+check_silent form left left' out out' r is s h = quiet_silent check_machine (form_first (record {})) check_is_quiet left left' out out' r (subst (λ (f : Form). StreamedFor f left left' out out' r) is s) h

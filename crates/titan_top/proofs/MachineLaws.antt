@@ -8,9 +8,9 @@ use Rattle.line_machine.specs.Runs.{IsSure, IsText, IsPrefix}
 use Rattle.line_machine.specs.declared.machine.End.{End}
 use Rattle.line_machine.proofs.KnownInputs.{prints_begins}
 use Rattle.line_machine.proofs.SureTextBegins.{sure_begins_text, quiet_sure}
-use Rattle.show_form.specs.Shown.{show_machine, show_first}
+use Rattle.show_form.specs.Shown.{show_machine}
 use Rattle.show_form.proofs.ShowEnds.{show_is_quiet}
-use Rattle.check_form.specs.CheckForm.{check_machine, check_first}
+use Rattle.check_form.specs.CheckForm.{check_machine}
 use Rattle.check_form.proofs.NotBefore.{check_is_quiet}
 use Rattle.titan_top.specs.Laws.{TextsAreOutcomes, SureTextBegins, OutcomesFit}
 use Rattle.titan_top.specs.Meanings.{meaning_of}
@@ -19,6 +19,7 @@ use Rattle.titan_top.specs.Statuses.{end_status}
 use Rattle.titan_top.specs.declared.words.Form.{Form}
 use Rattle.titan_top.proofs.Agreements.{agrees}
 use Rattle.titan_top.proofs.FormAnswers.{text_says, said_text}
+use Rattle.model_form.specs.FormStates.{form_first}
 
 -- a front is no longer than the whole
 front_fits : (x y : List ℕ) (n : ℕ) → IsPrefix x y → length y ≤ n → length x ≤ n
@@ -51,8 +52,8 @@ texts_are_outcomes = record { says = text_says; comes = form_comes }
 pub sure_text_begins : SureTextBegins
 sure_text_begins = record {
   begins = form_begins;
-  silent = λ a x t sure. quiet_sure show_machine show_is_quiet show_first a x t sure;
-  silent_check = λ a x t sure. quiet_sure check_machine check_is_quiet check_first a x t sure;
+  silent = λ a x t sure. quiet_sure show_machine show_is_quiet (form_first (record {})) a x t sure;
+  silent_check = λ a x t sure. quiet_sure check_machine check_is_quiet (form_first (record {})) a x t sure;
 }
 
 pub outcomes_fit : OutcomesFit

@@ -25,9 +25,8 @@ use Rattle.line_machine.specs.declared.send.Cut.TheVariants as cuts
 use Rattle.line_machine.proofs.JoinedLines.{lines-append, with_lines}
 use Rattle.line_machine.proofs.LengthCodes.{short_code}
 use Rattle.model_syntax.specs.Lines.{ModelSoFar, LineOutcome, Reads as ReadsLine, Refuses as RefusesLine, Finishes}
-use Rattle.plan_checker.specs.Checked.{AsGiven}
 use Rattle.plan_checker.specs.Reasons.{Printed}
-use Rattle.trace_laws.specs.Events.{Acts}
+use Rattle.trace_laws.specs.Events.{AsGiven, Acts}
 use Rattle.trace_laws.specs.Fits.{Fits}
 use Rattle.trace_laws.proofs.EventsJoin.{next_may_come, trace_is_made}
 use Rattle.trace_laws.proofs.FitsStay.{start_fits, stays_fitting}
@@ -36,10 +35,11 @@ use Rattle.check_form.specs.CheckEnds.{IsAllYes}
 use Rattle.check_form.specs.CheckScript.{Traced, ReadsScript, no_events}
 use Rattle.check_form.specs.CheckTrace.{TraceSoFar, ComesTo, before_tick, AllYes, JudgesLines, JudgesTrace}
 use Rattle.model_form.specs.FormStates.{nothing_read}
-use Rattle.model_form.specs.ModelTexts.{ModelText, Scripted, Stopped, ReadsModel, After, EndsModel}
+use Rattle.model_form.specs.ModelTexts.{ModelText, WholeModel, RefusedModel, ReadsModel, After, EndsModel}
 use Rattle.run_form.specs.Document.{Document, DocumentEnd, Complete, RefusedAt, SaysScript}
 use Rattle.model_form.specs.Limits.{line_code}
 use Rattle.model_form.specs.Answers.{Answer, answer, AnswersByAcceptance, AnswersByEnd}
+use Rattle.model_form.specs.declared.limits.TheConstants.{MAX_LINE}
 use Rattle.run_form.specs.Notations.{is_json}
 use Rattle.run_form.specs.Printed.{ending, printed, SaysRun}
 use Rattle.titan_top.specs.Output.{Outcome, outcome_of, IsOutcomeFor}
@@ -182,8 +182,8 @@ closed_lines front more =
     ap all_lines joined ∙ append_assoc w (lines_in more).whole (last_line (lines_in more).tail) ∙ ap (λ (ls : List (List ℕ)). ls ++ all_lines (lines_in more)) (sym first)
 
 -- a model's script stands where its number says
-place_by : (o : LineOutcome) (s : ModelSoFar) (n : ℕ) (ls : List (List ℕ)) (m : PlantModel) (k : ℕ) (rest : List (List ℕ)) → ((t : ModelSoFar) → ReadsModel t (n + 1) ls (Scripted m k rest) → k + length rest ≡ n + 1 + length ls)
-    → After o (λ t. ReadsModel t (n + 1) ls (Scripted m k rest)) (Scripted m k rest ≡ Scripted s.model (n + 1) ls) (λ code. Scripted m k rest ≡ Stopped s.model (n + 1) (bare code)) → k + length rest ≡ n + 1 + length ls
+place_by : (o : LineOutcome) (s : ModelSoFar) (n : ℕ) (ls : List (List ℕ)) (m : PlantModel) (k : ℕ) (rest : List (List ℕ)) → ((t : ModelSoFar) → ReadsModel t (n + 1) ls (WholeModel m k rest) → k + length rest ≡ n + 1 + length ls)
+    → After o (λ t. ReadsModel t (n + 1) ls (WholeModel m k rest)) (WholeModel m k rest ≡ WholeModel s.model (n + 1) ls) (λ code. WholeModel m k rest ≡ RefusedModel s.model (n + 1) (bare code)) → k + length rest ≡ n + 1 + length ls
 place_by (ReadsLine t) s n ls m k rest on h = on t h
 place_by (RefusesLine code) s n ls m k rest on h = absurd cc
 place_by Finishes s n ls m k rest on h =
@@ -191,7 +191,7 @@ place_by Finishes s n ls m k rest on h =
     let same : rest ≡ ls = cc in
     ap (λ (i : ℕ). i + length rest) number ∙ ap (λ (z : List (List ℕ)). n + 1 + length z) same
 
-script_place : (ls : List (List ℕ)) (s : ModelSoFar) (n : ℕ) (m : PlantModel) (k : ℕ) (rest : List (List ℕ)) → ReadsModel s n ls (Scripted m k rest) → k + length rest ≡ n + length ls
+script_place : (ls : List (List ℕ)) (s : ModelSoFar) (n : ℕ) (m : PlantModel) (k : ℕ) (rest : List (List ℕ)) → ReadsModel s n ls (WholeModel m k rest) → k + length rest ≡ n + length ls
 script_place [] s n m k rest h = absurd cc
 script_place (l ∷ ls) s n m k rest (o, leads, after) =
     let place = place_by o s n ls m k rest (λ t h. script_place ls t (n + 1) m k rest h) after in
@@ -227,7 +227,7 @@ module _ (input : List ℕ) (own : HasOwnTrace input) where
       ap (λ (z : List ℕ). all_lines (lines_in z)) (own.parts ∙ append_assoc (own.front ++ 10 ∷ []) (own.trace ++ 10 ∷ []) own.text)
       ∙ closed_lines own.front ((own.trace ++ 10 ∷ []) ++ own.text) ∙ ap (λ (ls : List (List ℕ)). document_lines ++ ls) (first_line own.trace own.text own.between.clean)
 
-  module _ (m : PlantModel) (n : ℕ) (ls : List (List ℕ)) (ends : EndsModel (own.front ++ 10 ∷ []) (Scripted m n ls)) where
+  module _ (m : PlantModel) (n : ℕ) (ls : List (List ℕ)) (ends : EndsModel (own.front ++ 10 ∷ []) (WholeModel m n ls)) where
     abbrev k : ℕ
     k = n + length ls + 1
 
@@ -244,10 +244,10 @@ module _ (input : List ℕ) (own : HasOwnTrace input) where
       written = All-tail (λ (l : List ℕ). ShowsLong l → ⊥) own.trace trace_lines (all_right (λ (l : List ℕ). ShowsLong l → ⊥) document_lines (own.trace ∷ trace_lines) (subst (All (λ (l : List ℕ). ShowsLong l → ⊥)) input_lines own.written));
     }
 
-    model_ends : EndsModel input (Scripted m n (ls ++ own.trace ∷ trace_lines))
+    model_ends : EndsModel input (WholeModel m n (ls ++ own.trace ∷ trace_lines))
     model_ends =
-        subst (λ (l : List (List ℕ)). ReadsModel nothing_read 0 l (Scripted m n (ls ++ own.trace ∷ trace_lines))) (sym input_lines)
-        (model_goes_on (own.trace ∷ trace_lines) document_lines nothing_read 0 (Scripted m n ls) tt ends)
+        subst (λ (l : List (List ℕ)). ReadsModel nothing_read 0 l (WholeModel m n (ls ++ own.trace ∷ trace_lines))) (sym input_lines)
+        (model_goes_on (own.trace ∷ trace_lines) document_lines nothing_read 0 (WholeModel m n ls) tt ends)
 
     script_judged : (b : CompiledModel) → IsCompiled b → b.model ≡ m → (r : Document) (reports : List TickReport) (text : List ℕ) → SaysScript b.model [] 0 n ls r → (trace : Trace b (Promising b) r.events reports) → TicksText Proof b trace.ticks text
         → answer how.Ended own.text ≡ printed Proof r reports text → IsAllYes input
@@ -257,12 +257,12 @@ module _ (input : List ℕ) (own : HasOwnTrace input) where
         let made = trace_is_made b (Promising b) r.events reports trace in
         let come = script_comes b ls (start b.model 0) n r made.0 reports says made.1 in
         let j = trace_judged b compiled r.events (start b.model 0) None [] trace.ticks own.text (start_fits b 0 compiled) tt come trace.made (subst (TicksText Proof b trace.ticks) whole.same told) in
-        let short : line_code k own.trace ≡ None = short_code 4096 (n + length ls) (length own.trace) (let most = few in omega (arith, most)) own.between.short in
+        let short : line_code k own.trace ≡ None = short_code MAX_LINE (n + length ls) (length own.trace) (let most = few in omega (arith, most)) own.between.short in
         let reads : ReadsScript m no_events n (ls ++ own.trace ∷ trace_lines) (Traced r.events k trace_lines) = script_goes_on m own.trace own.between.is trace_lines ls no_events n k r read_says whole.complete refl short in
         let judges : JudgesTrace b.model r.events k trace_lines (AllYes (0 + length trace.ticks)) = (j.next, j.comes, j.judges k (omega arith) limits) in (
           0 + length trace.ticks,
           (
-            Scripted m n (ls ++ own.trace ∷ trace_lines),
+            WholeModel m n (ls ++ own.trace ∷ trace_lines),
             model_ends,
             (AcceptedAs b, (compiled, is), (Traced r.events k trace_lines, reads, subst (λ (z : PlantModel). JudgesTrace z r.events k trace_lines (AllYes (0 + length trace.ticks))) is judges)),
           ),
@@ -273,8 +273,8 @@ module _ (input : List ℕ) (own : HasOwnTrace input) where
     acceptance_judged (RefusedFor rf) is h = let never : how.Ended ≡ how.Refused = h.0 in absurd cc
 
   by_end : (end : ModelText) → EndsModel (own.front ++ 10 ∷ []) end → AnswersByEnd (is_json Proof) (SaysRun Proof) end how.Ended own.text → IsAllYes input
-  by_end (Scripted m n ls) ends_so (v, is, h) = acceptance_judged m n ls ends_so v is h
-  by_end (Stopped m line r) ends_so h = let never : how.Ended ≡ how.Refused = h.0 in absurd cc
+  by_end (WholeModel m n ls) ends_so (v, is, h) = acceptance_judged m n ls ends_so v is h
+  by_end (RefusedModel m line r) ends_so h = let never : how.Ended ≡ how.Refused = h.0 in absurd cc
 
   -- the text is that of a run which ended
   by_answer : (a : Answer) → record { text = own.text; status = Ended } ≡ outcome_of a → (end : ModelText) → EndsModel (own.front ++ 10 ∷ []) end → AnswersByEnd (is_json Proof) (SaysRun Proof) end a.end a.text → IsAllYes input

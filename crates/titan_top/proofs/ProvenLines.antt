@@ -41,6 +41,7 @@ use Rattle.check_form.specs.TickLines.{TickLines, More, Whole as WholeTick, next
 use Rattle.run_form.specs.TickProofs.{ProvesEstimate, ProvesReply, ProvesCommand, IsProven, tick_text}
 use Rattle.check_form.specs.declared.tick_lines.TickSoFar.{TickSoFar}
 use Rattle.check_form.specs.declared.tick_lines.TickSoFar.TheVariants.{Nothing, Reported, Explained, Planned}
+use Rattle.check_form.specs.declared.limits.TheConstants.{MAX_TRACE_LINE}
 use Rattle.titan_top.specs.OwnTraces.{ShowsLong}
 use Rattle.titan_top.proofs.FittingLines.{cost_fits, command_fits, run_fits, world_fits}
 use Rattle.titan_top.proofs.ProvenTicks.{with_goal, IsGoalOf, proven_passes, proven_takes, proven_sees}
@@ -86,7 +87,7 @@ module _ (b : CompiledModel) (compiled : IsCompiled b) where
       let here : TraceSoFar = record { state = x; behind = Some events; lines = lines } in
       let text : all_lines (lines_in (trace_line b.model value ++ rest)) ≡ short.line ∷ all_lines (lines_in rest) =
       ap (λ (z : List ℕ). all_lines (lines_in (z ++ rest))) short.is ∙ first_line short.line rest (clean short.line short.clean) in
-      let code : trace_line_code (n + 1) short.line ≡ None = short_code 400000 n (length short.line) within short.short in
+      let code : trace_line_code (n + 1) short.line ≡ None = short_code MAX_TRACE_LINE n (length short.line) within short.short in
       subst (λ (ls : List (List ℕ)). JudgesLines b.model here n ls end) (sym text)
       (subst (λ (c : Option ℕ). JudgesByCode c b.model here (n + 1) short.line (λ u. JudgesLines b.model u (n + 1) (all_lines (lines_in rest)) end) end) (sym code)
       (Follows t, (Some value, (fits, short.is), by), on))

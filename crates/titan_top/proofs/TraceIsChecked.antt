@@ -14,12 +14,13 @@ use Rattle.cca_base.specs.Accepted.{CompiledModel, IsCompiled}
 use Rattle.cca_base.specs.Model.{WellFormed}
 use Rattle.cca_base.specs.PlantModel.{PlantModel}
 use Rattle.cca_base.specs.Trace.{ExecutiveState, GoalOrder, Changes, start}
-use Rattle.plan_checker.specs.Checked.{AsGiven, Takes}
+use Rattle.trace_laws.specs.Events.{AsGiven}
+use Rattle.plan_checker.specs.Checked.{Takes}
 use Rattle.plan_checker.specs.Reasons.{Printed, OnEstimate, AnswersGoal, IsVerdict}
 use Rattle.plan_checker.specs.Worlds.{SomeAreSeen}
 use Rattle.plan_checker.specs.declared.verdict.Verdict.{Verdict}
 use Rattle.plan_checker.specs.declared.verdict.Verdict.TheVariants.{Yes, No}
-use Rattle.plan_checker.proofs.YesShows.{shows_successor, shows_reply, shows_safety}
+use Rattle.plan_checker.proofs.YesShows.{yes_shows}
 use Rattle.trace_text.specs.ProofLines.{world_line, plan_line, route_text}
 use Rattle.trace_text.specs.Reports.{report_line}
 use Rattle.trace_text.specs.TraceLines.{trace_line}
@@ -27,13 +28,13 @@ use Rattle.trace_text.specs.declared.trace_line.TraceLine.{TraceLine}
 use Rattle.trace_text.specs.declared.trace_line.TraceLine.TheVariants.{Tick, World, Plan, Back}
 use Rattle.model_form.specs.Acceptance.{Acceptance, AcceptedAs, RefusedFor, IsAcceptanceOf}
 use Rattle.check_form.specs.CheckEnds.{EndsByScript, EndsByAcceptance, EndsByModel}
-use Rattle.check_form.specs.CheckScript.{ScriptText, Traced, Stopped, ReadsScript, no_events}
+use Rattle.check_form.specs.CheckScript.{ScriptText, Traced, RefusedScript, ReadsScript, no_events}
 use Rattle.check_form.specs.CheckTrace.{TraceSoFar, Follows, Fails, ComesTo, SeesPairs, ByVerdict, ByLines, LeadsBehind, AllYes, FirstNo, FirstRefusal, JudgesByCode, JudgesLines, end_behind, trace_line_code, with_said}
 use Rattle.line_machine.specs.Lines.{joined_lines}
 use Rattle.titan_top.specs.CheckedTrace.{IsCheckedTick, AreChecked, IsCheckedTrace}
 use Rattle.run_form.specs.TickProofs.{tick_text}
 use Rattle.model_form.specs.Answers.{Answer}
-use Rattle.model_form.specs.ModelTexts.{ModelText, EndsModel, Scripted}
+use Rattle.model_form.specs.ModelTexts.{ModelText, EndsModel, WholeModel}
 use Rattle.model_form.specs.ModelTexts as models
 use Rattle.check_form.specs.CheckForm.{judged}
 use Rattle.titan_top.specs.Output.{Outcome, outcome_of, IsOutcomeFor, IsOutcomeOf, IsOutcome}
@@ -138,16 +139,18 @@ module _ (m : PlantModel) (good : WellFormed m) where
   seen_of x Holding answers sees = tt
 
   checked_tick : (x : ExecutiveState) (t : Printed) → IsVerdict m x t Yes → OnEstimate t.report.shown (λ cost s reply. SeesPairs m x) → IsCheckedTick m x t
-  checked_tick x t v sees = record {
-    lines = (v 1).line refl;
-    successor = shows_successor m good x t v (seen_of x t.report.shown ((v 8).answer refl) sees);
-    reply = shows_reply m good x t v;
-    safety = shows_safety m good x t v;
-    world = (v 3).world refl;
-    answer = (v 8).answer refl;
-    back = (v 7).back refl;
-    written = (v 9).written refl;
-  }
+  checked_tick x t v sees =
+      let shows = yes_shows m x x t Yes good refl v (seen_of x t.report.shown ((v 8).answer refl) sees) in
+      record {
+        lines = (v 1).line refl;
+        successor = shows.0;
+        reply = shows.1;
+        safety = shows.2;
+        world = (v 3).world refl;
+        answer = (v 8).answer refl;
+        back = (v 7).back refl;
+        written = (v 9).written refl;
+      }
 
   -- the ticks behind these events, from the next one on
   abbrev AwaitsTicks : ExecutiveState → Option (List Event) → List Printed → Type 0
@@ -254,9 +257,9 @@ module _ (m : PlantModel) (good : WellFormed m) where
 
 -- ---- the whole input
 
-script_checked : (input : List ℕ) (b : CompiledModel) (k : PlantModel) (n : ℕ) (ls : List (List ℕ)) (count : ℕ) (t : ScriptText) → IsCompiled b → b.model ≡ k → EndsModel input (Scripted k n ls) → ReadsScript k no_events n ls t → EndsByScript k t (AllYes count)
+script_checked : (input : List ℕ) (b : CompiledModel) (k : PlantModel) (n : ℕ) (ls : List (List ℕ)) (count : ℕ) (t : ScriptText) → IsCompiled b → b.model ≡ k → EndsModel input (WholeModel k n ls) → ReadsScript k no_events n ls t → EndsByScript k t (AllYes count)
     → IsCheckedTrace input (outcome_of (judged (AllYes count)))
-script_checked input b k n ls count (Stopped line r) compiled is ends reads so = absurd (not_all_refused b.model compiled.accepted.well_formed count k line r so)
+script_checked input b k n ls count (RefusedScript line r) compiled is ends reads so = absurd (not_all_refused b.model compiled.accepted.well_formed count k line r so)
 script_checked input b k n ls count (Traced events line rest) compiled is ends reads so =
     let (x, comes, judges) = subst (λ (m : PlantModel). EndsByScript m (Traced events line rest) (AllYes count)) (sym is) so in
     let unread = comes_unread b.model events (start b.model 0) x comes in
@@ -268,7 +271,7 @@ script_checked input b k n ls count (Traced events line rest) compiled is ends r
       is = compiled;
       script = n;
       lines = ls;
-      model = subst (λ (m : PlantModel). EndsModel input (Scripted m n ls)) (sym is) ends;
+      model = subst (λ (m : PlantModel). EndsModel input (WholeModel m n ls)) (sym is) ends;
       events = events;
       trace = line;
       rest = rest;
@@ -279,13 +282,13 @@ script_checked input b k n ls count (Traced events line rest) compiled is ends r
       outcome = ap (λ (z : ℕ). outcome_of (judged (AllYes z))) number;
     }
 
-acceptance_checked : (input : List ℕ) (v : Acceptance) (k : PlantModel) (n : ℕ) (ls : List (List ℕ)) (count : ℕ) → IsAcceptanceOf k v → EndsModel input (Scripted k n ls) → EndsByAcceptance v k n ls (AllYes count) → IsCheckedTrace input (outcome_of (judged (AllYes count)))
+acceptance_checked : (input : List ℕ) (v : Acceptance) (k : PlantModel) (n : ℕ) (ls : List (List ℕ)) (count : ℕ) → IsAcceptanceOf k v → EndsModel input (WholeModel k n ls) → EndsByAcceptance v k n ls (AllYes count) → IsCheckedTrace input (outcome_of (judged (AllYes count)))
 acceptance_checked input (AcceptedAs b) k n ls count is ends (t, reads, so) = script_checked input b k n ls count t is.0 is.1 ends reads so
 acceptance_checked input (RefusedFor r) k n ls count is ends h = let never : AllYes count ≡ FirstRefusal k n r = h in absurd cc
 
 model_checked : (input : List ℕ) (text : ModelText) (count : ℕ) → EndsModel input text → EndsByModel text (AllYes count) → IsCheckedTrace input (outcome_of (judged (AllYes count)))
-model_checked input (Scripted k n ls) count ends (v, is, h) = acceptance_checked input v k n ls count is ends h
-model_checked input (models.Stopped k line r) count ends h = let never : AllYes count ≡ FirstRefusal k line r = h in absurd cc
+model_checked input (WholeModel k n ls) count ends (v, is, h) = acceptance_checked input v k n ls count is ends h
+model_checked input (models.RefusedModel k line r) count ends h = let never : AllYes count ≡ FirstRefusal k line r = h in absurd cc
 
 -- a check that ends with a Yes is of a checked trace
 pub ended_is_checked : (input : List ℕ) (o : Outcome) → IsOutcomeFor Check input o → o.status ≡ Ended → IsCheckedTrace input o

@@ -4,12 +4,12 @@ use Rattle.cca_base.specs.declared.events.Event.{Event}
 use Rattle.cca_base.specs.Accepted.{CompiledModel, IsCompiled}
 use Rattle.cca_base.specs.PlantModel.{PlantModel}
 use Rattle.cca_base.specs.Trace.{ExecutiveState, Changes, start}
-use Rattle.plan_checker.specs.Checked.{AsGiven, Takes, ShowsSuccessor, ShowsReply, ShowsSafety}
+use Rattle.plan_checker.specs.Checked.{Takes, ShowsSuccessor, ShowsReply, ShowsSafety}
 use Rattle.plan_checker.specs.Reasons.{Printed, HasItsLines, HasItsWorld, LeadsBack, AnswersGoal, WritesRoute}
-use Rattle.trace_laws.specs.Events.{IsTick}
+use Rattle.trace_laws.specs.Events.{AsGiven, IsTick}
 use Rattle.check_form.specs.CheckScript.{Traced, ReadsScript, no_events}
 use Rattle.line_machine.specs.Lines.{joined_lines}
-use Rattle.model_form.specs.ModelTexts.{EndsModel, Scripted}
+use Rattle.model_form.specs.ModelTexts.{EndsModel, WholeModel}
 use Rattle.titan_top.specs.Output.{Outcome}
 use Rattle.run_form.specs.TickProofs.{tick_text}
 use Rattle.check_form.specs.Verdicts.{checked_line}
@@ -42,7 +42,7 @@ pub record IsCheckedTrace (input : List ℕ) (o : Outcome) : Type 0 where
   pub is : IsCompiled compiled
   pub script : ℕ
   pub lines : List (List ℕ)
-  pub model : EndsModel input (Scripted compiled.model script lines)
+  pub model : EndsModel input (WholeModel compiled.model script lines)
   pub events : List Event
   pub trace : ℕ
   pub rest : List (List ℕ)

@@ -1,8 +1,9 @@
 //! The one call that the program makes.
 
-ghost use Rattle.std.specs.Prelude.{◌≡◌, ◌⊎◌, ℕ, List, IfSome, IfErr, IsErrOf, Some, length};
+ghost use Rattle.std.specs.Prelude.{◌≡◌, ◌⊎◌, ℕ, List, IfSome, IsErrOf, Some, length};
 ghost use Rattle.std.specs.Io.KnownBytes.{prepend_known, IsAtEnd};
 ghost use Rattle.titan_wire.specs.Wire.{Rose, HasRoom};
+ghost use Rattle.line_machine.specs.Faults.{AnswersFaults};
 ghost use Rattle.trial_maker.specs.Documents.{document};
 ghost use Rattle.migrate_form.specs.MigrateLaws.{IsMigrated};
 ghost use Rattle.run_form.specs.Headline.{IsTraceOf};
@@ -39,15 +40,8 @@ fn drive_form<S, K: Sink, I: Intake<S, K>>(
         (I.calls source.old) (I.calls source.new) result }
     ensures not_asked { (seed : ℕ) → form ≡ Form.Trial seed → source.new ≡ source.old }
     ensures not_read { (seed : ℕ) → form ≡ Form.Trial seed → IsErrOf result Cut.ReadFault → ⊥ }
-    ensures read { IsErrOf result Cut.ReadFault → Rose (I.faults source.old) (I.faults source.new) }
-    ensures write { IsErrOf result Cut.WriteFault → Rose (K.faults sink.old) (K.faults sink.new) }
-    ensures quiet_read { ¬ (IsErrOf result Cut.ReadFault) →
-        I.faults source.new ≡ I.faults source.old }
-    ensures quiet_write { ¬ (IsErrOf result Cut.WriteFault) →
-        K.faults sink.new ≡ K.faults sink.old }
-    ensures complete { ¬ (Rose (I.faults source.old) (I.faults source.new)) →
-        ¬ (Rose (K.faults sink.old) (K.faults sink.new)) →
-        IfErr result (λ c. c ≡ Cut.Memory) }
+    ensures faults { AnswersFaults (I.faults source.old) (I.faults source.new) (K.faults sink.old)
+        (K.faults sink.new) result }
 {
     match form {
         Form::Run(notation) => {

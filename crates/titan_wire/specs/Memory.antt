@@ -1,5 +1,6 @@
--- What ends over memory show: their bytes, calls and faults, which calls fail, and their memory.
+-- What ends over memory show: their bytes, their calls, and their memory.
 use Rattle.std.specs.Prelude.{ℕ, List, Option, Some, drop, vec_capacity}
+use Rattle.titan_wire.specs.declared.memory.Calls.{Calls}
 use Rattle.titan_wire.specs.declared.memory.MemorySource.{MemorySource}
 use Rattle.titan_wire.specs.declared.memory.MemorySink.{MemorySink}
 
@@ -7,33 +8,17 @@ use Rattle.titan_wire.specs.declared.memory.MemorySink.{MemorySink}
 abbrev pub source_left : MemorySource → Option (List ℕ)
 source_left source = Some (drop source.at source.bytes.items)
 
--- how often the source has failed
-abbrev pub source_faults : MemorySource → ℕ
-source_faults source = source.faults
-
--- how many calls the source has had
-abbrev pub source_calls : MemorySource → ℕ
+-- the calls that the source has had
+abbrev pub source_calls : MemorySource → Calls
 source_calls source = source.calls
-
--- the numbers, from 1, of the source's calls that fail
-abbrev pub source_failing : MemorySource → List ℕ
-source_failing source = source.failing.items
 
 -- the bytes that the sink took
 abbrev pub sink_written : MemorySink → Option (List ℕ)
 sink_written sink = Some sink.bytes.items
 
--- how often the sink has failed
-abbrev pub sink_faults : MemorySink → ℕ
-sink_faults sink = sink.faults
-
--- how many calls the sink has had
-abbrev pub sink_calls : MemorySink → ℕ
+-- the calls that the sink has had
+abbrev pub sink_calls : MemorySink → Calls
 sink_calls sink = sink.calls
-
--- the numbers, from 1, of the sink's calls that fail
-abbrev pub sink_failing : MemorySink → List ℕ
-sink_failing sink = sink.failing.items
 
 -- how many bytes the sink takes in all
 abbrev pub sink_capacity : MemorySink → ℕ

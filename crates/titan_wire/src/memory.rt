@@ -1,6 +1,6 @@
 //! Sources and sinks in memory.
 
-ghost use Rattle.std.specs.Prelude.{◌≡◌, ◌+◌, ◌-◌, ◌^◌, ◌<◌, ◌≤◌, ◌↔◌, ◌⊎◌, min, [], ◌++◌, length, take, Some, None, vec_len, vec_capacity, IsErr, IfOk, OnErr, IfSome, Contains};
+ghost use Rattle.std.specs.Prelude.{◌≡◌, ◌+◌, ◌-◌, ◌^◌, ◌<◌, ◌≤◌, ◌↔◌, ◌⊎◌, min, [], ◌++◌, length, take, Some, None, vec_len, vec_capacity, IsErr, IsTrue, IfOk, OnErr, IfSome, Contains};
 ghost use Rattle.std.specs.Io.KnownBytes.{prepend_known, append_known, IsAtEnd};
 ghost use Rattle.titan_wire.specs.Wire.{HasCause, counted, faults_after};
 
@@ -18,7 +18,7 @@ pub(crate) fn copy_front(bytes: &[u8], buf: &mut [u8]) -> usize
 }
 
 /// Appends the piece to a vector that has room for it and does not grow.
-pub(crate) fn append_within(bytes: &mut Vec<u8>, piece: &[u8])
+pub fn append_within(bytes: &mut Vec<u8>, piece: &[u8])
     requires { vec_len bytes.old + length piece.now ≤ vec_capacity bytes.old }
     ensures items { bytes.new.items ≡ bytes.old.items ++ piece.now }
     ensures memory { vec_capacity bytes.new ≡ vec_capacity bytes.old }
@@ -28,47 +28,86 @@ pub(crate) fn append_within(bytes: &mut Vec<u8>, piece: &[u8])
     }
 }
 
+/// The calls that a source or a sink over memory has had: how many, which fail, and how many did.
+#[derive(Debug, Drop)]
+pub struct Calls {
+    made: u64,
+    failing: Vec<u64>,
+    faults: u64,
+    ghost fits: { faults < 2 ^ 64 },
+}
+
+impl Calls {
+    /// No call yet. `failing` has the numbers, from 1, of the calls that fail.
+    fn none(failing: Vec<u64>) -> Calls
+        ensures made { result.made ≡ 0 }
+        ensures failing { result.failing ≡ failing }
+        ensures faults { result.faults ≡ 0 }
+    {
+        Calls {
+            made: 0,
+            failing,
+            faults: 0,
+        }
+    }
+
+    /// Counts a call, and answers whether its number is listed.
+    fn count(&mut self) -> bool
+        ensures made { self.new.made ≡ counted self.old.made }
+        ensures listed { IsTrue result ↔ Contains self.old.failing.items self.new.made }
+        ensures failing { self.new.failing ≡ self.old.failing }
+        ensures faults { self.new.faults ≡ self.old.faults }
+    {
+        self.made = self.made.saturating_add(1);
+        self.failing.contains(&self.made)
+    }
+
+    /// Counts a fault.
+    fn fail(&mut self)
+        ensures made { self.new.made ≡ self.old.made }
+        ensures failing { self.new.failing ≡ self.old.failing }
+        ensures faults { self.new.faults ≡ counted self.old.faults }
+    {
+        self.faults = self.faults.saturating_add(1);
+    }
+}
+
 /// A source over memory. It fails at the calls whose numbers are listed, and else moves as much as
 /// fits.
 #[derive(Debug, Drop)]
 pub struct MemorySource {
     bytes: Vec<u8>,
     at: usize,
-    calls: u64,
-    failing: Vec<u64>,
-    faults: u64,
-    ghost fits: { faults < 2 ^ 64 },
+    calls: Calls,
     ghost in_range: { at ≤ vec_len bytes },
 }
 
 impl MemorySource {
-    ghost use Rattle.titan_wire.specs.Memory.{source_calls, source_failing};
+    ghost use Rattle.titan_wire.specs.Memory.{source_calls};
 
     /// `failing` has the numbers, from 1, of the calls that fail.
     pub fn new(bytes: Vec<u8>, failing: Vec<u64>) -> MemorySource
         ensures left { ⟦<MemorySource as Source>⟧.left result ≡ Some bytes.items }
         ensures faults { ⟦<MemorySource as Source>⟧.faults result ≡ 0 }
-        ensures calls { source_calls result ≡ 0 }
-        ensures failing { source_failing result ≡ failing.items }
+        ensures calls { (source_calls result).made ≡ 0 }
+        ensures failing { (source_calls result).failing.items ≡ failing.items }
     {
         MemorySource {
             bytes,
             at: 0,
-            calls: 0,
-            failing,
-            faults: 0,
+            calls: Calls::none(failing),
         }
     }
 }
 
 impl Source for MemorySource {
-    ghost use Rattle.titan_wire.specs.Memory.{source_left, source_faults, source_calls, source_failing};
+    ghost use Rattle.titan_wire.specs.Memory.{source_left, source_calls};
 
     ghost left = { source_left };
 
-    ghost faults = { source_faults };
+    ghost faults = { λ s. (source_calls s).faults };
 
-    ghost fits = { λ s. s.fits };
+    ghost fits = { λ s. s.calls.fits };
 
     #[tactic(auto, using(crate::proofs::Bytes::moved_front))]
     fn take(&mut self, buf: &mut [u8]) -> Result<usize, Failed>
@@ -79,19 +118,21 @@ impl Source for MemorySource {
         ensures end { IfOk result (λ n. n ≡ 0 → IsAtEnd (source_left self.old)) }
         ensures empty { IfOk result (λ n. source_left self.old ≡ Some [] → n ≡ 0) }
         ensures err { OnErr result (source_left self.new ≡ source_left self.old) }
-        ensures cause { HasCause (source_faults self.old) (source_faults self.new) result }
+        ensures cause { HasCause
+            (source_calls self.old).faults (source_calls self.new).faults result }
 
         // A call fails exactly where its number is listed, and else moves as much as fits.
-        ensures calls { source_calls self.new ≡ counted (source_calls self.old) }
-        ensures failing { source_failing self.new ≡ source_failing self.old }
-        ensures fails { IsErr result ↔ Contains (source_failing self.old) (source_calls self.new) }
-        ensures faults { source_faults self.new ≡ faults_after (source_faults self.old) result }
+        ensures calls { (source_calls self.new).made ≡ counted (source_calls self.old).made }
+        ensures failing { (source_calls self.new).failing ≡ (source_calls self.old).failing }
+        ensures fails { IsErr result
+            ↔ Contains (source_calls self.old).failing.items (source_calls self.new).made }
+        ensures faults { (source_calls self.new).faults
+            ≡ faults_after (source_calls self.old).faults result }
         ensures whole { IfSome (source_left self.old) (λ bytes. IfOk result (λ n.
             n ≡ min (length bytes) (length buf.old))) }
     {
-        self.calls = self.calls.saturating_add(1);
-        if self.failing.contains(&self.calls) {
-            self.faults = self.faults.saturating_add(1);
+        if self.calls.count() {
+            self.calls.fail();
             return Err(Failed);
         }
         let count = copy_front(&self.bytes[self.at..], buf);
@@ -106,16 +147,13 @@ impl Source for MemorySource {
 pub struct MemorySink {
     bytes: Vec<u8>,
     capacity: usize,
-    calls: u64,
-    failing: Vec<u64>,
-    faults: u64,
-    ghost fits: { faults < 2 ^ 64 },
+    calls: Calls,
     ghost room: { capacity ≤ vec_capacity bytes },
     ghost within: { vec_len bytes ≤ capacity },
 }
 
 impl MemorySink {
-    ghost use Rattle.titan_wire.specs.Memory.{sink_calls, sink_failing, sink_capacity, sink_memory};
+    ghost use Rattle.titan_wire.specs.Memory.{sink_calls, sink_capacity, sink_memory};
 
     /// Takes the memory for `capacity` bytes. `failing` has the numbers, from 1, of the calls that
     /// fail.
@@ -123,17 +161,15 @@ impl MemorySink {
         ensures written { IfOk result (λ s. ⟦<MemorySink as Sink>⟧.written s ≡ Some []) }
         ensures space { IfOk result (λ s. ⟦<MemorySink as Sink>⟧.space s ≡ None) }
         ensures faults { IfOk result (λ s. ⟦<MemorySink as Sink>⟧.faults s ≡ 0) }
-        ensures calls { IfOk result (λ s. sink_calls s ≡ 0) }
-        ensures failing { IfOk result (λ s. sink_failing s ≡ failing.items) }
+        ensures calls { IfOk result (λ s. (sink_calls s).made ≡ 0) }
+        ensures failing { IfOk result (λ s. (sink_calls s).failing.items ≡ failing.items) }
         ensures capacity { IfOk result (λ s. sink_capacity s ≡ capacity) }
         ensures memory { IfOk result (λ s. sink_memory s ≡ capacity) }
     {
         Ok(MemorySink {
             bytes: Vec::with_capacity(alloc, capacity)?,
             capacity,
-            calls: 0,
-            failing,
-            faults: 0,
+            calls: Calls::none(failing),
         })
     }
 
@@ -146,15 +182,15 @@ impl MemorySink {
 }
 
 impl Sink for MemorySink {
-    ghost use Rattle.titan_wire.specs.Memory.{sink_written, sink_faults, sink_calls, sink_failing, sink_capacity, sink_memory};
+    ghost use Rattle.titan_wire.specs.Memory.{sink_written, sink_calls, sink_capacity, sink_memory};
 
     ghost written = { sink_written };
 
     ghost space = { λ _. None };
 
-    ghost faults = { sink_faults };
+    ghost faults = { λ s. (sink_calls s).faults };
 
-    ghost fits = { λ s. s.fits };
+    ghost fits = { λ s. s.calls.fits };
 
     fn put(&mut self, piece: &[u8]) -> Result<usize, Failed>
         requires { 0 < length piece.now }
@@ -162,25 +198,25 @@ impl Sink for MemorySink {
         ensures sent { IfOk result (λ n.
             sink_written self.new ≡ append_known (sink_written self.old) (take n piece.now)) }
         ensures err { OnErr result (sink_written self.new ≡ sink_written self.old) }
-        ensures cause { HasCause (sink_faults self.old) (sink_faults self.new) result }
+        ensures cause { HasCause (sink_calls self.old).faults (sink_calls self.new).faults result }
 
         // A call fails exactly where its number is listed or it would pass the capacity, and else
         // sends the whole piece.
-        ensures calls { sink_calls self.new ≡ counted (sink_calls self.old) }
-        ensures failing { sink_failing self.new ≡ sink_failing self.old }
+        ensures calls { (sink_calls self.new).made ≡ counted (sink_calls self.old).made }
+        ensures failing { (sink_calls self.new).failing ≡ (sink_calls self.old).failing }
         ensures fails { IfSome (sink_written self.old) (λ out.
-            IsErr result ↔ (Contains (sink_failing self.old) (sink_calls self.new)
+            IsErr result ↔ (Contains (sink_calls self.old).failing.items (sink_calls self.new).made
             ⊎ (sink_capacity self.old < length out + length piece.now))) }
-        ensures faults { sink_faults self.new ≡ faults_after (sink_faults self.old) result }
+        ensures faults { (sink_calls self.new).faults
+            ≡ faults_after (sink_calls self.old).faults result }
         ensures whole { IfOk result (λ n. n ≡ length piece.now) }
 
         // It makes no growth.
         ensures capacity { sink_capacity self.new ≡ sink_capacity self.old }
         ensures memory { sink_memory self.new ≡ sink_memory self.old }
     {
-        self.calls = self.calls.saturating_add(1);
-        if self.failing.contains(&self.calls) || piece.len() > self.capacity - self.bytes.len() {
-            self.faults = self.faults.saturating_add(1);
+        if self.calls.count() || piece.len() > self.capacity - self.bytes.len() {
+            self.calls.fail();
             return Err(Failed);
         }
         append_within(&mut self.bytes, piece);

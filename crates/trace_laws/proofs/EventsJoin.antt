@@ -184,29 +184,28 @@ module _ (b : CompiledModel) (answers : ReplyRule) where
   abbrev Goes : ExecutiveState → Event → List Event → List TickReport → Type 0
   Goes x e events reports = (since : List Event) → IsMadeOf x since (e ∷ events) reports
 
+  -- the ticks of the other events are those of all, where an event that is no tick comes first
+  quiet : {x z : ExecutiveState} {since : List Event} {events : List Event} {reports others : List TickReport} (e : Event) → IsMadeOf z (since ++ e ∷ []) events others → reports ≡ others
+      → ((ts : List TickRecord) → Ticks b answers z (since ++ e ∷ []) events ts → Ticks b answers x since (e ∷ events) ts) → IsMadeOf x since (e ∷ events) reports
+  quiet e rest split first = record { ticks = rest.ticks; made = first rest.ticks rest.made; reported = split ∙ rest.reported }
+
   ticks_of : (x : ExecutiveState) (since events : List Event) (y : ExecutiveState) (reports : List TickReport) → Makes b answers x events y reports → IsMadeOf x since events reports
   ticks_of x since [] y reports made = record { ticks = []; made = refl; reported = made.1 }
   ticks_of x since (event.Tick ∷ events) y reports (z, None, others, act, made, split) = absurd act
   ticks_of x since (event.Tick ∷ events) y reports (z, Some report, others, act, made, split) =
       let rest = ticks_of z [] events y others made in
       record { ticks = record { since = since; before = x; report = report } ∷ rest.ticks; made = (refl, refl, act.1, z, act.2, rest.made); reported = split ∙ ap (λ l. report ∷ l) rest.reported }
-  ticks_of x since (event.Goal pairs ∷ events) y reports (z, None, others, act, made, split) =
-      let rest = ticks_of z (since ++ event.Goal pairs ∷ []) events y others made in record { ticks = rest.ticks; made = (z, act, rest.made); reported = split ∙ rest.reported }
+  ticks_of x since (event.Goal pairs ∷ events) y reports (z, None, others, act, made, split) = quiet (event.Goal pairs) (ticks_of z (since ++ event.Goal pairs ∷ []) events y others made) split (λ ts t. (z, act, t))
   ticks_of x since (event.Goal pairs ∷ events) y reports (z, Some report, others, act, made, split) = absurd act.0
-  ticks_of x since (event.Clear ∷ events) y reports (z, None, others, act, made, split) =
-      let rest = ticks_of z (since ++ event.Clear ∷ []) events y others made in record { ticks = rest.ticks; made = (z, act, rest.made); reported = split ∙ rest.reported }
+  ticks_of x since (event.Clear ∷ events) y reports (z, None, others, act, made, split) = quiet event.Clear (ticks_of z (since ++ event.Clear ∷ []) events y others made) split (λ ts t. (z, act, t))
   ticks_of x since (event.Clear ∷ events) y reports (z, Some report, others, act, made, split) = absurd act.0
-  ticks_of x since (event.Observe pairs ∷ events) y reports (z, None, others, act, made, split) =
-      let rest = ticks_of z (since ++ event.Observe pairs ∷ []) events y others made in record { ticks = rest.ticks; made = (z, act, rest.made); reported = split ∙ rest.reported }
+  ticks_of x since (event.Observe pairs ∷ events) y reports (z, None, others, act, made, split) = quiet (event.Observe pairs) (ticks_of z (since ++ event.Observe pairs ∷ []) events y others made) split (λ ts t. (z, act, t))
   ticks_of x since (event.Observe pairs ∷ events) y reports (z, Some report, others, act, made, split) = absurd act.0
-  ticks_of x since (event.Fault p ∷ events) y reports (z, None, others, act, made, split) =
-      let rest = ticks_of z (since ++ event.Fault p ∷ []) events y others made in record { ticks = rest.ticks; made = (z, act, rest.made); reported = split ∙ rest.reported }
+  ticks_of x since (event.Fault p ∷ events) y reports (z, None, others, act, made, split) = quiet (event.Fault p) (ticks_of z (since ++ event.Fault p ∷ []) events y others made) split (λ ts t. (z, act, t))
   ticks_of x since (event.Fault p ∷ events) y reports (z, Some report, others, act, made, split) = absurd act.0
-  ticks_of x since (event.Mirror v ∷ events) y reports (z, None, others, act, made, split) =
-      let rest = ticks_of z (since ++ event.Mirror v ∷ []) events y others made in record { ticks = rest.ticks; made = (z, act, rest.made); reported = split ∙ rest.reported }
+  ticks_of x since (event.Mirror v ∷ events) y reports (z, None, others, act, made, split) = quiet (event.Mirror v) (ticks_of z (since ++ event.Mirror v ∷ []) events y others made) split (λ ts t. (z, act, t))
   ticks_of x since (event.Mirror v ∷ events) y reports (z, Some report, others, act, made, split) = absurd act.0
-  ticks_of x since (event.Reset ∷ events) y reports (z, None, others, act, made, split) =
-      let rest = ticks_of z (since ++ event.Reset ∷ []) events y others made in record { ticks = rest.ticks; made = (z, act, rest.made); reported = split ∙ rest.reported }
+  ticks_of x since (event.Reset ∷ events) y reports (z, None, others, act, made, split) = quiet event.Reset (ticks_of z (since ++ event.Reset ∷ []) events y others made) split (λ ts t. (z, act, t))
   ticks_of x since (event.Reset ∷ events) y reports (z, Some report, others, act, made, split) = absurd act.0
 
   pub made_is_trace : (events : List Event) (y : ExecutiveState) (reports : List TickReport) → Makes b answers (start b.model 0) events y reports → Trace b answers events reports
@@ -216,23 +215,21 @@ module _ (b : CompiledModel) (answers : ReplyRule) where
   abbrev AreMade : ExecutiveState → List Event → List TickReport → Type 0
   AreMade x events reports = (y : ExecutiveState) × Makes b answers x events y reports
 
+  -- an event that is no tick, and then the others
+  then_made : (x : ExecutiveState) (e : Event) (z : ExecutiveState) (events : List Event) (reports : List TickReport) → Acts b answers x e z None → AreMade z events reports → AreMade x (e ∷ events) reports
+  then_made x e z events reports act more = (more.0, (z, None, reports, act, more.1, refl))
+
   made_of : (x : ExecutiveState) (since events : List Event) (ts : List TickRecord) → Ticks b answers x since events ts → AreMade x events (map (λ t. t.report) ts)
   made_of x since [] ts h = (x, (refl, ap (map (λ t. t.report)) h))
   made_of x since (event.Tick ∷ events) [] h = absurd h
   made_of x since (event.Tick ∷ events) (t ∷ ts) (a, c, n, z, shows, rest) =
       let more = made_of z [] events ts rest in (more.0, (z, Some t.report, map (λ t. t.report) ts, (tt, n, shows), more.1, refl))
-  made_of x since (event.Goal pairs ∷ events) ts (z, change, rest) =
-      let more = made_of z (since ++ event.Goal pairs ∷ []) events ts rest in (more.0, (z, None, map (λ t. t.report) ts, change, more.1, refl))
-  made_of x since (event.Clear ∷ events) ts (z, change, rest) =
-      let more = made_of z (since ++ event.Clear ∷ []) events ts rest in (more.0, (z, None, map (λ t. t.report) ts, change, more.1, refl))
-  made_of x since (event.Observe pairs ∷ events) ts (z, change, rest) =
-      let more = made_of z (since ++ event.Observe pairs ∷ []) events ts rest in (more.0, (z, None, map (λ t. t.report) ts, change, more.1, refl))
-  made_of x since (event.Fault p ∷ events) ts (z, change, rest) =
-      let more = made_of z (since ++ event.Fault p ∷ []) events ts rest in (more.0, (z, None, map (λ t. t.report) ts, change, more.1, refl))
-  made_of x since (event.Mirror v ∷ events) ts (z, change, rest) =
-      let more = made_of z (since ++ event.Mirror v ∷ []) events ts rest in (more.0, (z, None, map (λ t. t.report) ts, change, more.1, refl))
-  made_of x since (event.Reset ∷ events) ts (z, change, rest) =
-      let more = made_of z (since ++ event.Reset ∷ []) events ts rest in (more.0, (z, None, map (λ t. t.report) ts, change, more.1, refl))
+  made_of x since (event.Goal pairs ∷ events) ts (z, change, rest) = then_made x (event.Goal pairs) z events (map (λ t. t.report) ts) change (made_of z (since ++ event.Goal pairs ∷ []) events ts rest)
+  made_of x since (event.Clear ∷ events) ts (z, change, rest) = then_made x event.Clear z events (map (λ t. t.report) ts) change (made_of z (since ++ event.Clear ∷ []) events ts rest)
+  made_of x since (event.Observe pairs ∷ events) ts (z, change, rest) = then_made x (event.Observe pairs) z events (map (λ t. t.report) ts) change (made_of z (since ++ event.Observe pairs ∷ []) events ts rest)
+  made_of x since (event.Fault p ∷ events) ts (z, change, rest) = then_made x (event.Fault p) z events (map (λ t. t.report) ts) change (made_of z (since ++ event.Fault p ∷ []) events ts rest)
+  made_of x since (event.Mirror v ∷ events) ts (z, change, rest) = then_made x (event.Mirror v) z events (map (λ t. t.report) ts) change (made_of z (since ++ event.Mirror v ∷ []) events ts rest)
+  made_of x since (event.Reset ∷ events) ts (z, change, rest) = then_made x event.Reset z events (map (λ t. t.report) ts) change (made_of z (since ++ event.Reset ∷ []) events ts rest)
 
   pub trace_is_made : (events : List Event) (reports : List TickReport) → Trace b answers events reports → AreMade (start b.model 0) events reports
   trace_is_made events reports t = subst (AreMade (start b.model 0) events) (sym t.reported) (made_of (start b.model 0) [] events t.ticks t.made)

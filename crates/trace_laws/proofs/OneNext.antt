@@ -1,6 +1,5 @@
 -- Where an event leads, and what is reported of it, is one.
-use Rattle.std.proofs.Common.{◌≡◌, ◌+◌, ℕ, Bool, false, List, [], length, Option, Some, None, Contains, IsTrue, refl, sym, subst, ◌∙◌}
-use Rattle.std.proofs.lemmas.Bool.{false≢true}
+use Rattle.std.proofs.Common.{◌≡◌, ℕ, List, length, Option, Some, None, Contains, refl, sym, subst, ◌∙◌}
 use Rattle.cca_base.specs.declared.cube.Pair.{Pair}
 use Rattle.cca_base.specs.declared.events.Event.{Event}
 use Rattle.cca_base.specs.declared.events.Event.TheVariants as event
@@ -16,17 +15,10 @@ use Rattle.cca_base.specs.Estimates as estimates
 use Rattle.cca_base.specs.Trace.{ExecutiveState, IsReply, Changes, command_of, TickShows}
 use Rattle.cca_base.proofs.NominalLaws.{one_nominal}
 use Rattle.cca_laws.proofs.OneOrder.{one_union, none_twice, one_sorted}
-use Rattle.cca_laws.proofs.OneTrace.{one_seen}
+use Rattle.cca_laws.proofs.OneTrace.{one_seen, after_tick, both_going}
 use Rattle.cca_laws.proofs.EstimateLaws.{one_estimate, never_both}
 use Rattle.cca_laws.proofs.OnePick.{one_reply}
 use Rattle.trace_laws.specs.Events.{Acts}
-
--- the state after a tick with an estimate
-abbrev after_tick : ExecutiveState → List ℕ → Reply → List ℕ → ExecutiveState
-after_tick x state reply plant = record x { estimate = state; command = command_of reply; plant = plant; pending = []; ticks = x.ticks + 1 }
-
-both_going : {X : Type 0} (b : Bool) → b ≡ false → IsTrue b → X
-both_going b h k = absurd (false≢true (sym h ∙ k))
 
 module _ (b : CompiledModel) (compiled : IsCompiled b) where
   reply_at : (s : List ℕ) (goal : Option (List Pair)) (r t : Reply) → IsReply (Promising b) s goal r → IsReply (Promising b) s goal t → r ≡ t

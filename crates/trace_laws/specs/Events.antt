@@ -21,6 +21,10 @@ IsTick (event.Fault p) = ⊥
 IsTick (event.Mirror v) = ⊥
 IsTick event.Reset = ⊥
 
+-- a goal is kept as it is given
+abbrev pub AsGiven : List Pair → List Pair → Type 0
+AsGiven pairs goal = goal ≡ pairs
+
 -- one event leads from x to y; a report comes exactly for a tick
 abbrev pub Acts : CompiledModel → ReplyRule → ExecutiveState → Event → ExecutiveState → Option TickReport → Type 0
 Acts b answers x e y None = Changes b.model (IsSorted b.order) x e y

@@ -11,24 +11,24 @@ use Rattle.cca_base.specs.PlantModel.{PlantModel}
 use Rattle.cca_base.specs.Model.{WellFormed}
 use Rattle.cca_base.specs.Names.{is_word_byte}
 use Rattle.trace_text.proofs.ModelNames.{IsName, HasNames, word_bytes, model_names}
-use Rattle.trace_text.specs.Names.{name_at, pair_text_at, component_name, mode_name, source_text_at, move_text, move_text_at}
+use Rattle.trace_text.specs.Names.{name_at, pair_text_at, component_name, mode_name, mode_text_at, move_text, move_text_at}
 use Rattle.trace_text.specs.Refusals.{detail_text}
 use Rattle.trace_text.specs.Json.{HasAsciiNames}
 
 -- ---- ASCII
 
-pub ascii_none : IsAscii []
+ascii_none : IsAscii []
 ascii_none i = omega arith
 
-pub ascii_more : (x : ℕ) (xs : List ℕ) → x < 128 → IsAscii xs → IsAscii (x ∷ xs)
+ascii_more : (x : ℕ) (xs : List ℕ) → x < 128 → IsAscii xs → IsAscii (x ∷ xs)
 ascii_more x xs h k zero = h
 ascii_more x xs h k (suc i) = k i
 
-pub ascii_both : (xs ys : List ℕ) → IsAscii xs → IsAscii ys → IsAscii (xs ++ ys)
+ascii_both : (xs ys : List ℕ) → IsAscii xs → IsAscii ys → IsAscii (xs ++ ys)
 ascii_both [] ys h k = k
 ascii_both (x ∷ xs) ys h k = ascii_more x (xs ++ ys) (h 0) (ascii_both xs ys (λ i. h (suc i)) k)
 
-pub ascii_tail : (xs : List ℕ) → IsAscii xs → IsAscii (drop 1 xs)
+ascii_tail : (xs : List ℕ) → IsAscii xs → IsAscii (drop 1 xs)
 ascii_tail [] h = h
 ascii_tail (x ∷ xs) h = λ i. h (suc i)
 
@@ -62,34 +62,31 @@ command_ascii m h k = at_ascii m.commands h.command_names.each k
 pub ascii_components : (m : PlantModel) → WellFormed m → All HasAsciiNames m.components
 ascii_components m h = All-weaker HasNames HasAsciiNames (λ c names. record { name = name_ascii c.name names.0; modes = at_ascii c.modes names.1 }) m.components (model_names m h)
 
-pub component_ascii : (cs : List Component) → All HasAsciiNames cs → (c : ℕ) → IsAscii (component_name cs c)
+component_ascii : (cs : List Component) → All HasAsciiNames cs → (c : ℕ) → IsAscii (component_name cs c)
 component_ascii [] h c = ascii_none
 component_ascii (x ∷ cs) h zero = (All-head HasAsciiNames x cs h).name
 component_ascii (x ∷ cs) h (suc c) = component_ascii cs (All-tail HasAsciiNames x cs h) c
 
-pub mode_ascii : (cs : List Component) → All HasAsciiNames cs → (c mode : ℕ) → IsAscii (mode_name cs c mode)
+mode_ascii : (cs : List Component) → All HasAsciiNames cs → (c mode : ℕ) → IsAscii (mode_name cs c mode)
 mode_ascii [] h c mode = ascii_none
 mode_ascii (x ∷ cs) h zero mode = (All-head HasAsciiNames x cs h).modes mode
 mode_ascii (x ∷ cs) h (suc c) mode = mode_ascii cs (All-tail HasAsciiNames x cs h) c mode
 
 -- ---- details
 
-pair_ascii : (cs : List Component) → All HasAsciiNames cs → (c mode : ℕ) → IsAscii (pair_text_at cs c mode)
-pair_ascii [] h c mode = ascii_none
-pair_ascii (x ∷ cs) h zero mode =
-    let names = All-head HasAsciiNames x cs h in ascii_both x.name (61 ∷ name_at x.modes mode) names.name (ascii_more 61 (name_at x.modes mode) (omega arith) (names.modes mode))
-pair_ascii (x ∷ cs) h (suc c) mode = pair_ascii cs (All-tail HasAsciiNames x cs h) c mode
+part_ascii : (between : ℕ) → between < 128 → (cs : List Component) → All HasAsciiNames cs → (c mode : ℕ) → IsAscii (mode_text_at between cs c mode)
+part_ascii between small [] h c mode = ascii_none
+part_ascii between small (x ∷ cs) h zero mode =
+    let names = All-head HasAsciiNames x cs h in ascii_both x.name (between ∷ name_at x.modes mode) names.name (ascii_more between (name_at x.modes mode) small (names.modes mode))
+part_ascii between small (x ∷ cs) h (suc c) mode = part_ascii between small cs (All-tail HasAsciiNames x cs h) c mode
 
-source_ascii : (cs : List Component) → All HasAsciiNames cs → (c mode : ℕ) → IsAscii (source_text_at cs c mode)
-source_ascii [] h c mode = ascii_none
-source_ascii (x ∷ cs) h zero mode =
-    let names = All-head HasAsciiNames x cs h in ascii_both x.name (32 ∷ name_at x.modes mode) names.name (ascii_more 32 (name_at x.modes mode) (omega arith) (names.modes mode))
-source_ascii (x ∷ cs) h (suc c) mode = source_ascii cs (All-tail HasAsciiNames x cs h) c mode
+pair_ascii : (cs : List Component) → All HasAsciiNames cs → (c mode : ℕ) → IsAscii (pair_text_at cs c mode)
+pair_ascii = part_ascii 61 (omega arith)
 
 move_ascii : (m : PlantModel) → WellFormed m → (x : Move) → IsAscii (move_text m x)
 move_ascii m h x =
-    let source = source_ascii m.components (ascii_components m h) x.component x.source in
-    ascii_both (source_text_at m.components x.component x.source) (32 ∷ name_at m.commands x.command) source
+    let source = part_ascii 32 (omega arith) m.components (ascii_components m h) x.component x.source in
+    ascii_both (mode_text_at 32 m.components x.component x.source) (32 ∷ name_at m.commands x.command) source
     (ascii_more 32 (name_at m.commands x.command) (omega arith) (command_ascii m h x.command))
 
 moves_ascii : (m : PlantModel) → WellFormed m → (moves : List Move) (k : ℕ) → IsAscii (move_text_at m moves k)
@@ -97,7 +94,7 @@ moves_ascii m h [] k = ascii_none
 moves_ascii m h (x ∷ moves) zero = ascii_more 32 (move_text m x) (omega arith) (move_ascii m h x)
 moves_ascii m h (x ∷ moves) (suc k) = moves_ascii m h moves k
 
-pub detail_ascii : (m : PlantModel) → WellFormed m → (d : Detail) → IsAscii (detail_text m d)
+detail_ascii : (m : PlantModel) → WellFormed m → (d : Detail) → IsAscii (detail_text m d)
 detail_ascii m h Nothing = ascii_none
 detail_ascii m h (Pairs cube) =
     ascii_each (λ (p : Pair). 32 ∷ pair_text_at m.components p.item p.value)

@@ -18,7 +18,7 @@ name_at_injective names j k h p q e =
     let same : place_of names (name_at names j) ≡ place_of names (name_at names k) = ap (place_of names) e in
     cc
 
-pub choice_text_injective : (name : List ℕ) (choices : List (List ℕ)) (j k : ℕ) → AreNames choices → j < length choices → k < length choices → choice_text name choices j ≡ choice_text name choices k → j ≡ k
+choice_text_injective : (name : List ℕ) (choices : List (List ℕ)) (j k : ℕ) → AreNames choices → j < length choices → k < length choices → choice_text name choices j ≡ choice_text name choices k → j ≡ k
 choice_text_injective name choices j k h p q e =
     let rest : 61 ∷ name_at choices j ≡ 61 ∷ name_at choices k = append_cancel_left name (61 ∷ name_at choices j) (61 ∷ name_at choices k) e in
     let same : name_at choices j ≡ name_at choices k = cc in

@@ -33,7 +33,7 @@ rejoined line start i h =
     let behind : drop (i - start) (drop start line) ≡ drop i line = drop-drop (i - start) start line ∙ ap (λ n. drop n line) (let n : start + (i - start) ≡ i = omega arith in n) in
     ap (λ t. take (i - start) (drop start line) ++ t) (sym behind) ∙ take-append-drop (i - start) (drop start line)
 
-pub cut_at_space : (line : List ℕ) (words : List (List ℕ)) (start i : ℕ) → IsCutTo line words start i → i < length line → get_or line i 0 ≡ 32
+cut_at_space : (line : List ℕ) (words : List (List ℕ)) (start i : ℕ) → IsCutTo line words start i → i < length line → get_or line i 0 ≡ 32
     → IsCutTo line (words ++ slice_range line start i ∷ []) (i + 1) (i + 1)
 cut_at_space line words start i h inside space =
     let word = slice_range line start i in
@@ -53,7 +53,7 @@ cut_goes_on line words start i h other =
     below_here : (k : ℕ) → start ≤ k → k < i + 1 → get_or line k 0 ≢ 32
     below_here k low high e = elim (cases_lt k i) [ inl under ↦ h.begun k low under e | inr past ↦ let same : k ≡ i = omega arith in other (ap (λ n. get_or line n 0) (sym same) ∙ e) ]
 
-pub cut_ends : (line : List ℕ) (words : List (List ℕ)) (start i : ℕ) → IsCutTo line words start i → i ≡ length line → AreWords line (words ++ slice_range line start (length line) ∷ [])
+cut_ends : (line : List ℕ) (words : List (List ℕ)) (start i : ℕ) → IsCutTo line words start i → i ≡ length line → AreWords line (words ++ slice_range line start (length line) ∷ [])
 cut_ends line words start i h e =
     let none : drop (length line) line ≡ [] = drop_all (length line) line (omega arith) in
     let within : start ≤ length line = omega (arith, h.within) in

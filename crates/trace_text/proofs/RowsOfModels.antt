@@ -1,10 +1,8 @@
 -- States and values of a model are choices of its rows.
-use Rattle.std.proofs.Common.{◌≡◌, ◌≢◌, ℕ, ◌<◌, List, [], ◌∷◌, length, map, get_or, All, slice_get, slice_index, Option, Some, None, refl, sym, ap, ◌∙◌, subst}
+use Rattle.std.proofs.Common.{◌≡◌, ◌≢◌, ℕ, ◌<◌, List, [], ◌∷◌, length, map, All, slice_index, Option, Some, None, sym, ◌∙◌, subst}
 use Rattle.std.specs.declared.alloc.AllocError.{AllocError}
 use Rattle.std.specs.Prelude.{Result, Ok, Err, IfOk}
-use Rattle.std.specs.Option.{option_map}
 use Rattle.std.proofs.lemmas.Simd.{map-map}
-use Rattle.std.proofs.lemmas.Option.{slice_get-map, slice_get_read}
 use Rattle.std.proofs.lemmas.List.{length-map}
 use Rattle.std.proofs.lemmas.List.Elements.{All-cons, All-head, All-nil, All-tail}
 use Rattle.list_laws.proofs.Elements.{all_left, all_right}
@@ -12,7 +10,7 @@ use Rattle.cca_base.specs.declared.model.Component.{Component}
 use Rattle.cca_base.specs.declared.model.Variable.{Variable}
 use Rattle.cca_base.specs.PlantModel.{PlantModel}
 use Rattle.cca_base.specs.Names.{AreNames}
-use Rattle.cca_base.specs.Model.{WellFormed, IsComponent, AreChoices, mode_counts, value_counts}
+use Rattle.cca_base.specs.Model.{WellFormed, IsComponent, AreChoices}
 use Rattle.cca_base.specs.State.{IsState}
 use Rattle.trace_text.specs.Names.{Row, mode_row, value_row}
 use Rattle.trace_text.specs.TraceLines.{HasValues}
@@ -21,45 +19,37 @@ use Rattle.trace_text.specs.LineWords.{AreChosen, IsReadFrom, mode_words}
 use Rattle.trace_text.proofs.ModelNames.{IsName}
 use Rattle.trace_text.proofs.ChosenRows.{chosen_at_places, chosen_from_places, too_many_or_few}
 
-mode_sizes : (cs : List Component) → map (λ (row : Row). length row.choices) (map mode_row cs) ≡ map (λ (c : Component). length c.modes) cs
-mode_sizes cs = map-map (λ (row : Row). length row.choices) mode_row cs
+-- choices of the rows of some parts, by place
+module _ {X : Type 0} (row_of : X → Row) (xs : List X) (ks : List ℕ) where
+  abbrev counts : List ℕ
+  counts = map (λ x. length (row_of x).choices) xs
 
-value_sizes : (vs : List Variable) → map (λ (row : Row). length row.choices) (map value_row vs) ≡ map (λ (v : Variable). length v.values) vs
-value_sizes vs = map-map (λ (row : Row). length row.choices) value_row vs
+  sizes : map (λ (row : Row). length row.choices) (map row_of xs) ≡ counts
+  sizes = map-map (λ (row : Row). length row.choices) row_of xs
+
+  chosen_from : length ks ≡ length xs → ((i : ℕ) → i < length xs → slice_index ks i < slice_index counts i) → AreChosen (map row_of xs) ks
+  chosen_from full each =
+      let many : length (map row_of xs) ≡ length xs = length-map xs row_of in
+      chosen_from_places (map row_of xs) ks (full ∙ sym many)
+      (λ i lt. subst (λ (ns : List ℕ). slice_index ks i < slice_index ns i) (sym sizes) (each i (subst (λ n. i < n) many lt)))
+
+  chosen_at : AreChosen (map row_of xs) ks → (length ks ≡ length xs) × ((i : ℕ) → i < length xs → slice_index ks i < slice_index counts i)
+  chosen_at h =
+      let many : length (map row_of xs) ≡ length xs = length-map xs row_of in
+      let parts = chosen_at_places (map row_of xs) ks h in
+      (parts.0 ∙ many, λ i lt. subst (λ (ns : List ℕ). slice_index ks i < slice_index ns i) sizes (parts.1 i (subst (λ n. i < n) (sym many) lt)))
 
 pub state_is_chosen : (m : PlantModel) (s : List ℕ) → IsState m s → AreChosen (map mode_row m.components) s
-state_is_chosen m s h =
-    let sizes : map (λ (row : Row). length row.choices) (map mode_row m.components) ≡ mode_counts m = mode_sizes m.components in
-    let many : length (map mode_row m.components) ≡ length m.components = length-map m.components mode_row in
-    chosen_from_places (map mode_row m.components) s (h.full ∙ sym many)
-    (λ c lt. subst (λ (counts : List ℕ). slice_index s c < slice_index counts c) (sym sizes) (h.modes c (subst (λ n. c < n) many lt)))
+state_is_chosen m s h = chosen_from mode_row m.components s h.full h.modes
 
-pub chosen_is_state : (m : PlantModel) (s : List ℕ) → AreChosen (map mode_row m.components) s → IsState m s
-chosen_is_state m s h =
-    let sizes : map (λ (row : Row). length row.choices) (map mode_row m.components) ≡ mode_counts m = mode_sizes m.components in
-    let many : length (map mode_row m.components) ≡ length m.components = length-map m.components mode_row in
-    let parts = chosen_at_places (map mode_row m.components) s h in
-    record {
-      full = parts.0 ∙ many;
-      modes = λ c lt. subst (λ (counts : List ℕ). slice_index s c < slice_index counts c) sizes (parts.1 c (subst (λ n. c < n) (sym many) lt));
-    }
+chosen_is_state : (m : PlantModel) (s : List ℕ) → AreChosen (map mode_row m.components) s → IsState m s
+chosen_is_state m s h = let at = chosen_at mode_row m.components s h in record { full = at.0; modes = at.1 }
 
 pub values_are_chosen : (m : PlantModel) (w : List ℕ) → HasValues m w → AreChosen (map value_row m.variables) w
-values_are_chosen m w h =
-    let sizes : map (λ (row : Row). length row.choices) (map value_row m.variables) ≡ value_counts m = value_sizes m.variables in
-    let many : length (map value_row m.variables) ≡ length m.variables = length-map m.variables value_row in
-    chosen_from_places (map value_row m.variables) w (h.full ∙ sym many)
-    (λ v lt. subst (λ (counts : List ℕ). slice_index w v < slice_index counts v) (sym sizes) (h.each v (subst (λ n. v < n) many lt)))
+values_are_chosen m w h = chosen_from value_row m.variables w h.full h.each
 
-pub chosen_are_values : (m : PlantModel) (w : List ℕ) → AreChosen (map value_row m.variables) w → HasValues m w
-chosen_are_values m w h =
-    let sizes : map (λ (row : Row). length row.choices) (map value_row m.variables) ≡ value_counts m = value_sizes m.variables in
-    let many : length (map value_row m.variables) ≡ length m.variables = length-map m.variables value_row in
-    let parts = chosen_at_places (map value_row m.variables) w h in
-    record {
-      full = parts.0 ∙ many;
-      each = λ v lt. subst (λ (counts : List ℕ). slice_index w v < slice_index counts v) sizes (parts.1 v (subst (λ n. v < n) (sym many) lt));
-    }
+chosen_are_values : (m : PlantModel) (w : List ℕ) → AreChosen (map value_row m.variables) w → HasValues m w
+chosen_are_values m w h = let at = chosen_at value_row m.variables w h in record { full = at.0; each = at.1 }
 
 -- a row's name and those of its choices
 pub record HasRowNames (row : Row) : Type 0 where
@@ -93,14 +83,6 @@ value_rows m h =
     go (v ∷ vs) p q =
         All-cons HasRowNames (value_row v) (map value_row vs) (variable_row v (All-head IsName v.name (map (λ (x : Variable). x.name) vs) p, All-head (λ (x : Variable). AreChoices x.values) v vs q))
         (go vs (All-tail IsName v.name (map (λ (x : Variable). x.name) vs) p) (All-tail (λ (x : Variable). AreChoices x.values) v vs q))
-
--- ---- rows by place
-
-pub mode_row_at : (cs : List Component) (i : ℕ) (x : Component) → i < length cs → x ≡ get_or cs i x → slice_get (map mode_row cs) i ≡ Some (mode_row x)
-mode_row_at cs i x lt is = slice_get-map mode_row cs i ∙ ap (λ o. option_map mode_row o) (slice_get_read cs (length cs) i x refl lt is)
-
-pub value_row_at : (vs : List Variable) (i : ℕ) (x : Variable) → i < length vs → x ≡ get_or vs i x → slice_get (map value_row vs) i ≡ Some (value_row x)
-value_row_at vs i x lt is = slice_get-map value_row vs i ∙ ap (λ o. option_map value_row o) (slice_get_read vs (length vs) i x refl lt is)
 
 -- ---- what is read as choices is read as a state, or as the values of a world
 

@@ -16,7 +16,7 @@ one_word [] d p q = absurd (omega arith)
 one_word (a ∷ []) d p q = refl
 one_word (a ∷ b ∷ ws) d p q = absurd (omega arith)
 
-pub two_words : (ws : Words) (d : Bor (List ℕ)) → 2 ≤ length ws → length ws < 3 → map (λ (w : Bor (List ℕ)). w.now) ws ≡ (get_or ws 0 d).now ∷ (get_or ws 1 d).now ∷ []
+two_words : (ws : Words) (d : Bor (List ℕ)) → 2 ≤ length ws → length ws < 3 → map (λ (w : Bor (List ℕ)). w.now) ws ≡ (get_or ws 0 d).now ∷ (get_or ws 1 d).now ∷ []
 two_words [] d p q = absurd (omega arith)
 two_words (a ∷ []) d p q = absurd (omega arith)
 two_words (a ∷ b ∷ []) d p q = refl

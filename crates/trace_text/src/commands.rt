@@ -16,7 +16,7 @@ use indexmap::IndexMap;
 use std::alloc::{AllocError, Global};
 
 /// From this number of names on a map is made.
-const MANY: usize = 128;
+const MANY_COMMANDS: usize = 128;
 
 /// Gives a name its place.
 fn insert_place(
@@ -124,7 +124,7 @@ pub fn read_commands(
     ensures { IfOk result (IsReadFrom (map (λ w.
         w.now) words.now) (All (HasCommand model.now)) (map (name_at model.now.commands))) }
 {
-    if words.len() < MANY {
+    if words.len() < MANY_COMMANDS {
         return commands_by(alloc, model, None, words);
     }
     let places = places_of(alloc, model.commands().as_slice())?;

@@ -1,8 +1,8 @@
 //! Pairs, components and moves by their names.
 
-ghost use Rattle.std.specs.Prelude.{◌≡◌, ◌++◌, ◌∷◌, OnOk};
+ghost use Rattle.std.specs.Prelude.{◌≡◌, ◌++◌, OnOk};
 ghost use Rattle.std.specs.Fmt.{decimal};
-ghost use Rattle.trace_text.specs.Names.{name_at, choice_text, pair_text, pair_text_at, pairs_text, component_name, components_text, source_text, source_text_at, move_text, move_text_at};
+ghost use Rattle.trace_text.specs.Names.{name_at, choice_text, mode_text, mode_text_at, pair_text, pair_text_at, pairs_text, component_name, components_text, move_text, move_text_at};
 
 use cca_base::{Component, Model, Move, Name, Pair};
 use std::alloc::{AllocError, Global};
@@ -38,11 +38,41 @@ pub fn push_choice(
     push_name(out, choices, at as usize)
 }
 
+/// A component with one of its modes, and a byte between them.
+fn push_mode(
+    out: &mut Vec<u8>,
+    between: u8,
+    component: &Component,
+    mode: u8,
+) -> Result<(), AllocError>
+    ensures { OnOk result (out.new.items ≡ out.old.items ++ mode_text between component.now mode) }
+{
+    out.extend_from_slice(component.name.bytes())?;
+    out.push(between)?;
+    push_name(out, component.modes.as_slice(), mode as usize)
+}
+
+/// The same of a component of the model.
+fn push_mode_at(
+    out: &mut Vec<u8>,
+    between: u8,
+    components: &[Component],
+    number: usize,
+    mode: u8,
+) -> Result<(), AllocError>
+    ensures { OnOk result (out.new.items
+        ≡ out.old.items ++ mode_text_at between components.now number mode) }
+{
+    if let Some(component) = components.get(number) {
+        push_mode(out, between, component, mode)?;
+    }
+    Ok(())
+}
+
 pub fn push_pair(out: &mut Vec<u8>, component: &Component, mode: u8) -> Result<(), AllocError>
     ensures { OnOk result (out.new.items ≡ out.old.items ++ pair_text component.now mode) }
 {
-    let modes = component.modes.as_slice();
-    push_choice(out, component.name.bytes(), modes, mode)
+    push_mode(out, b'=', component, mode)
 }
 
 pub fn push_pair_at(
@@ -54,10 +84,7 @@ pub fn push_pair_at(
     ensures { OnOk result (out.new.items
         ≡ out.old.items ++ pair_text_at components.now number mode) }
 {
-    if let Some(component) = components.get(number) {
-        push_pair(out, component, mode)?;
-    }
-    Ok(())
+    push_mode_at(out, b'=', components, number, mode)
 }
 
 /// Each pair, behind a space.
@@ -104,35 +131,12 @@ pub fn push_components(
     Ok(())
 }
 
-fn push_source(out: &mut Vec<u8>, component: &Component, mode: u8) -> Result<(), AllocError>
-    ensures { OnOk result (out.new.items ≡ out.old.items ++ source_text component.now mode) }
-{
-    out.extend_from_slice(component.name.bytes())?;
-    out.push(b' ')?;
-    push_name(out, component.modes.as_slice(), mode as usize)
-}
-
-fn push_source_at(
-    out: &mut Vec<u8>,
-    components: &[Component],
-    number: usize,
-    mode: u8,
-) -> Result<(), AllocError>
-    ensures { OnOk result (out.new.items
-        ≡ out.old.items ++ source_text_at components.now number mode) }
-{
-    if let Some(component) = components.get(number) {
-        push_source(out, component, mode)?;
-    }
-    Ok(())
-}
-
 /// The component of a move, the mode that it leaves, and its command.
 pub fn push_move(out: &mut Vec<u8>, model: &Model, x: &Move) -> Result<(), AllocError>
     ensures { OnOk result (out.new.items ≡ out.old.items ++ move_text model.now x.now) }
 {
     let components = model.components().as_slice();
-    push_source_at(out, components, x.component as usize, x.source)?;
+    push_mode_at(out, b' ', components, x.component as usize, x.source)?;
     out.push(b' ')?;
     push_name(out, model.commands().as_slice(), x.command as usize)
 }

@@ -1,13 +1,13 @@
 //! Parts of a line, read from its words: numbers, choices and plans.
 
-ghost use Rattle.std.specs.Prelude.{◌≡◌, ◌≢◌, ◌↔◌, ◌<◌, ◌≤◌, ◌^◌, [], ◌∷◌, ◌++◌, ℕ, List, All, codes, length, map, IfOk, IsTrue, MatchOption};
+ghost use Rattle.std.specs.Prelude.{◌≡◌, ◌≢◌, ◌↔◌, ◌<◌, ◌≤◌, ◌^◌, [], ◌∷◌, ◌++◌, ℕ, List, codes, length, map, slice_get, IfOk, IfSome, IsTrue, MatchOption};
 ghost use Rattle.std.specs.Fmt.{decimal};
+ghost use Rattle.std.specs.Option.{option_map};
 ghost use Rattle.cca_base.specs.declared.limits.TheConstants.{MAX_CHOICES};
-ghost use Rattle.cca_base.specs.Model.{AreChoices, HasMode, IsComponent};
 ghost use Rattle.cca_base.specs.State.{IsState};
 ghost use Rattle.formula_syntax.specs.Lookups.{place_of};
 ghost use Rattle.trace_text.specs.LineWords.{AreChosen, IsReadFrom, mode_words, plan_words};
-ghost use Rattle.trace_text.specs.Names.{choice_text, mode_row, name_at, value_row};
+ghost use Rattle.trace_text.specs.Names.{HaveChoices, choice_text, name_at, rows_of};
 ghost use Rattle.trace_text.specs.ProofLines.{choice_words, value_words};
 ghost use Rattle.trace_text.specs.TraceLines.{FitsPlan, HasValues};
 
@@ -15,6 +15,15 @@ use crate::commands::read_commands;
 use cca_base::{Component, List, Model, Name, PlanEnd, Variable};
 use std::alloc::{AllocError, Global};
 use text_base::read_number;
+
+/// Rows of choices.
+#[derive(Clone, Copy)]
+pub enum Rows<'a> {
+    /// Components with their modes.
+    Modes(&'a [Component]),
+    /// Variables with their values.
+    Values(&'a [Variable]),
+}
 
 /// The number that the word is, if it has at most 64 bits.
 pub fn read_count(word: &[u8]) -> Option<u64>
@@ -74,48 +83,44 @@ pub fn read_choice(name: &[u8], choices: &[Name], word: &[u8]) -> Option<u8>
     }
 }
 
-/// A mode for each component, each from one word.
-fn read_each_mode(
-    alloc: Global,
-    components: &[Component],
-    words: &[&[u8]],
-) -> Result<Option<List<u8>>, AllocError>
-    requires full { length words.now ≡ length components.now }
-    requires choices { All IsComponent components.now }
-    ensures { let rows = map mode_row components.now in IfOk result (IsReadFrom (map (λ w.
-        w.now) words.now) (AreChosen rows) (choice_words rows)) }
+/// The name of a row and the names of its choices.
+fn row_at<'a>(rows: Rows<'a>, place: usize) -> Option<(&'a [u8], &'a [Name])>
+    requires { HaveChoices rows }
+    ensures row { option_map (λ r.
+        record { name = r.0.now; choices = r.1.now }) result
+        ≡ slice_get (rows_of rows.entry) place }
+    ensures few { IfSome result (λ r. length r.1.now ≤ MAX_CHOICES) }
 {
-    let mut modes = List::new(alloc);
-    for (i, component) in components.iter().enumerate() {
-        let names = component.modes.as_slice();
-        match read_choice(component.name.bytes(), names, words[i]) {
-            Some(mode) => modes.push(mode)?,
-            None => return Ok(None),
-        }
+    match rows {
+        Rows::Modes(components) => match components.get(place) {
+            Some(component) => Some((component.name.bytes(), component.modes.as_slice())),
+            None => None,
+        },
+        Rows::Values(variables) => match variables.get(place) {
+            Some(variable) => Some((variable.name.bytes(), variable.values.as_slice())),
+            None => None,
+        },
     }
-    Ok(Some(modes))
 }
 
-/// A value for each variable, each from one word.
-fn read_each_value(
-    alloc: Global,
-    variables: &[Variable],
-    words: &[&[u8]],
-) -> Result<Option<List<u8>>, AllocError>
-    requires full { length words.now ≡ length variables.now }
-    requires choices { All (λ v. AreChoices v.values) variables.now }
-    ensures { let rows = map value_row variables.now in IfOk result (IsReadFrom (map (λ w.
-        w.now) words.now) (AreChosen rows) (choice_words rows)) }
+/// A choice for each row, each from one word.
+fn read_each(alloc: Global, rows: Rows, words: &[&[u8]]) -> Result<Option<List<u8>>, AllocError>
+    requires full { length words.now ≡ length (rows_of rows) }
+    requires choices { HaveChoices rows }
+    ensures { IfOk result (IsReadFrom (map (λ w.
+        w.now) words.now) (AreChosen (rows_of rows.entry)) (choice_words (rows_of rows.entry))) }
 {
-    let mut values = List::new(alloc);
-    for (i, variable) in variables.iter().enumerate() {
-        let names = variable.values.as_slice();
-        match read_choice(variable.name.bytes(), names, words[i]) {
-            Some(value) => values.push(value)?,
+    let mut chosen = List::new(alloc);
+    for (i, word) in words.iter().enumerate() {
+        let Some((name, choices)) = row_at(rows, i) else {
+            return Ok(None);
+        };
+        match read_choice(name, choices, word) {
+            Some(choice) => chosen.push(choice)?,
             None => return Ok(None),
         }
     }
-    Ok(Some(values))
+    Ok(Some(chosen))
 }
 
 /// The modes of a state of the model.
@@ -129,7 +134,7 @@ pub fn read_modes(
         w.now) words.now) (IsState model.now) (mode_words model.now.components)) }
 {
     let components = model.components().as_slice();
-    read_each_mode(alloc, components, words)
+    read_each(alloc, Rows::Modes(components), words)
 }
 
 /// The values of a world of the model.
@@ -145,7 +150,7 @@ pub fn read_values(
     if words.len() != variables.len() {
         return Ok(None);
     }
-    read_each_value(alloc, variables, words)
+    read_each(alloc, Rows::Values(variables), words)
 }
 
 /// Whether the only word is `long`.

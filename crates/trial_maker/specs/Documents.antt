@@ -1,5 +1,5 @@
 -- The document of a seed.
-use Rattle.std.specs.Prelude.{ℕ, List, [], ◌∷◌, ◌++◌, flat_map}
+use Rattle.std.specs.Prelude.{◌≡◌, ℕ, List, [], ◌∷◌, ◌++◌, flat_map}
 use Rattle.std.specs.List.{range_with_len}
 use Rattle.trial_maker.specs.Chains.{links}
 use Rattle.trial_maker.specs.Draws.{Drawing, undrawn, each, ◌>>=◌}
@@ -15,6 +15,10 @@ ended line = line ++ 10 ∷ []
 -- some lines, each with its LF
 abbrev pub text_of : List (List ℕ) → List ℕ
 text_of lines = flat_map ended lines
+
+-- behind the old text come the lines that are drawn from the number on, and the number behind their draws is next
+abbrev pub AreDrawn : (old new : List ℕ) (number next : ℕ) → Drawing (List (List ℕ)) → Type 0
+AreDrawn old new number next lines = (new ≡ old ++ text_of (lines number).0) × (next ≡ (lines number).1)
 
 -- the ticks, counted from 1
 unfoldable pub ticks : List ℕ

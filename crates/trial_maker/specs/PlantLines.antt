@@ -1,6 +1,8 @@
 -- The lines of components, variables and rules, which draw nothing.
 use Rattle.std.specs.Prelude.{ℕ, List, ◌∷◌, ◌++◌, map, codes}
 use Rattle.trial_maker.specs.declared.chains.Link.{Link}
+use Rattle.trial_maker.specs.declared.plant.Declared.{Declared}
+use Rattle.trial_maker.specs.declared.plant.Declared.TheVariants.{Component, Variable, Rule}
 use Rattle.trial_maker.specs.Chains.{component_name, variable_name}
 
 -- a component
@@ -14,6 +16,12 @@ variable_line link = codes "var " ++ variable_name link ++ codes "=ok,off sensed
 -- the variable shows whether the component is broken
 unfoldable pub rule_line : Link → List ℕ
 rule_line link = codes "rule " ++ variable_name link ++ codes "=off iff " ++ component_name link ++ codes "=x"
+
+-- the line that declares this of a component
+abbrev pub line_of : Declared → Link → List ℕ
+line_of Component link = component_line link
+line_of Variable link = variable_line link
+line_of Rule link = rule_line link
 
 -- the first line, and then all components, all variables and all rules
 unfoldable pub plant_lines : List Link → List (List ℕ)

@@ -3,7 +3,7 @@
 ghost use Rattle.std.specs.Prelude.{◌≡◌, ◌++◌, map, OnOk};
 ghost use Rattle.std.specs.String.{string_bytes};
 ghost use Rattle.trial_maker.specs.Documents.{ended, text_of};
-ghost use Rattle.trial_maker.specs.PlantLines.{component_line, variable_line, rule_line, plant_lines};
+ghost use Rattle.trial_maker.specs.PlantLines.{component_line, variable_line, rule_line, line_of, plant_lines};
 
 use crate::chains::Link;
 use std::alloc::AllocError;
@@ -31,35 +31,32 @@ fn push_rule(out: &mut String, link: Link) -> Result<(), AllocError>
     writeln!(out, "rule s{link}=off iff c{link}=x")
 }
 
-#[tactic(auto, using(crate::proofs::LinesSoFar::line_more))]
-fn push_components(out: &mut String, links: &[Link]) -> Result<(), AllocError>
+/// What a line of the plant declares of a component.
+#[derive(Clone, Copy)]
+pub enum Declared {
+    Component,
+    Variable,
+    Rule,
+}
+
+fn push_line(out: &mut String, declared: Declared, link: Link) -> Result<(), AllocError>
     ensures { OnOk result (string_bytes out.new
-        ≡ string_bytes out.old ++ text_of (map component_line links.now)) }
+        ≡ string_bytes out.old ++ ended (line_of declared link)) }
 {
-    for link in links {
-        push_component(out, *link)?;
+    match declared {
+        Declared::Component => push_component(out, link),
+        Declared::Variable => push_variable(out, link),
+        Declared::Rule => push_rule(out, link),
     }
-    Ok(())
 }
 
 #[tactic(auto, using(crate::proofs::LinesSoFar::line_more))]
-fn push_variables(out: &mut String, links: &[Link]) -> Result<(), AllocError>
+fn push_lines(out: &mut String, declared: Declared, links: &[Link]) -> Result<(), AllocError>
     ensures { OnOk result (string_bytes out.new
-        ≡ string_bytes out.old ++ text_of (map variable_line links.now)) }
+        ≡ string_bytes out.old ++ text_of (map (line_of declared) links.now)) }
 {
     for link in links {
-        push_variable(out, *link)?;
-    }
-    Ok(())
-}
-
-#[tactic(auto, using(crate::proofs::LinesSoFar::line_more))]
-fn push_rules(out: &mut String, links: &[Link]) -> Result<(), AllocError>
-    ensures { OnOk result (string_bytes out.new
-        ≡ string_bytes out.old ++ text_of (map rule_line links.now)) }
-{
-    for link in links {
-        push_rule(out, *link)?;
+        push_line(out, declared, *link)?;
     }
     Ok(())
 }
@@ -71,7 +68,7 @@ pub fn push_plant(out: &mut String, links: &[Link]) -> Result<(), AllocError>
         ≡ string_bytes out.old ++ text_of (plant_lines links.now)) }
 {
     out.push_str("titan 1\n")?;
-    push_components(out, links)?;
-    push_variables(out, links)?;
-    push_rules(out, links)
+    push_lines(out, Declared::Component, links)?;
+    push_lines(out, Declared::Variable, links)?;
+    push_lines(out, Declared::Rule, links)
 }

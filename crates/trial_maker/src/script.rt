@@ -1,8 +1,8 @@
 //! The lines of the script, with what each tick draws.
 
-ghost use Rattle.std.specs.Prelude.{◌≡◌, ◌++◌, ◌<◌, map, OnOk};
+ghost use Rattle.std.specs.Prelude.{◌≡◌, ◌++◌, ◌<◌, OnOk};
 ghost use Rattle.std.specs.String.{string_bytes};
-ghost use Rattle.trial_maker.specs.Documents.{ended, text_of, ticks};
+ghost use Rattle.trial_maker.specs.Documents.{AreDrawn, ended, text_of, ticks};
 ghost use Rattle.trial_maker.specs.Draws.{each};
 ghost use Rattle.trial_maker.specs.ScriptLines.{mirror_line, mirror_lines, drawn_goal, goal_lines, fault_lines, tick_lines};
 
@@ -43,9 +43,8 @@ pub fn push_mirrors(out: &mut String, links: &[Link]) -> Result<(), AllocError>
 /// A goal for a component of a chain and one of the next chain.
 #[tactic(auto, unfolding(crate::specs::ScriptLines::goal_line, crate::specs::ScriptLines::drawn_goal))]
 fn push_goal(out: &mut String, draws: &mut Draws) -> Result<(), AllocError>
-    ensures text { OnOk result (string_bytes out.new
-        ≡ string_bytes out.old ++ text_of (drawn_goal draws.old.number).0) }
-    ensures number { OnOk result (draws.new.number ≡ (drawn_goal draws.old.number).1) }
+    ensures { OnOk result (AreDrawn (string_bytes out.old) (string_bytes out.new)
+        draws.old.number draws.new.number drawn_goal) }
 {
     let chain = draws.draw(CHAINS);
     let place = draws.draw(PLACES);
@@ -64,9 +63,8 @@ fn push_goal(out: &mut String, draws: &mut Draws) -> Result<(), AllocError>
 #[tactic(auto, unfolding(crate::specs::ScriptLines::goal_lines))]
 fn push_goal_at(out: &mut String, draws: &mut Draws, tick: u64) -> Result<(), AllocError>
     requires { 0 < tick }
-    ensures text { OnOk result (string_bytes out.new
-        ≡ string_bytes out.old ++ text_of (goal_lines tick draws.old.number).0) }
-    ensures number { OnOk result (draws.new.number ≡ (goal_lines tick draws.old.number).1) }
+    ensures { OnOk result (AreDrawn (string_bytes out.old) (string_bytes out.new)
+        draws.old.number draws.new.number (goal_lines tick)) }
 {
     if (tick - 1) % GOAL_TICKS == 0 {
         push_goal(out, draws)?;
@@ -77,9 +75,8 @@ fn push_goal_at(out: &mut String, draws: &mut Draws, tick: u64) -> Result<(), Al
 /// A fault, by chance.
 #[tactic(auto, unfolding(crate::specs::ScriptLines::fault_line, crate::specs::ScriptLines::drawn_fault, crate::specs::ScriptLines::fault_lines))]
 fn push_fault(out: &mut String, draws: &mut Draws) -> Result<(), AllocError>
-    ensures text { OnOk result (string_bytes out.new
-        ≡ string_bytes out.old ++ text_of (fault_lines draws.old.number).0) }
-    ensures number { OnOk result (draws.new.number ≡ (fault_lines draws.old.number).1) }
+    ensures { OnOk result (AreDrawn (string_bytes out.old) (string_bytes out.new)
+        draws.old.number draws.new.number fault_lines) }
 {
     if draws.draw(FAULT_CHANCES) == 0 {
         let link = link_at(draws.draw(LINKS));
@@ -92,9 +89,8 @@ fn push_fault(out: &mut String, draws: &mut Draws) -> Result<(), AllocError>
 #[tactic(auto, unfolding(crate::specs::ScriptLines::tick_lines))]
 fn push_tick(out: &mut String, draws: &mut Draws, tick: u64) -> Result<(), AllocError>
     requires { 0 < tick }
-    ensures text { OnOk result (string_bytes out.new
-        ≡ string_bytes out.old ++ text_of (tick_lines tick draws.old.number).0) }
-    ensures number { OnOk result (draws.new.number ≡ (tick_lines tick draws.old.number).1) }
+    ensures { OnOk result (AreDrawn (string_bytes out.old) (string_bytes out.new)
+        draws.old.number draws.new.number (tick_lines tick)) }
 {
     push_goal_at(out, draws, tick)?;
     push_fault(out, draws)?;
@@ -102,9 +98,8 @@ fn push_tick(out: &mut String, draws: &mut Draws, tick: u64) -> Result<(), Alloc
 }
 
 pub fn push_ticks(out: &mut String, draws: &mut Draws) -> Result<(), AllocError>
-    ensures text { OnOk result (string_bytes out.new
-        ≡ string_bytes out.old ++ text_of (each tick_lines ticks draws.old.number).0) }
-    ensures number { OnOk result (draws.new.number ≡ (each tick_lines ticks draws.old.number).1) }
+    ensures { OnOk result (AreDrawn (string_bytes out.old) (string_bytes out.new)
+        draws.old.number draws.new.number (each tick_lines ticks)) }
 {
     for tick in 1..TICKS + 1 {
         push_tick(out, draws, tick)?;

@@ -2,7 +2,7 @@
 
 ghost use Rattle.std.specs.Prelude.{◌≡◌, ◌++◌, OnOk};
 ghost use Rattle.std.specs.String.{string_bytes};
-ghost use Rattle.trial_maker.specs.Documents.{ended, text_of};
+ghost use Rattle.trial_maker.specs.Documents.{AreDrawn, ended};
 ghost use Rattle.trial_maker.specs.Draws.{each};
 ghost use Rattle.trial_maker.specs.TransitionLines.{guard_of, transition_line, move_lines, failure_cost, failure_line, failure_lines};
 
@@ -57,9 +57,8 @@ fn push_transition(
 /// The three moves of a component and its repair.
 #[tactic(auto, using(crate::proofs::LinesSoFar::four_lines), unfolding(crate::specs::TransitionLines::move_lines))]
 fn push_moves_of(out: &mut String, draws: &mut Draws, link: Link) -> Result<(), AllocError>
-    ensures text { OnOk result (string_bytes out.new
-        ≡ string_bytes out.old ++ text_of (move_lines link draws.old.number).0) }
-    ensures number { OnOk result (draws.new.number ≡ (move_lines link draws.old.number).1) }
+    ensures { OnOk result (AreDrawn (string_bytes out.old) (string_bytes out.new)
+        draws.old.number draws.new.number (move_lines link)) }
 {
     push_transition(out, draws, link, "move", "a->b", 0)?;
     push_transition(out, draws, link, "move", "b->c", 1)?;
@@ -68,10 +67,8 @@ fn push_moves_of(out: &mut String, draws: &mut Draws, link: Link) -> Result<(), 
 }
 
 pub fn push_moves(out: &mut String, draws: &mut Draws, links: &[Link]) -> Result<(), AllocError>
-    ensures text { OnOk result (string_bytes out.new
-        ≡ string_bytes out.old ++ text_of (each move_lines links.now draws.old.number).0) }
-    ensures number { OnOk result (draws.new.number
-        ≡ (each move_lines links.now draws.old.number).1) }
+    ensures { OnOk result (AreDrawn (string_bytes out.old) (string_bytes out.new)
+        draws.old.number draws.new.number (each move_lines links.now)) }
 {
     for link in links {
         push_moves_of(out, draws, *link)?;
@@ -98,9 +95,8 @@ fn push_failure(
 /// The four failures of a component.
 #[tactic(auto, using(crate::proofs::LinesSoFar::four_lines), unfolding(crate::specs::TransitionLines::failure_lines))]
 fn push_failures_of(out: &mut String, draws: &mut Draws, link: Link) -> Result<(), AllocError>
-    ensures text { OnOk result (string_bytes out.new
-        ≡ string_bytes out.old ++ text_of (failure_lines link draws.old.number).0) }
-    ensures number { OnOk result (draws.new.number ≡ (failure_lines link draws.old.number).1) }
+    ensures { OnOk result (AreDrawn (string_bytes out.old) (string_bytes out.new)
+        draws.old.number draws.new.number (failure_lines link)) }
 {
     push_failure(out, draws, link, "a")?;
     push_failure(out, draws, link, "b")?;
@@ -109,10 +105,8 @@ fn push_failures_of(out: &mut String, draws: &mut Draws, link: Link) -> Result<(
 }
 
 pub fn push_failures(out: &mut String, draws: &mut Draws, links: &[Link]) -> Result<(), AllocError>
-    ensures text { OnOk result (string_bytes out.new
-        ≡ string_bytes out.old ++ text_of (each failure_lines links.now draws.old.number).0) }
-    ensures number { OnOk result (draws.new.number
-        ≡ (each failure_lines links.now draws.old.number).1) }
+    ensures { OnOk result (AreDrawn (string_bytes out.old) (string_bytes out.new)
+        draws.old.number draws.new.number (each failure_lines links.now)) }
 {
     for link in links {
         push_failures_of(out, draws, *link)?;

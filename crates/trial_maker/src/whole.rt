@@ -1,8 +1,8 @@
 //! The document as a whole.
 
-ghost use Rattle.std.specs.Prelude.{◌≡◌, ◌++◌, OnOk, IfOk};
+ghost use Rattle.std.specs.Prelude.{◌≡◌, OnOk, IfOk};
 ghost use Rattle.std.specs.String.{string_bytes};
-ghost use Rattle.trial_maker.specs.Documents.{text_of, setup_lines, document};
+ghost use Rattle.trial_maker.specs.Documents.{AreDrawn, setup_lines, document};
 
 use crate::chains::links;
 use crate::draws::Draws;
@@ -14,9 +14,8 @@ use std::alloc::{AllocError, Global};
 
 /// The lines before the ticks: the model and the mirrors.
 fn push_setup(alloc: Global, out: &mut String, draws: &mut Draws) -> Result<(), AllocError>
-    ensures text { OnOk result (string_bytes out.new
-        ≡ string_bytes out.old ++ text_of (setup_lines draws.old.number).0) }
-    ensures number { OnOk result (draws.new.number ≡ (setup_lines draws.old.number).1) }
+    ensures { OnOk result (AreDrawn (string_bytes out.old) (string_bytes out.new)
+        draws.old.number draws.new.number setup_lines) }
 {
     let links = links(alloc)?;
     let links = links.as_slice();

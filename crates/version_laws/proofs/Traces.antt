@@ -12,7 +12,7 @@ use Rattle.cca_base.specs.declared.events.Shown.TheVariants.{Estimated, Unexplai
 use Rattle.cca_base.specs.PlantModel.{PlantModel}
 use Rattle.cca_base.specs.Accepted.{AreWays, HasFewWays, Accepted, CompiledModel}
 use Rattle.cca_base.specs.Bounds.{IsBound, AreBounds}
-use Rattle.cca_base.specs.Relations.{AreExactly, PathBy}
+use Rattle.cca_base.specs.Relations.{AreExactly}
 use Rattle.cca_base.specs.Implicants.{Needs, Ancestor, IsAcyclic}
 use Rattle.cca_base.specs.Model.{WellFormed, is_broken}
 use Rattle.cca_base.specs.State.{HasWorlds}
@@ -22,6 +22,7 @@ use Rattle.cca_base.specs.Choice.{IsWithinReach, IsOpenAt, Walk, IsDistance, Com
 use Rattle.cca_base.specs.Plans.{Whole, Promising, IsWanted, Back}
 use Rattle.cca_base.specs.Trace.{ExecutiveState, IsReply, HasOneValue, Observed, TickShows, command_of, start}
 use Rattle.cca_base.specs.Runs.{TickRecord, Ticks}
+use Rattle.cca_base.proofs.PathLaws.{path_along as path_at}
 use Rattle.version_laws.specs.Laws.{at_version}
 use Rattle.version_laws.specs.Traces.{compiled_at, CompiledAlike, PromisesAlike, TracesAlike, RoutesAlike, FirstWorldsAlike}
 use Rattle.version_laws.proofs.Kept.{state_at, world_at, prime_at, needs_at, step_at, plan_at, reach_at, order_at, nominal_at, estimate_at, consistent_at}
@@ -30,10 +31,6 @@ use Rattle.version_laws.proofs.Kept.{state_at, world_at, prime_at, needs_at, ste
 
 exactly_at : (P Q : ℕ → Type 0) → ((u : ℕ) → P u → Q u) → ((u : ℕ) → Q u → P u) → (numbers : List ℕ) → AreExactly P numbers → AreExactly Q numbers
 exactly_at P Q on back numbers h = record { rising = h.rising; each = λ u. ((λ among. on u ((h.each u).0 among)), (λ q. (h.each u).1 (back u q))) }
-
-path_at : (R S : ℕ → ℕ → Type 0) → ((c u : ℕ) → R c u → S c u) → (c : ℕ) (between : List ℕ) (u : ℕ) → PathBy R c between u → PathBy S c between u
-path_at R S on c [] u h = on c u h
-path_at R S on c (d ∷ between) u h = (on c d h.0, path_at R S on d between u h.1)
 
 ancestor_at : (m : PlantModel) (v : ℕ) (c u : ℕ) → Ancestor m c u → Ancestor (at_version v m) c u
 ancestor_at m v c u h = (h.0, path_at (Needs m) (Needs (at_version v m)) (needs_at m v) c h.0 u h.1)

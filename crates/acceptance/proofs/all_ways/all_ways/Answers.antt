@@ -8,7 +8,7 @@ loop-i-init c = rw c.new-all.ensures (ways_none c.args.model.now)
 
 pub loop-i-preserved : goal.loop-i-preserved
 loop-i-preserved c =
-    rw c.in_ok-push.ensures.ok (ways_more c.args.model.now c.loop-i.all c.loop-i.i c.loop-i.invariant c.in_ok-cubes.cubes c.in_ok-cubes.ensures.ways c.in_ok-cubes.ensures.few)
+    rw c.in_ok-push.ensures.ok (ways_more c.args.model.now c.loop-i.all c.loop-i.i c.loop-i.invariant c.in_ok-cubes.cubes c.in_ok-cubes.ensures.ways.ways c.in_ok-cubes.ensures.ways.few)
 
 pub returns-in_err-cubes-clause-refused : goal.returns-in_err-cubes-clause-refused
 returns-in_err-cubes-clause-refused c =

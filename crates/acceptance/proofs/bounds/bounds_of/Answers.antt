@@ -2,7 +2,7 @@ use Rattle.std.proofs.Common.{◌≡◌, ◌<◌, ◌≤◌, ◌+◌, ◌-◌, [
 use Rattle.std.proofs.lemmas.Option.{get_or_from_slice_get}
 use Rattle.cca_base.specs.declared.limits.TheConstants.{MAX_BOUND}
 use Rattle.cca_base.specs.Model.{mode_counts}
-use Rattle.acceptance.proofs.BoundsCausesFirst.{AreAdded, bound_at, added_none, added_more, added_all, too_deep, row_below, row_short, modes_fit, count_at, bound_is, entry_within}
+use Rattle.acceptance.proofs.BoundsCausesFirst.{AreAdded, bound_at, added_none, added_more, added_all, too_deep, row_below, row_short, modes_fit, bound_found, entry_within}
 use Rattle.acceptance.proofs.bounds.bounds_of.Goals as goal
 
 pub loop-i-init : goal.loop-i-init
@@ -51,18 +51,11 @@ bound_of-bound-requires-clause-within c =
 pub returns-then-bound-sum : goal.returns-then-bound-sum
 returns-then-bound-sum c =
     let m = c.args.model.now in
-    let rows = c.args.needs.now in
-    let order = c.args.order.now in
-    let at : slice_get m.components c.get.result.now ≡ Some c.get-in-loop-i.result.now = ap (λ l. slice_get l c.get.result.now) (sym c.components-in-loop-i.ensures.value) ∙ c.get-in-loop-i.ensures.value in
-    let row : get_or rows c.get.result.now [] ≡ c.as_slice.result.now = get_or_from_slice_get rows c.get.result.now c.get-in-loop-i-2.result.now [] c.get-in-loop-i-2.ensures.value ∙ sym c.as_slice.ensures in
-    let bound : c.bound_of-bound.result ≡ bound_at (mode_counts m) rows c.loop-i.bounds.items c.get.result.now =
-    bound_is (mode_counts m) rows c.loop-i.bounds.items c.as_slice-in-loop-i.result.now c.as_slice.result.now c.get.result.now c.len-modes.result c.bound_of-bound.result
-    (c.len-modes.ensures ∙ sym (count_at m.components c.get.result.now c.get-in-loop-i.result.now at)) (sym row) c.as_slice-in-loop-i.ensures.value c.bound_of-bound.ensures
-    in
-    let before : c.loop-i.i ≡ c.loop-i.i - 1 + 1 = omega (arith, c.loop-i-test.true) in
-    too_deep m rows order c.components.ensures.well_formed c.requires.needs c.requires.order c.loop-i.bounds.items c.loop-i.sum (c.loop-i.i - 1) c.get.result.now
-    (subst (AreAdded m rows order c.loop-i.bounds.items c.loop-i.sum) before c.loop-i.invariant) (omega (arith, c.loop-i-test.true, c.loop-i.auto.i, c.len-i.ensures))
-    (get_or_from_slice_get order (c.loop-i.i - 1) c.get.result.now 0 c.get.ensures.value)
+    let bound : c.bound_of-bound.result ≡ bound_at (mode_counts m) c.args.needs.now c.loop-i.bounds.items c.get.result.now =
+    bound_found m c.args.needs.now _ _ _ _ _ c.get-in-loop-i.result.now _ c.len-modes.result _ c.components-in-loop-i.ensures.value c.get-in-loop-i.ensures.value c.len-modes.ensures c.get-in-loop-i-2.ensures.value c.as_slice.ensures c.as_slice-in-loop-i.ensures.value c.bound_of-bound.ensures in
+    too_deep m c.args.needs.now c.args.order.now c.components.ensures.well_formed c.requires.needs c.requires.order c.loop-i.bounds.items c.loop-i.sum (c.loop-i.i - 1) c.get.result.now
+    (subst (AreAdded m c.args.needs.now c.args.order.now c.loop-i.bounds.items c.loop-i.sum) (omega (arith, c.loop-i-test.true)) c.loop-i.invariant) (omega (arith, c.loop-i-test.true, c.loop-i.auto.i, c.len-i.ensures))
+    (get_or_from_slice_get c.args.order.now (c.loop-i.i - 1) c.get.result.now 0 c.get.ensures.value)
     (subst (λ b. MAX_BOUND < c.loop-i.sum + b) bound (omega (arith, c.if-bound-sum.true, c.loop-i.invariant.fits)))
 
 pub index_mut-requires : goal.index_mut-requires
@@ -73,20 +66,13 @@ index_mut-requires c =
 pub loop-i-preserved : goal.loop-i-preserved
 loop-i-preserved c =
     let m = c.args.model.now in
-    let rows = c.args.needs.now in
-    let order = c.args.order.now in
-    let at : slice_get m.components c.get.result.now ≡ Some c.get-in-loop-i.result.now = ap (λ l. slice_get l c.get.result.now) (sym c.components-in-loop-i.ensures.value) ∙ c.get-in-loop-i.ensures.value in
-    let row : get_or rows c.get.result.now [] ≡ c.as_slice.result.now = get_or_from_slice_get rows c.get.result.now c.get-in-loop-i-2.result.now [] c.get-in-loop-i-2.ensures.value ∙ sym c.as_slice.ensures in
-    let bound : c.bound_of-bound.result ≡ bound_at (mode_counts m) rows c.loop-i.bounds.items c.get.result.now =
-    bound_is (mode_counts m) rows c.loop-i.bounds.items c.as_slice-in-loop-i.result.now c.as_slice.result.now c.get.result.now c.len-modes.result c.bound_of-bound.result
-    (c.len-modes.ensures ∙ sym (count_at m.components c.get.result.now c.get-in-loop-i.result.now at)) (sym row) c.as_slice-in-loop-i.ensures.value c.bound_of-bound.ensures
-    in
-    let before : c.loop-i.i ≡ c.loop-i.i - 1 + 1 = omega (arith, c.loop-i-test.true) in
-    let fits : c.loop-i.sum + bound_at (mode_counts m) rows c.loop-i.bounds.items c.get.result.now ≤ MAX_BOUND = subst (λ b. c.loop-i.sum + b ≤ MAX_BOUND) bound (omega (arith, c.if-bound-sum.false, c.loop-i.invariant.fits)) in
-    subst (λ b. AreAdded m rows order (set c.loop-i.bounds.items c.get.result.now b) (c.loop-i.sum + b) (c.loop-i.i - 1)) (sym bound)
-    (added_more m rows order c.components.ensures.well_formed c.requires.needs c.requires.order c.loop-i.bounds.items c.loop-i.sum (c.loop-i.i - 1) c.get.result.now
-    (subst (AreAdded m rows order c.loop-i.bounds.items c.loop-i.sum) before c.loop-i.invariant) (omega (arith, c.loop-i-test.true, c.loop-i.auto.i, c.len-i.ensures))
-    (get_or_from_slice_get order (c.loop-i.i - 1) c.get.result.now 0 c.get.ensures.value) fits)
+    let bound : c.bound_of-bound.result ≡ bound_at (mode_counts m) c.args.needs.now c.loop-i.bounds.items c.get.result.now =
+    bound_found m c.args.needs.now _ _ _ _ _ c.get-in-loop-i.result.now _ c.len-modes.result _ c.components-in-loop-i.ensures.value c.get-in-loop-i.ensures.value c.len-modes.ensures c.get-in-loop-i-2.ensures.value c.as_slice.ensures c.as_slice-in-loop-i.ensures.value c.bound_of-bound.ensures in
+    let fits : c.loop-i.sum + bound_at (mode_counts m) c.args.needs.now c.loop-i.bounds.items c.get.result.now ≤ MAX_BOUND = subst (λ b. c.loop-i.sum + b ≤ MAX_BOUND) bound (omega (arith, c.if-bound-sum.false, c.loop-i.invariant.fits)) in
+    subst (λ b. AreAdded m c.args.needs.now c.args.order.now (set c.loop-i.bounds.items c.get.result.now b) (c.loop-i.sum + b) (c.loop-i.i - 1)) (sym bound)
+    (added_more m c.args.needs.now c.args.order.now c.components.ensures.well_formed c.requires.needs c.requires.order c.loop-i.bounds.items c.loop-i.sum (c.loop-i.i - 1) c.get.result.now
+    (subst (AreAdded m c.args.needs.now c.args.order.now c.loop-i.bounds.items c.loop-i.sum) (omega (arith, c.loop-i-test.true)) c.loop-i.invariant) (omega (arith, c.loop-i-test.true, c.loop-i.auto.i, c.len-i.ensures))
+    (get_or_from_slice_get c.args.order.now (c.loop-i.i - 1) c.get.result.now 0 c.get.ensures.value) fits)
 
 pub returns : goal.returns
 returns c =

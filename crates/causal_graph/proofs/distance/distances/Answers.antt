@@ -1,7 +1,7 @@
-use Rattle.std.proofs.Common.{◌≡◌, ◌<◌, ◌++◌, List, ℕ, length, take, drop, subst, ◌∙◌, arith}
+use Rattle.std.proofs.Common.{◌≡◌, ◌<◌, List, ℕ, ◌∙◌, arith}
 use Rattle.std.proofs.lemmas.List.Sums.{count_by-le-length}
 use Rattle.std.specs.Prelude.{◌==◌}
-use Rattle.causal_graph.specs.Search.{IsFarther, unreached}
+use Rattle.causal_graph.specs.Search.{unreached}
 use Rattle.causal_graph.proofs.DistanceLevels.{levelled_direct, levelled_more, levelled_done}
 use Rattle.list_laws.proofs.Elements.{written_back}
 use Rattle.causal_graph.proofs.distance.distances.Goals as goal
@@ -18,25 +18,17 @@ levels-init c =
 pub levels-preserved : goal.levels-preserved
 levels-preserved c =
     let old : List ℕ = c.levels.distances.items in
-    let slice : List ℕ = c.as_mut_slice.result.now in
     let new : List ℕ = c.farther.new.distances in
-    let same : slice ≡ old = c.as_mut_slice.ensures.value in
-    let back : take c.levels.distances.len (new ++ drop (length new) old) ≡ new = written_back c.levels.distances.len old slice new same c.as_mut_slice.ensures.len c.farther.auto.distances in
-    let step : IsFarther c.args.needs.now c.levels.level old new = subst (λ xs. IsFarther c.args.needs.now c.levels.level xs new) same c.farther.ensures.step in
-    let fewer : unreached new < unreached old = subst (λ xs. unreached new < unreached xs) same c.levels-test.ensures.fewer in
-    rw back (record {
-      levelled = levelled_more c.args.needs.now c.args.target old new c.levels.level c.levels.invariant.levelled c.levels.invariant.positive step;
+    let fewer : unreached new < unreached old = rw c.as_mut_slice.ensures.value at c.levels-test.ensures.fewer in
+    rw (written_back c.levels.distances.len old _ new c.as_mut_slice.ensures.value c.as_mut_slice.ensures.len c.farther.auto.distances) (record {
+      levelled = levelled_more c.args.needs.now c.args.target old new c.levels.level c.levels.invariant.levelled c.levels.invariant.positive (rw c.as_mut_slice.ensures.value at c.farther.ensures.step);
       positive = omega arith;
       low = omega (arith, fewer, c.levels.invariant.low);
     })
 
 pub returns : goal.returns
 returns c =
-    let old : List ℕ = c.levels.distances.items in
-    let slice : List ℕ = c.as_mut_slice.result.now in
     let new : List ℕ = c.farther.new.distances in
-    let same : slice ≡ old = c.as_mut_slice.ensures.value in
-    let back : take c.levels.distances.len (new ++ drop (length new) old) ≡ new = written_back c.levels.distances.len old slice new same c.as_mut_slice.ensures.len c.farther.auto.distances in
-    let step : IsFarther c.args.needs.now c.levels.level old new = subst (λ xs. IsFarther c.args.needs.now c.levels.level xs new) same c.farther.ensures.step in
-    let none : new ≡ old = c.levels-test.ensures.fewer ∙ same in
-    rw (back, none) (levelled_done c.args.needs.now c.args.target old new c.levels.level c.levels.invariant.levelled c.levels.invariant.positive step none)
+    let none : new ≡ c.levels.distances.items = c.levels-test.ensures.fewer ∙ c.as_mut_slice.ensures.value in
+    rw (written_back c.levels.distances.len c.levels.distances.items _ new c.as_mut_slice.ensures.value c.as_mut_slice.ensures.len c.farther.auto.distances, none)
+    (levelled_done c.args.needs.now c.args.target c.levels.distances.items new c.levels.level c.levels.invariant.levelled c.levels.invariant.positive (rw c.as_mut_slice.ensures.value at c.farther.ensures.step) none)

@@ -11,28 +11,26 @@ taking-init c = rw c.new-order.ensures (taking_none c.args.needs.now c.in_ok-rem
 
 pub taking-preserved : goal.taking-preserved
 taking-preserved c =
-    let rows = c.args.needs.now in
     let remaining : List ℕ = c.taking.remaining.items in
     let flags : List Bool = c.in_ok-flags.flags.items in
-    let needed : AreNeeded rows remaining flags = subst (λ xs. AreNeeded rows xs flags) c.as_slice.ensures.value c.in_ok-flags.ensures in
+    let needed : AreNeeded c.args.needs.now remaining flags = subst (λ xs. AreNeeded c.args.needs.now xs flags) c.as_slice.ensures.value c.in_ok-flags.ensures in
     let first : IsFirstUnset flags remaining c.in-Some.at =
     subst (λ xs. IsFirstUnset flags xs c.in-Some.at) c.as_slice-in-taking.ensures.value
     (subst (λ fs. IsFirstUnset fs c.as_slice-in-taking.result.now c.in-Some.at) c.as_slice-in-taking-2.ensures.value c.in-Some.ensures)
     in
-    rw (c.remove-c.ensures.items, c.in_ok-push.ensures.ok) (taking_more rows remaining c.taking.order flags c.taking.invariant needed c.in-Some.at c.remove-c.result first c.remove-c.ensures.value)
+    rw (c.remove-c.ensures.items, c.in_ok-push.ensures.ok) (taking_more c.args.needs.now remaining c.taking.order flags c.taking.invariant needed c.in-Some.at c.remove-c.result first c.remove-c.ensures.value)
 
 pub returns-in_default : goal.returns-in_default
 returns-in_default c =
-    let rows = c.args.needs.now in
     let remaining : List ℕ = c.taking.remaining.items in
     let flags : List Bool = c.in_ok-flags.flags.items in
-    let needed : AreNeeded rows remaining flags = subst (λ xs. AreNeeded rows xs flags) c.as_slice.ensures.value c.in_ok-flags.ensures in
+    let needed : AreNeeded c.args.needs.now remaining flags = subst (λ xs. AreNeeded c.args.needs.now xs flags) c.as_slice.ensures.value c.in_ok-flags.ensures in
     let some : 0 < length remaining = omega (arith, eqb-false c.taking.remaining.len 0 (sym c.taking-test.ensures), c.taking.remaining.ok.0) in
     let all : All (IsSet flags) remaining =
     subst (λ xs. All (IsSet flags) xs) c.as_slice-in-taking.ensures.value
     (subst (λ fs. All (IsSet fs) c.as_slice-in-taking.result.now) c.as_slice-in-taking-2.ensures.value c.in_default.ensures)
     in
-    taking_stuck rows remaining c.taking.order flags c.taking.invariant needed some all
+    taking_stuck c.args.needs.now remaining c.taking.order flags c.taking.invariant needed some all
 
 pub returns : goal.returns
 returns c = taking_all c.args.needs.now c.taking.remaining.items c.taking.order (omega (arith, eqb-true c.taking.remaining.len 0 (sym c.taking-test.ensures), c.taking.remaining.ok.0)) c.taking.invariant

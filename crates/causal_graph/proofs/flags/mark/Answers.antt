@@ -12,13 +12,9 @@ loop-u-init c = marked_none c.args.row.now c.args.flags.now
 
 pub loop-u-preserved : goal.loop-u-preserved
 loop-u-preserved c =
-    let row = c.args.row.now in
-    let old = c.args.flags.now in
-    let now = c.loop-u.flags in
-    let i = c.loop-u.u-index in
     elim c.if-not-flags-at.branch [
-      | then-not-flags-at w ↦ rw (w.flags-is, w.fresh-is) (marked_new row old now c.loop-u.fresh i c.loop-u.invariant c.loop-u-test.true (omega (arith, c.requires i 0 c.loop-u-test.true, c.loop-u.auto.flags)) w.if-not-flags-at.true)
-      | else-not-flags-at w ↦ rw (w.flags-is, w.fresh-is) (marked_old row old now c.loop-u.fresh i c.loop-u.invariant c.loop-u-test.true w.if-not-flags-at.false)
+      | then-not-flags-at w ↦ rw (w.flags-is, w.fresh-is) (marked_new c.args.row.now c.args.flags.now c.loop-u.flags c.loop-u.fresh c.loop-u.u-index c.loop-u.invariant c.loop-u-test.true (omega (arith, c.requires c.loop-u.u-index 0 c.loop-u-test.true, c.loop-u.auto.flags)) w.if-not-flags-at.true)
+      | else-not-flags-at w ↦ rw (w.flags-is, w.fresh-is) (marked_old c.args.row.now c.args.flags.now c.loop-u.flags c.loop-u.fresh c.loop-u.u-index c.loop-u.invariant c.loop-u-test.true w.if-not-flags-at.false)
     ]
 
 module _ (c : goal.After-loop-u) where

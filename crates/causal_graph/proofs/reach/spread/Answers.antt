@@ -11,19 +11,16 @@ pub loop-c-preserved : goal.loop-c-preserved
 loop-c-preserved c =
     let rows = c.args.needs.now in
     let old = c.args.flags.now in
-    let now = c.loop-c.flags in
-    let fresh = c.loop-c.fresh in
     let i = c.loop-c.c in
-    let h = c.loop-c.invariant in
     elim c.if-flags-c.branch [
       | then-flags-c+then-mark w ↦
           let row : get_or rows i [] ≡ w.as_slice.result.now = get_or_from_slice_get rows i w.get.result.now [] w.get.ensures.value ∙ sym w.as_slice.ensures in
-          rw (w.flags-is, w.fresh-is) (spread_new rows old now fresh i h w.as_slice.result.now w.mark.new.flags row w.if-flags-c.true w.mark.ensures.marks w.mark.ensures.narrow w.if-mark.ensures.fresh)
+          rw (w.flags-is, w.fresh-is) (spread_new rows old c.loop-c.flags c.loop-c.fresh i c.loop-c.invariant w.as_slice.result.now w.mark.new.flags row w.if-flags-c.true w.mark.ensures.marks w.mark.ensures.narrow w.if-mark.ensures.fresh)
       | else-flags-c w ↦ elim w.else-flags-c.branch [
         | else-flags-c-via-then-flags-c+else-mark w2 ↦
             let row : get_or rows i [] ≡ w2.as_slice.result.now = get_or_from_slice_get rows i w2.get.result.now [] w2.get.ensures.value ∙ sym w2.as_slice.ensures in
-            rw (w.flags-is, w.fresh-is, w2.flags-is) (spread_same rows old now fresh i h w2.as_slice.result.now w2.mark.new.flags row w2.if-flags-c.true w2.mark.ensures.marks w2.mark.ensures.narrow w2.if-mark.ensures.fresh)
-        | else-flags-c-via-else-flags-c w2 ↦ rw (w.flags-is, w.fresh-is, w2.flags-is) (spread_no rows old now fresh i h w2.if-flags-c.false)
+            rw (w.flags-is, w.fresh-is, w2.flags-is) (spread_same rows old c.loop-c.flags c.loop-c.fresh i c.loop-c.invariant w2.as_slice.result.now w2.mark.new.flags row w2.if-flags-c.true w2.mark.ensures.marks w2.mark.ensures.narrow w2.if-mark.ensures.fresh)
+        | else-flags-c-via-else-flags-c w2 ↦ rw (w.flags-is, w.fresh-is, w2.flags-is) (spread_no rows old c.loop-c.flags c.loop-c.fresh i c.loop-c.invariant w2.if-flags-c.false)
       ]
     ]
 

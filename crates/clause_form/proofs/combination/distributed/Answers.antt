@@ -2,7 +2,7 @@ use Rattle.std.proofs.Common.{◌<◌, ◌&&◌, ◌||◌, length, take, ap, ◌
 use Rattle.std.proofs.lemmas.List.Folds.{list_all_more}
 use Rattle.clause_form.specs.declared.clause.Clause.{Clause}
 use Rattle.clause_form.specs.Clauses.{AreOthers, all_met, meets}
-use Rattle.clause_form.proofs.ClauseLaws.{rows_step}
+use mathlib.Core.Bool.{or-and_distrib_right}
 use Rattle.clause_form.proofs.combination.distributed.Goals as goal
 
 pub loop-clause-preserved : goal.loop-clause-preserved
@@ -15,7 +15,7 @@ loop-clause-preserved c =
       met = λ xs h.
           let others = all_met xs c.args.more.now in
           c.in_ok-out.ensures.met xs h ∙ ap (λ k. k && (meets xs clause || others)) (c.loop-clause.invariant.met xs h)
-          ∙ rows_step (all_met xs (take i clauses)) (meets xs clause) others
+          ∙ sym (or-and_distrib_right (all_met xs (take i clauses)) (meets xs clause) others)
           ∙ ap (λ z. (all_met xs (take i clauses) && meets xs z) || others) c.clause-item.is
           ∙ ap (λ k. k || others) (sym (list_all_more (meets xs) clauses i clause inside));
       below = c.in_ok-out.ensures.below;

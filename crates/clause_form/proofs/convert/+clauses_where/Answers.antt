@@ -8,14 +8,11 @@ use Rattle.clause_form.proofs.convert.+clauses_where.Goals as goal
 
 pub returns-in_ok-second-in-Implies-clause-means : goal.returns-in_ok-second-in-Implies-clause-means
 returns-in_ok-second-in-Implies-clause-means t c =
-    let n = c.args.components in
-    let sizes = c.args.sizes.now in
-    let f = c.args.formula.now in
     let a = c.get-in-Implies.result.now in
     let b = c.get-in-Implies-2.result.now in
     IfOk-weaker c.combined-in-Implies.result _ _
-    (λ r says. means_implies n sizes f a b c.args.wanted c.in_ok-first-in-Implies.first.items c.in_ok-second-in-Implies.second.items r.items
-    (λ modes values. truth_implies modes values f a b (c.in-Implies.is ∙ (ap (λ x. Implies x c.in-Implies.b) (sym c.get-in-Implies.ensures) ∙ ap (λ y. Implies a y) (sym c.get-in-Implies-2.ensures))))
+    (λ r says. means_implies c.args.components c.args.sizes.now c.args.formula.now a b c.args.wanted c.in_ok-first-in-Implies.first.items c.in_ok-second-in-Implies.second.items r.items
+    (λ modes values. truth_implies modes values c.args.formula.now a b (c.in-Implies.is ∙ (ap (λ x. Implies x c.in-Implies.b) (sym c.get-in-Implies.ensures) ∙ ap (λ y. Implies a y) (sym c.get-in-Implies-2.ensures))))
     c.in_ok-first-in-Implies.ensures.means c.in_ok-second-in-Implies.ensures.means says)
     c.combined-in-Implies.ensures.met
 

@@ -1,11 +1,13 @@
-use Rattle.std.proofs.Common.{◌≤◌, All, subst, sym, ◌∙◌}
+use Rattle.std.proofs.Common.{◌≡◌, ◌≤◌, ◌++◌, All, length, ap, subst, sym, ◌∙◌, arith}
+use Rattle.std.proofs.lemmas.List.{take_all}
 use Rattle.cca_base.specs.declared.limits.TheConstants.{MAX_CHOICES}
-use Rattle.clause_form.proofs.ModelSizes.{counts_few, counts_are}
+use Rattle.cca_base.specs.Model.{mode_counts, value_counts}
+use Rattle.clause_form.proofs.ModelSizes.{counts_few, subjects_counted}
 use Rattle.clause_form.proofs.sizes.sizes_of.Goals as goal
 
-pub returns-clause-few : goal.returns-clause-few
-returns-clause-few c =
-    subst (All (λ n. n ≤ MAX_CHOICES))
-    (sym (counts_are c.args.model.now _ _ _ _ _ c.new-sizes.ensures c.in_ok-add_mode_counts.ensures (c.as_slice.ensures ∙ c.components.ensures.value)
-    c.in_ok-add_value_counts.ensures (c.as_slice-2.ensures ∙ c.variables.ensures.value)))
-    (counts_few c.args.model.now c.components.ensures.well_formed)
+pub invariant_of-result : goal.invariant_of-result
+invariant_of-result c =
+    let m = c.args.model.now in
+    let whole : c.loop-subject.counts ≡ mode_counts m ++ value_counts m = c.loop-subject.invariant ∙ take_all c.loop-subject.subject (mode_counts m ++ value_counts m)
+    (omega (arith, subjects_counted m, c.loop-subject-test.false, c.len.ensures, c.len-2.ensures, ap length c.components.ensures.value, ap length c.variables.ensures.value)) in
+    subst (All (λ n. n ≤ MAX_CHOICES)) (sym whole) (counts_few m c.components.ensures.well_formed)

@@ -14,5 +14,5 @@ returns-then-is_within c h xs values =
     let inside : at < length all = omega arith in
     let below : literal.subject < length c.args.sizes.now = subst (λ (l : Literal). l.subject < length c.args.sizes.now) (sym c.literal-item.is) (c.requires.below at literal inside) in
     let small = values.values literal.subject below in
-    let holds : is_true xs literal ≡ true = within c.full-all.result literal.values (slice_index xs literal.subject) (sym c.is_within.ensures ∙ c.if-is_within.true) (c.full-all.ensures.members (slice_index xs literal.subject) ∙ lt-ltb (slice_index xs literal.subject) (slice_index c.args.sizes.now literal.subject) small) in
+    let holds : is_true xs literal ≡ true = within c.full-all.result literal.values (slice_index xs literal.subject) (sym c.is_within.ensures ∙ c.if-is_within.true) (c.full-all.ensures.members (slice_index xs literal.subject) ∙ lt-ltb (slice_index xs literal.subject) c.get.result (subst (λ n. slice_index xs literal.subject < n) (sym c.get.ensures.value) small)) in
     list_any_at (is_true xs) all at literal inside (subst (λ (l : Literal). is_true xs l ≡ true) c.literal-item.is holds)

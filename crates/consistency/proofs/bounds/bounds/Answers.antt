@@ -1,5 +1,5 @@
 use Rattle.std.proofs.Common.{◌≡◌, ◌∙◌, List, ℕ, length, drop, arith, ap, subst, sym, refl}
-use Rattle.consistency.specs.Bounds.{AreBounds, AreIn}
+use Rattle.consistency.specs.Bounds.{HoldSolutions, AreIn}
 use Rattle.consistency.proofs.SearchFrom.{written}
 use Rattle.consistency.proofs.bounds.bounds.Goals as goal
 
@@ -11,7 +11,7 @@ returns c =
     let fresh : List ℕ = c.narrow_whole.new.sets in
     let old : c.deref_mut.result.now ≡ base = c.deref_mut.ensures.value ∙ c.in_ok-sets.ensures.items in
     let after = written c.in_ok-sets.sets.len _ fresh (drop (length fresh) made) refl (omega (arith, c.deref_mut.ensures.len)) in
-    subst (AreBounds clauses base) (sym after) (record {
+    subst (HoldSolutions clauses base) (sym after) (record {
       full = omega (arith, ap length old);
       within = λ xs h. c.in_ok-narrow_whole.ensures xs h.met (subst (λ (sets : List ℕ). AreIn sets xs) (sym old) h.within);
     })

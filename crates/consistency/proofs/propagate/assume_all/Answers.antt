@@ -3,10 +3,10 @@ use Rattle.consistency.specs.Search.{AllMet, IsClashOfAll}
 use Rattle.consistency.proofs.propagate.assume_all.Goals as goal
 
 pub returns-in-Some-clause-keeps : goal.returns-in-Some-clause-keeps
-returns-in-Some-clause-keeps c chosen xs met knows = c.in_ok-because.ensures.keeps (record { base = c.args.base.now; chosen = chosen }) xs (subst (AllMet xs) (sym c.as_slice.ensures) met) knows
+returns-in-Some-clause-keeps c chosen xs met knows = c.in_ok-because.ensures.keeps (record { base = c.args.base.now; chosen = chosen }) xs (subst (AllMet xs) (sym c.as_slice-clauses.ensures) met) knows
 
 pub loop-subject-init : goal.loop-subject-init
-loop-subject-init c chosen xs met knows = c.in_ok-because.ensures.keeps (record { base = c.args.base.now; chosen = chosen }) xs (subst (AllMet xs) (sym c.as_slice.ensures) met) knows
+loop-subject-init c chosen xs met knows = c.in_ok-because.ensures.keeps (record { base = c.args.base.now; chosen = chosen }) xs (subst (AllMet xs) (sym c.as_slice-clauses.ensures) met) knows
 
 pub returns-in-Some-2-clause-keeps : goal.returns-in-Some-2-clause-keeps
 returns-in-Some-2-clause-keeps c chosen xs met knows =

@@ -23,8 +23,7 @@ search_from-returns-in-Found t c =
     let p = c.args.prefix.now in
     let clauses = c.args.problem.now.clauses in
     let base = c.args.base.now in
-    let room : length p < length c.args.domains.now = omega arith in
-    found clauses base c.requires.proper.few p c.args.domains.now c.loop-value.conflict_set c.loop-value.value c.requires.known room c.loop-value.invariant.blamed c.loop-value.invariant.tried _ c.requires.full
+    found clauses base c.requires.proper.few p c.args.domains.now c.loop-value.conflict_set c.loop-value.value c.requires.known (omega arith) c.loop-value.invariant.blamed c.loop-value.invariant.tried _ c.requires.full
     (subst (IsSearchResult clauses base (p ++ c.loop-value.value ∷ [])) c.in-Found.is c.in_ok-found.ensures)
 
 pub search_from-returns-then-not-has_subject : goal.search_from-returns-then-not-has_subject

@@ -5,8 +5,8 @@ use Rattle.consistency.specs.Search.{IsFirst, IsSolution}
 use Rattle.consistency.proofs.Firsts.{none_fits, first_split}
 use Rattle.consistency.proofs.worlds.first_found.Goals as goal
 
-pub returns-in-Some-clause-some : goal.returns-in-Some-clause-some
-returns-in-Some-clause-some c denied of =
+pub returns-in-Some : goal.returns-in-Some
+returns-in-Some c denied of =
     let p = c.args.problem.now in
     let n : c.len-components.result ≡ length c.args.model.now.components = c.len-components.ensures ∙ ap length c.components.ensures.value in
     let base : IsBase p.sizes c.len-components.result c.args.modes.now c.args.seen.now c.in_ok-base.base.items = subst (λ k. IsBase p.sizes k c.args.modes.now c.args.seen.now c.in_ok-base.base.items) (sym n) c.in_ok-base.ensures.base in
@@ -15,8 +15,8 @@ returns-in-Some-clause-some c denied of =
     _ c.as_slice-in-Some.result.now _ _ c.as_slice-in-Some.ensures c.in_ok-split-in-Some.ensures.modes c.in_ok-split-in-Some.ensures.values
     (subst (λ (b : List ℕ). IsFirst p.clauses b c.in-Some.values) c.as_slice.ensures.value (subst (λ o. IfSome o (IsFirst p.clauses c.as_slice.result.now)) c.in-Some.is c.in_ok-values.ensures.some))
 
-pub returns-clause-none : goal.returns-clause-none
-returns-clause-none c denied of e =
+pub returns : goal.returns
+returns c denied of =
     let p = c.args.problem.now in
     let n : c.len-components.result ≡ length c.args.model.now.components = c.len-components.ensures ∙ ap length c.components.ensures.value in
     let base : IsBase p.sizes c.len-components.result c.args.modes.now c.args.seen.now c.in_ok-base.base.items = subst (λ k. IsBase p.sizes k c.args.modes.now c.args.seen.now c.in_ok-base.base.items) (sym n) c.in_ok-base.ensures.base in

@@ -1,4 +1,4 @@
-use Rattle.std.proofs.Common.{◌≡◌, ◌∙◌, ℕ, List, subst}
+use Rattle.std.proofs.Common.{◌≡◌, ◌∙◌, List, subst}
 use Rattle.clause_form.specs.declared.clause.Clause.{Clause}
 use Rattle.elimination.specs.Projection.{AreProjected}
 use Rattle.elimination.proofs.KeptSubjects.{projection}
@@ -11,6 +11,5 @@ returns-clause-exact c =
     let projected = c.in_ok-projected.projected.items in
     let given : c.in_ok-all.all.items ≡ all.clauses = c.in_ok-all.ensures ∙ c.as_slice.ensures in
     let is : AreProjected all.sizes keep all.clauses projected =
-    subst (λ (z : List Clause). AreProjected all.sizes keep z projected) given
-    (subst (λ (z : List ℕ). AreProjected z keep c.in_ok-all.all.items projected) c.as_slice-2.ensures c.in_ok-projected.ensures) in
-    projection all keep projected (record { sizes = c.in_ok-sizes.sizes; clauses = c.in_ok-clauses.clauses }) c.requires.keep is (rw c.as_slice-3.ensures at c.in_ok-clauses.ensures.met)
+    subst (λ (z : List Clause). AreProjected all.sizes keep z projected) given c.in_ok-projected.ensures in
+    projection all keep projected (record { sizes = c.in_ok-sizes.sizes; clauses = c.in_ok-clauses.clauses }) c.requires.keep is c.in_ok-clauses.ensures.met

@@ -1,4 +1,4 @@
-use Rattle.std.proofs.Common.{◌≡◌, ◌∙◌, ℕ, List, Bool, Option, true, false, length, ap, sym, subst, length-set, MatchOption}
+use Rattle.std.proofs.Common.{◌≡◌, ◌∙◌, ℕ, List, Bool, Option, true, false, length, ap, sym, subst, length-set, replicate, MatchOption}
 use Rattle.std.proofs.Common.{Some, None}
 use Rattle.std.proofs.lemmas.List.{length-replicate}
 use Rattle.elimination.specs.Projection.{AreAllDone, IsLeft}
@@ -15,13 +15,16 @@ is_left c =
     (subst (λ (z : List Bool). IsLeft sizes keep z c.in-Some.subject) c.deref-in-subjects.ensures.value (of_some c.in_ok-subject.field-0 c.in-Some.subject c.in-Some.is c.in_ok-subject.ensures))
 
 pub subjects-init : goal.subjects-init
-subjects-init c = record {
-  full = ap length c.in_ok-marks.ensures ∙ length-replicate (length c.args.sizes.now) false;
-  above = λ x h. absurd (none_marked (length c.args.sizes.now) x (rw c.in_ok-marks.ensures at h));
-  gone = λ x h. absurd (none_marked (length c.args.sizes.now) x (rw c.in_ok-marks.ensures at h));
-  exact = rw c.in_ok-marks.ensures (none_projected c.args.sizes.now (length c.args.sizes.now) c.args.clauses.items);
-  below = c.requires.below;
-}
+subjects-init c =
+    let n = length c.args.sizes.now in
+    let made : c.in_ok-marks.marks.items ≡ replicate n false = c.in_ok-marks.ensures ∙ ap (λ k. replicate k false) c.len.ensures in
+    record {
+      full = ap length made ∙ length-replicate n false;
+      above = λ x h. absurd (none_marked n x (rw made at h));
+      gone = λ x h. absurd (none_marked n x (rw made at h));
+      exact = rw made (none_projected c.args.sizes.now n c.args.clauses.items);
+      below = c.requires.below;
+    }
 
 pub subjects-preserved : goal.subjects-preserved
 subjects-preserved c =

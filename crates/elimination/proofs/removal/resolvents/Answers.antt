@@ -22,9 +22,13 @@ loop-value-preserved c =
       names = λ y h. c.in_ok-all-2.ensures.names y (c.loop-value.invariant.names y h) (c.in_ok-rest.ensures.names y h);
     }
 
-pub returns-clause-met : goal.returns-clause-met
-returns-clause-met c xs h =
-    let size = get_or c.args.sizes.now c.args.subject 0 in
-    let test : ℕ → Bool = λ n. all_met (set xs c.args.subject n) c.args.clauses.now in
-    let done : c.loop-value.value ≡ size = omega (arith, c.loop-value-test.false, c.loop-value.auto) in
-    c.loop-value.invariant.met xs h ∙ ap (λ n. any_below n test) done
+pub returns : goal.returns
+returns c = record {
+  met = λ xs h.
+      let test : ℕ → Bool = λ n. all_met (set xs c.args.subject n) c.args.clauses.now in
+      let done : c.loop-value.value ≡ get_or c.args.sizes.now c.args.subject 0 = omega (arith, c.get-value-end.ensures.value, c.loop-value-test.false, c.loop-value.auto) in
+      c.loop-value.invariant.met xs h ∙ ap (λ n. any_below n test) done;
+  below = c.loop-value.invariant.below;
+  gone = c.loop-value.invariant.gone;
+  names = c.loop-value.invariant.names;
+}

@@ -1,6 +1,5 @@
 use Rattle.std.proofs.Common.{◌≡◌, ◌==◌, ◌&&◌, ℕ, Bool, List, not, length, filter, ap, ◌∙◌, sym, subst, set, get_or}
 use Rattle.std.proofs.lemmas.List.Elements.{All-filter}
-use Rattle.std.proofs.lemmas.Result.{IfOk-weaker}
 use Rattle.clause_form.specs.declared.clause.Clause.{Clause}
 use Rattle.clause_form.specs.Clauses.{AllOthers, AreBelow, AreOthers, AreValues, all_met, meets, names_one, any_below}
 use Rattle.clause_form.proofs.SomeValue.{any_same, any_and}
@@ -41,29 +40,16 @@ module _ (sizes : List ℕ) (x : ℕ) (clauses left named more : List Clause) (i
       says xs h ∙ ap (λ b. all_met xs left && b) (met xs h) ∙ sym (any_and n (all_met xs left) (λ v. all_met (set xs x v) named))
       ∙ any_same n _ _ (parted xs)
 
-named_are : (c : goal.After-drop-named-2) → c.deref-2.result.now ≡ filter (names_one (λ u. u == c.args.subject)) c.args.clauses.items
-named_are c = c.deref-2.ensures.value ∙ c.in_ok-named.ensures ∙ ap (filter (names_one (λ u. u == c.args.subject))) c.deref.ensures.value
-
-pub returns-clause-met : goal.returns-clause-met
-returns-clause-met c =
-    IfOk-weaker c.combined.result _ _
-    (λ r says. all_without c.args.sizes.now c.args.subject c.args.clauses.items c.keep_others.new.clauses.items c.deref-2.result.now c.in_ok-more.more.items c.keep_others.ensures (named_are c)
-    c.in_ok-more.ensures.met r.items says)
-    c.combined.ensures.met
-
-pub returns-clause-gone : goal.returns-clause-gone
-returns-clause-gone c =
+pub returns : goal.returns
+returns c =
     let x = c.args.subject in
-    IfOk-weaker c.combined.result _ _
-    (λ r names. names x (subst (AllOthers x) (sym c.keep_others.ensures) (others_unnamed x c.args.clauses.items)) c.in_ok-more.ensures.gone)
-    c.combined.ensures.names
-
-pub returns-clause-names : goal.returns-clause-names
-returns-clause-names c =
-    let x = c.args.subject in
-    IfOk-weaker c.combined.result _ _
-    (λ r names y h. names y
-    (subst (AllOthers y) (sym c.keep_others.ensures) (All-filter (λ z. not (names_one (λ u. u == x) z)) (λ (z : Clause). AreOthers y z.literals) c.args.clauses.items h))
-    (c.in_ok-more.ensures.names y
-    (subst (AllOthers y) (sym (named_are c)) (All-filter (names_one (λ u. u == x)) (λ (z : Clause). AreOthers y z.literals) c.args.clauses.items h))))
-    c.combined.ensures.names
+    let clauses = c.args.clauses.items in
+    let named : c.deref-2.result.now ≡ filter (names_one (λ u. u == x)) clauses = c.deref-2.ensures.value ∙ c.in_ok-named.ensures ∙ ap (filter (names_one (λ u. u == x))) c.deref.ensures.value in
+    record {
+      met = all_without c.args.sizes.now x clauses c.keep_others.new.clauses.items c.deref-2.result.now c.in_ok-more.more.items c.keep_others.ensures named c.in_ok-more.ensures.met c.in_ok-rest.rest.items c.in_ok-rest.ensures.met;
+      below = c.in_ok-rest.ensures.below;
+      gone = c.in_ok-rest.ensures.names x (subst (AllOthers x) (sym c.keep_others.ensures) (others_unnamed x clauses)) c.in_ok-more.ensures.gone;
+      names = λ y h. c.in_ok-rest.ensures.names y
+          (subst (AllOthers y) (sym c.keep_others.ensures) (All-filter (λ z. not (names_one (λ u. u == x) z)) (λ (z : Clause). AreOthers y z.literals) clauses h))
+          (c.in_ok-more.ensures.names y (subst (AllOthers y) (sym named) (All-filter (names_one (λ u. u == x)) (λ (z : Clause). AreOthers y z.literals) clauses h)));
+    }

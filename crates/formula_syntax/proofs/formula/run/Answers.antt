@@ -7,7 +7,7 @@ use Rattle.formula_syntax.proofs.formula.run.Goals as goal
 use Rattle.formula_syntax.proofs.formula.run.Goals.{in-Some, in-None+in_ok-next-in-None+in-Some-2}
 
 pub returns-in-None-2 : goal.returns-in-None-2
-returns-in-None-2 c = let h = rw c.in-None-2.is at c.in_ok-next-in-None.ensures in running_stops c.tokens.invariant _ c.tokens-test.true h
+returns-in-None-2 c = let h = rw (c.in-None-2.is, c.model.ensures) at c.in_ok-next-in-None.ensures in running_stops c.tokens.invariant _ c.tokens-test.true h
 
 pub tokens-preserved : goal.tokens-preserved
 tokens-preserved c =
@@ -16,7 +16,7 @@ tokens-preserved c =
           let moves = place_moves c.args.strict c.args.model.now (state_of c.tokens.machine) _ w.in-Some.place (sym c.place_behind.ensures ∙ w.in-Some.is) in
           rw w.machine-is (running_goes_on c.tokens.invariant _ c.tokens-test.true _ (sym moves))
       | in-None+in_ok-next-in-None+in-Some-2 w ↦
-          let h = rw w.in-Some-2.is at w.in_ok-next-in-None.ensures in
+          let h = rw (w.in-Some-2.is, w.model.ensures) at w.in_ok-next-in-None.ensures in
           rw w.machine-is (running_goes_on c.tokens.invariant _ c.tokens-test.true _ h)
     ]
 

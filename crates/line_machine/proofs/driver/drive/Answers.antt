@@ -11,9 +11,11 @@ returns g c =
       order = c.drive_lines.ensures.driven;
       text = told_tells m c.args.machine.now fixed _ _ _ _ c.drive_lines.result c.drive_lines.ensures.driven.driven;
       ends = told_ends m c.args.machine.now fixed _ _ _ c.drive_lines.result (told_tells m c.args.machine.now fixed _ _ _ _ c.drive_lines.result c.drive_lines.ensures.driven.driven);
-      read = c.drive_lines.ensures.read;
-      write = c.drive_lines.ensures.write;
-      quiet_read = c.drive_lines.ensures.quiet_read;
-      quiet_write = c.drive_lines.ensures.quiet_write;
-      complete = only_memory c.drive_lines.result _ _ c.drive_lines.ensures.read c.drive_lines.ensures.write;
+      faults = record {
+        read = c.drive_lines.ensures.read;
+        write = c.drive_lines.ensures.write;
+        quiet_read = c.drive_lines.ensures.quiet_read;
+        quiet_write = c.drive_lines.ensures.quiet_write;
+        complete = only_memory c.drive_lines.result _ _ c.drive_lines.ensures.read c.drive_lines.ensures.write;
+      };
     }

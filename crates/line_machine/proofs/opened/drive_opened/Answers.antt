@@ -1,6 +1,6 @@
 use Rattle.std.proofs.Common.{◌≡◌, IfOk, subst}
 use Rattle.line_machine.specs.IsDriven.{IsDriven}
-use Rattle.line_machine.proofs.NotOpened.{not_opened}
+use Rattle.line_machine.proofs.NotOpened.{not_opened, no_fault}
 use Rattle.line_machine.proofs.opened.drive_opened.Goals as goal
 
 pub returns-in-Ok-clause-driven : goal.returns-in-Ok-clause-driven
@@ -11,3 +11,6 @@ returns-in-Ok-clause-driven g c first is =
 
 pub returns-in-Err-clause-driven : goal.returns-in-Err-clause-driven
 returns-in-Err-clause-driven g c first is = not_opened g.M.Machine first (g.I.Intake.left c.args.source.now) (g.K.Sink.written c.args.sink.now) (g.I.Intake.calls c.args.source.now)
+
+pub returns-in-Err-clause-faults : goal.returns-in-Err-clause-faults
+returns-in-Err-clause-faults g c = no_fault (g.I.Intake.faults c.args.source.now) (g.K.Sink.faults c.args.sink.now)

@@ -3,7 +3,7 @@ use Rattle.std.proofs.lemmas.Result.{IfOk-weaker}
 use Rattle.cca_base.specs.declared.choice.Choice.{Choice}
 use Rattle.cca_base.specs.PlantModel.{PlantModel}
 use Rattle.cca_base.specs.State.{IsState}
-use Rattle.cost_search.specs.Search.{IsChosen, Searched}
+use Rattle.cost_search.specs.Search.{IsPicked, Searched}
 use Rattle.mode_estimator.specs.First.{IsFirstShown}
 use Rattle.mode_estimator.specs.Estimated.{IsEstimate}
 use Rattle.mode_estimator.proofs.ChosenState.{chosen_state, estimated}
@@ -14,7 +14,7 @@ first_shown-requires-clause-chosen c t cost h =
     let rows = ap (λ (v : Searched). v.rows) c.in_ok-states.ensures in
     subst (λ (m : PlantModel). IsState m t) (sym c.model-model.ensures.value)
     (chosen_state c.args.compiled.now.model c.args.state.now.modes c.args.command c.in_ok-rows.rows.rows c.in_ok-rows.ensures t cost
-    (subst (λ (r : List (List Choice)). IsChosen r t cost) rows h))
+    (subst (λ (r : List (List Choice)). IsPicked r t cost) rows h))
 
 pub returns : goal.returns
 returns c =

@@ -2,7 +2,7 @@ use Rattle.model_form.proofs.AtScript.{begun, not_begun}
 use Rattle.model_form.proofs.with_model.at_script.Goals as goal
 
 pub returns-in-Ok-clause-begins : goal.returns-in-Ok-clause-begins
-returns-in-Ok-clause-begins g c = begun g.F.ModelForm g.B.Machine c.args.form.now c.args.model c.args.number c.in-Ok.compiled c.begin.result c.in-Ok.ensures.compiled c.begin.ensures.begins
+returns-in-Ok-clause-begins g c = begun g.F.ModelForm g.B.Machine c.args.form.now c.args.model c.args.number c.new.result c.in-Ok.compiled c.new.ensures c.begin.result c.in-Ok.ensures.compiled c.begin.ensures.begins
 
 pub returns-in_ok-said-in-Err-clause-begins : goal.returns-in_ok-said-in-Err-clause-begins
 returns-in_ok-said-in-Err-clause-begins g c =

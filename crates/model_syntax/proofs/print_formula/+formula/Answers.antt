@@ -1,6 +1,5 @@
 use Rattle.model_syntax.specs.Printing.{said, part_said, formula_said}
-use Rattle.std.proofs.Common.{codes, ap, sym, ◌∙◌}
-use Rattle.cca_base.specs.declared.formula.Formula.TheVariants.{Implies, Iff}
+use Rattle.std.proofs.Common.{codes}
 use Rattle.text_base.specs.Lexemes.{word}
 use Rattle.model_syntax.proofs.PrintedTokens.{bare_done, enclosed_done, formulas_go_on, linked_done, implies_said, iff_said}
 use Rattle.model_syntax.proofs.print_formula.+formula.Goals as goal
@@ -26,18 +25,12 @@ formula-loop-k-2-preserved t c =
 
 pub formula-returns-in_ok-part-in-Implies-2 : goal.formula-returns-in_ok-part-in-Implies-2
 formula-returns-in_ok-part-in-Implies-2 t c =
-    let a = c.get-in-Implies.result.now in
-    let b = c.get-in-Implies-2.result.now in
-    let is = c.in-Implies.is ∙ (ap (λ x. Implies x c.in-Implies.b) (sym c.get-in-Implies.ensures) ∙ ap (λ y. Implies a y) (sym c.get-in-Implies-2.ensures)) in
-    linked_done c.args.out.now c.part-in-Implies.new.out c.word-in-Implies.new.self c.part-in-Implies-2.new.out (part_said 2 (said c.args.model.now a)) (part_said 2 (said c.args.model.now b))
+    linked_done c.args.out.now c.part-in-Implies.new.out c.word-in-Implies.new.self c.part-in-Implies-2.new.out (part_said 2 (said c.args.model.now c.get-in-Implies.result.now)) (part_said 2 (said c.args.model.now c.get-in-Implies-2.result.now))
     (formula_said c.args.model.now c.args.whole.now) (word (codes "implies")) c.in_ok-part-in-Implies.ensures c.in_ok-word-in-Implies.ensures c.in_ok-part-in-Implies-2.ensures
-    (implies_said c.args.model.now c.args.whole.now a b is)
+    (implies_said c.args.model.now c.args.whole.now _ _ _ _ c.in-Implies.is c.get-in-Implies.ensures c.get-in-Implies-2.ensures)
 
 pub formula-returns-in_ok-part-in-Iff-2 : goal.formula-returns-in_ok-part-in-Iff-2
 formula-returns-in_ok-part-in-Iff-2 t c =
-    let a = c.get-in-Iff.result.now in
-    let b = c.get-in-Iff-2.result.now in
-    let is = c.in-Iff.is ∙ (ap (λ x. Iff x c.in-Iff.b) (sym c.get-in-Iff.ensures) ∙ ap (λ y. Iff a y) (sym c.get-in-Iff-2.ensures)) in
-    linked_done c.args.out.now c.part-in-Iff.new.out c.word-in-Iff.new.self c.part-in-Iff-2.new.out (part_said 2 (said c.args.model.now a)) (part_said 2 (said c.args.model.now b))
+    linked_done c.args.out.now c.part-in-Iff.new.out c.word-in-Iff.new.self c.part-in-Iff-2.new.out (part_said 2 (said c.args.model.now c.get-in-Iff.result.now)) (part_said 2 (said c.args.model.now c.get-in-Iff-2.result.now))
     (formula_said c.args.model.now c.args.whole.now) (word (codes "iff")) c.in_ok-part-in-Iff.ensures c.in_ok-word-in-Iff.ensures c.in_ok-part-in-Iff-2.ensures
-    (iff_said c.args.model.now c.args.whole.now a b is)
+    (iff_said c.args.model.now c.args.whole.now _ _ _ _ c.in-Iff.is c.get-in-Iff.ensures c.get-in-Iff-2.ensures)

@@ -9,7 +9,7 @@ use Rattle.plan_checker.proofs.cost.has_cost.Goals as goal
 
 pub returns-in-Some : goal.returns-in-Some
 returns-in-Some c =
-    let m : PlantModel = c.args.model.now in
+    let m : PlantModel = c.args.rules.now.model.now in
     let s : List ℕ = c.args.last.now.modes in
     let s2 : List ℕ = c.args.state.now.modes in
     let k : Option ℕ = c.args.command in
@@ -23,7 +23,7 @@ returns-in-Some c =
 
 pub returns : goal.returns
 returns c =
-    let m : PlantModel = c.args.model.now in
+    let m : PlantModel = c.args.rules.now.model.now in
     let s : List ℕ = c.args.last.now.modes in
     let s2 : List ℕ = c.args.state.now.modes in
     let k : Option ℕ = c.args.command in

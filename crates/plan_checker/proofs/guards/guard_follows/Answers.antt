@@ -8,14 +8,14 @@ use Rattle.plan_checker.proofs.guards.guard_follows.Goals as goal
 
 pub follows-requires-clause-modes : goal.follows-requires-clause-modes
 follows-requires-clause-modes c =
-    support_modes c.args.model.now c.args.state.now.modes c.args.step.now.component c.in_ok-modes.modes c.requires.state c.in_ok-modes.ensures
+    support_modes c.args.rules.now.model.now c.args.state.now.modes c.args.step.now.component c.in_ok-modes.modes c.requires.state c.in_ok-modes.ensures
 
 pub follows-requires-clause-formula : goal.follows-requires-clause-formula
-follows-requires-clause-formula c = guard_within c.args.model.now c.moves-moves.ensures.well_formed c.args.step.now c.requires.named.of_model
+follows-requires-clause-formula c = guard_within c.args.rules.now.model.now c.moves-moves.ensures.well_formed c.args.step.now c.requires.named.of_model
 
 pub returns : goal.returns
 returns c =
-    let m = c.args.model.now in
+    let m = c.args.rules.now.model.now in
     let s = c.args.state.now.modes in
     let move = c.args.step.now in
     let pairs : List Pair = c.in_ok-modes.modes in

@@ -9,14 +9,14 @@ use Rattle.plan_checker.proofs.guards.guard_holds.Goals as goal
 
 pub follows-requires-clause-modes : goal.follows-requires-clause-modes
 follows-requires-clause-modes c =
-    subst (All (λ (p : Pair). HasMode c.args.model.now p.item p.value)) (sym c.in_ok-modes.ensures) (pairs_have_modes c.args.model.now c.args.state.now.modes c.requires.state)
+    subst (All (λ (p : Pair). HasMode c.args.rules.now.model.now p.item p.value)) (sym c.in_ok-modes.ensures) (pairs_have_modes c.args.rules.now.model.now c.args.state.now.modes c.requires.state)
 
 pub follows-requires-clause-formula : goal.follows-requires-clause-formula
-follows-requires-clause-formula c = guard_within c.args.model.now c.moves-moves.ensures.well_formed c.args.step.now c.requires.of_model
+follows-requires-clause-formula c = guard_within c.args.rules.now.model.now c.moves-moves.ensures.well_formed c.args.step.now c.requires.of_model
 
 pub returns : goal.returns
 returns c =
-    let m = c.args.model.now in
+    let m = c.args.rules.now.model.now in
     let s = c.args.state.now.modes in
     let f = c.args.step.now.guard in
     IfOk-weaker c.follows.result (λ (b : Bool). IsTrue b ↔ Follows m c.in_ok-modes.modes f) (λ (b : Bool). IsTrue b ↔ Holds m s f)

@@ -1,26 +1,25 @@
-use Rattle.std.proofs.Common.{◌+◌, ℕ, Bool, List, ◌∷◌, drop, get_or, subst}
-use Rattle.std.specs.Prelude.{MatchBool}
+use Rattle.std.proofs.Common.{◌+◌, ℕ, List, ◌∷◌, drop, get_or, subst}
 use Rattle.cca_base.specs.PlantModel.{PlantModel}
 use Rattle.cca_base.specs.Steps.{Step}
 use Rattle.plan_checker.specs.Steps.{NoStep}
 use Rattle.plan_checker.proofs.RunLaws.{IsOnWay, goes_on, stops, next_left}
 use Rattle.plan_checker.proofs.run.run.Goals as goal
 
-pub returns-then-not-branch-clause-runs : goal.returns-then-not-branch-clause-runs
-returns-then-not-branch-clause-runs c =
-    let m : PlantModel = c.args.model.now in
+pub returns-then-not-branch-clause-none : goal.returns-then-not-branch-clause-none
+returns-then-not-branch-clause-none c _ =
+    let m : PlantModel = c.args.rules.now.model.now in
     let start : List ℕ = c.args.state.now.modes in
     let here : List ℕ = c.loop-command.state.modes in
     let ks : List ℕ = c.args.commands.now in
     let i : ℕ = c.loop-command.command-index in
     let k : ℕ = get_or ks i 0 in
     let way : IsOnWay m start ks here (k ∷ drop (i + 1) ks) = subst (IsOnWay m start ks here) (next_left ks i c.loop-command-test.true) c.loop-command.invariant.on_way in
-    let none : NoStep m here k = subst (λ (b : Bool). MatchBool b (Step m here k c.make_step.new.state.modes) (NoStep m here k)) c.if-not-branch.true c.in_ok-make_step.ensures.step in
+    let none : NoStep m here k = c.in_ok-make_step.ensures.none c.if-not-branch.true in
     stops m start ks here k (drop (i + 1) ks) way none
 
 pub loop-command-preserved : goal.loop-command-preserved
 loop-command-preserved c =
-    let m : PlantModel = c.args.model.now in
+    let m : PlantModel = c.args.rules.now.model.now in
     let start : List ℕ = c.args.state.now.modes in
     let here : List ℕ = c.loop-command.state.modes in
     let next : List ℕ = c.make_step.new.state.modes in
@@ -28,7 +27,7 @@ loop-command-preserved c =
     let i : ℕ = c.loop-command.command-index in
     let k : ℕ = get_or ks i 0 in
     let way : IsOnWay m start ks here (k ∷ drop (i + 1) ks) = subst (IsOnWay m start ks here) (next_left ks i c.loop-command-test.true) c.loop-command.invariant.on_way in
-    let step : Step m here k next = subst (λ (b : Bool). MatchBool b (Step m here k next) (NoStep m here k)) c.if-not-branch.false c.in_ok-make_step.ensures.step in
+    let step : Step m here k next = c.in_ok-make_step.ensures.made c.if-not-branch.false in
     record {
       on_way = goes_on m start ks c.moves-moves.ensures.well_formed.commands here next k (drop (i + 1) ks) way step;
       state = c.in_ok-make_step.ensures.state;

@@ -5,6 +5,6 @@ use Rattle.plan_checker.proofs.run.run.Given as goal
 
 abbrev pub invariant-loop-command : goal.invariant-loop-command
 invariant-loop-command l = record {
-  on_way : IsOnWay l.model l.initial.state.modes l.commands l.state.modes (drop l.command-index l.commands);
-  state : IsState l.model l.state.modes;
+  on_way : IsOnWay l.rules.model.now l.initial.state.modes l.commands l.state.modes (drop l.command-index l.commands);
+  state : IsState l.rules.model.now l.state.modes;
 }

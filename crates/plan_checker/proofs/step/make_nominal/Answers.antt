@@ -7,7 +7,7 @@ use Rattle.plan_checker.proofs.step.make_nominal.Goals as goal
 
 pub returns-then-branch-clause-nominal : goal.returns-then-branch-clause-nominal
 returns-then-branch-clause-nominal c =
-    let m = c.args.model.now in
+    let m = c.args.rules.now.model.now in
     let s = c.args.state.now.modes in
     subst (λ k. Nominal m s k c.set.new.self) (sym c.in-Some.is)
     (subst (Nominal m s (Some c.in-Some.command)) (sym c.set.ensures)
@@ -15,12 +15,12 @@ returns-then-branch-clause-nominal c =
 
 pub returns-then-branch-clause-state : goal.returns-then-branch-clause-state
 returns-then-branch-clause-state c =
-    subst (IsState c.args.model.now) (sym c.set.ensures)
-    (named_state c.args.model.now c.args.state.now.modes c.in-Some.command c.in-Some-named.step.now c.in-Some-named.ensures.some c.named.ensures.well_formed c.requires.state)
+    subst (IsState c.args.rules.now.model.now) (sym c.set.ensures)
+    (named_state c.args.rules.now.model.now c.args.state.now.modes c.in-Some.command c.in-Some-named.step.now c.in-Some-named.ensures.some c.named.ensures.well_formed c.requires.state)
 
 pub returns-else-branch-clause-nominal : goal.returns-else-branch-clause-nominal
 returns-else-branch-clause-nominal c =
-    let m = c.args.model.now in
+    let m = c.args.rules.now.model.now in
     let s = c.args.state.now.modes in
     subst (λ k. Nominal m s k s) (sym c.in-Some.is)
     (guard_fails m s c.in-Some.command c.named.ensures.well_formed.commands c.in-Some-named.step.now c.in-Some-named.ensures.some

@@ -2,14 +2,13 @@ use Rattle.std.proofs.Common.{ℕ, List, sym, subst}
 use Rattle.cca_base.specs.declared.cube.Pair.{Pair}
 use Rattle.cca_base.specs.State.{Extends}
 use Rattle.cca_base.specs.Trace.{ExecutiveState}
-use Rattle.plan_checker.specs.Standing.{state_of}
 use Rattle.plan_checker.proofs.WorldParts.{explains, agrees}
 use Rattle.plan_checker.proofs.world.explains_tick.Goals as goal
 
 pub returns-clause-explains : goal.returns-clause-explains
 returns-clause-explains c =
-    let m = c.args.model.now in
-    let x : ExecutiveState = state_of c.args.standing.now in
+    let m = c.args.rules.now.model.now in
+    let x : ExecutiveState = c.args.standing.now in
     let s : List ℕ = c.args.state.now.modes in
     let w : List ℕ = c.args.world.now.values in
     let seen : List Pair = c.in_ok-seen.seen.pairs in (

@@ -10,33 +10,28 @@ walk-requires-clause-inside c =
 
 pub way_back-requires-clause-from : goal.way_back-requires-clause-from
 way_back-requires-clause-from c =
-    let inside = goal_inside c.args.tables.now c.classes-classes.ensures.tables c.args.state.now.modes c.requires.covers c.args.goal.now.pairs c.requires.goal c.requires.reached in
     let walked = subst (IsWalked c.args.tables.now.classes.compiled c.args.goal.now.pairs c.args.state.now.modes) c.in-Ended.is c.in_ok-plan.ensures in
-    covers_end c.args.tables.now c.classes-classes.ensures.tables c.args.state.now.modes c.requires.covers c.args.goal.now.pairs c.requires.goal inside
+    covers_end c.args.tables.now c.classes-classes.ensures.tables c.args.state.now.modes c.requires.covers c.args.goal.now.pairs c.requires.goal c.requires.reached
     c.in-Ended.plan c.in-Ended.end.modes walked.0
 
 pub returns-in-Endless-clause-route : goal.returns-in-Endless-clause-route
 returns-in-Endless-clause-route c =
-    let inside = goal_inside c.args.tables.now c.classes-classes.ensures.tables c.args.state.now.modes c.requires.covers c.args.goal.now.pairs c.requires.goal c.requires.reached in
     let walked = subst (IsWalked c.args.tables.now.classes.compiled c.args.goal.now.pairs c.args.state.now.modes) c.in-Endless.is c.in_ok-plan.ensures in
-    endless c.args.tables.now c.classes-classes.ensures.tables c.args.state.now.modes c.requires.covers c.args.goal.now.pairs c.requires.goal inside walked.0 walked.1 walked.2 walked.3
+    endless c.args.tables.now c.classes-classes.ensures.tables c.args.state.now.modes c.requires.covers c.args.goal.now.pairs c.requires.goal c.requires.reached walked.0 walked.1 walked.2 walked.3
 
 pub returns-in-Endless-clause-there_and_back : goal.returns-in-Endless-clause-there_and_back
 returns-in-Endless-clause-there_and_back c =
-    let inside = goal_inside c.args.tables.now c.classes-classes.ensures.tables c.args.state.now.modes c.requires.covers c.args.goal.now.pairs c.requires.goal c.requires.reached in
     let walked = subst (IsWalked c.args.tables.now.classes.compiled c.args.goal.now.pairs c.args.state.now.modes) c.in-Endless.is c.in_ok-plan.ensures in
-    endless_back c.args.tables.now c.classes-classes.ensures.tables c.args.state.now.modes c.requires.covers c.args.goal.now.pairs c.requires.goal inside walked.0 walked.1 walked.2 walked.3
+    endless_back c.args.tables.now c.classes-classes.ensures.tables c.args.state.now.modes c.requires.covers c.args.goal.now.pairs c.requires.goal c.requires.reached walked.0 walked.1 walked.2 walked.3
 
 pub returns-in_ok-back-in-Ended-clause-there_and_back : goal.returns-in_ok-back-in-Ended-clause-there_and_back
 returns-in_ok-back-in-Ended-clause-there_and_back c =
-    let inside = goal_inside c.args.tables.now c.classes-classes.ensures.tables c.args.state.now.modes c.requires.covers c.args.goal.now.pairs c.requires.goal c.requires.reached in
     let walked = subst (IsWalked c.args.tables.now.classes.compiled c.args.goal.now.pairs c.args.state.now.modes) c.in-Ended.is c.in_ok-plan.ensures in
-    ended_back c.args.tables.now c.classes-classes.ensures.tables c.args.state.now.modes c.requires.covers c.args.goal.now.pairs c.requires.goal inside
+    ended_back c.args.tables.now c.classes-classes.ensures.tables c.args.state.now.modes c.requires.covers c.args.goal.now.pairs c.requires.goal c.requires.reached
     c.in-Ended.plan c.in-Ended.end.modes c.in_ok-back-in-Ended.back walked.0 walked.1 c.in_ok-back-in-Ended.ensures
 
 pub way_back-requires-clause-stuck : goal.way_back-requires-clause-stuck
 way_back-requires-clause-stuck c =
-    let inside = goal_inside c.args.tables.now c.classes-classes.ensures.tables c.args.state.now.modes c.requires.covers c.args.goal.now.pairs c.requires.goal c.requires.reached in
     let walked = subst (IsWalked c.args.tables.now.classes.compiled c.args.goal.now.pairs c.args.state.now.modes) c.in-Ended.is c.in_ok-plan.ensures in
-    still_stuck c.args.tables.now c.classes-classes.ensures.tables c.args.state.now.modes c.requires.covers c.args.goal.now.pairs c.requires.goal inside
+    still_stuck c.args.tables.now c.classes-classes.ensures.tables c.args.state.now.modes c.requires.covers c.args.goal.now.pairs c.requires.goal c.requires.reached
     c.in-Ended.plan c.in-Ended.end.modes walked.0

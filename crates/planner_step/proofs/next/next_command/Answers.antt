@@ -1,26 +1,23 @@
 use Rattle.planner_step.proofs.Along.{plan_of, some_plan}
-use Rattle.planner_step.proofs.Replies.{goal_inside, achieved_exactly, unreachable_exactly, reached_exactly, promising}
+use Rattle.planner_step.proofs.Replies.{goal_inside, IsExactly, by_rule}
+use Rattle.planner_step.proofs.next.next_command.Given.{Over}
 use Rattle.planner_step.proofs.next.next_command.Goals as goal
 
+-- what is exact of the reply by the rule
+exactly : (g : Over) (c : goal.After-answer_by_rule g) → IsExactly c.args.tables.now c.classes-classes.ensures.tables c.args.state.now.modes c.requires.covers c.args.goal.now.pairs c.requires.goal c.answer_by_rule.result
+exactly g c = by_rule c.args.tables.now c.classes-classes.ensures.tables c.args.state.now.modes c.requires.covers c.args.goal.now.pairs c.requires.goal c.answer_by_rule.result c.answer_by_rule.ensures.rule
+
 pub returns-clause-achieved : goal.returns-clause-achieved
-returns-clause-achieved g c =
-    achieved_exactly c.args.tables.now c.classes-classes.ensures.tables c.args.state.now.modes c.requires.covers c.args.goal.now.pairs c.requires.goal
-    c.answer_by_rule.result c.answer_by_rule.ensures.rule
+returns-clause-achieved g c = (exactly g c).achieved
 
 pub returns-clause-unreachable : goal.returns-clause-unreachable
-returns-clause-unreachable g c =
-    unreachable_exactly c.args.tables.now c.classes-classes.ensures.tables c.args.state.now.modes c.requires.covers c.args.goal.now.pairs c.requires.goal
-    c.answer_by_rule.result c.answer_by_rule.ensures.rule
+returns-clause-unreachable g c = (exactly g c).unreachable
 
 pub returns-clause-reached : goal.returns-clause-reached
-returns-clause-reached g c =
-    reached_exactly c.args.tables.now c.classes-classes.ensures.tables c.args.state.now.modes c.requires.covers c.args.goal.now.pairs c.requires.goal
-    c.answer_by_rule.result c.answer_by_rule.ensures.rule
+returns-clause-reached g c = (exactly g c).reached
 
 pub returns-clause-promises : goal.returns-clause-promises
-returns-clause-promises g c =
-    promising c.args.tables.now c.classes-classes.ensures.tables c.args.state.now.modes c.requires.covers c.args.goal.now.pairs c.requires.goal
-    c.answer_by_rule.result c.answer_by_rule.ensures.rule
+returns-clause-promises g c = (exactly g c).promises
 
 pub returns-clause-plan : goal.returns-clause-plan
 returns-clause-plan g c reached =

@@ -1,21 +1,30 @@
-use Rattle.std.proofs.Common.{◌≡◌, ◌<◌, ◌≤◌, ◌-◌, ◌∙◌, ℕ, true, suc, List, [], length, slice_get, slice_index, slice_index_or, Some, refl, sym, ap, subst, arith}
+use Rattle.std.proofs.Common.{◌≡◌, ◌≢◌, ◌<◌, ◌≤◌, ◌-◌, ◌∙◌, ℕ, true, suc, List, [], length, slice_get, slice_index, slice_index_or, Some, refl, sym, ap, subst, arith}
 use Rattle.std.proofs.lemmas.Option.{slice_get_within, get_or_from_slice_get}
 use Rattle.cca_base.specs.declared.cube.Pair.{Pair}
 use Rattle.cca_base.specs.declared.limits.TheConstants.{MAX_CHOICES}
 use Rattle.cca_base.specs.PlantModel.{PlantModel}
-use Rattle.cca_base.specs.Model.{WellFormed, mode_counts}
+use Rattle.cca_base.specs.Model.{WellFormed, HasMode, mode_counts}
 use Rattle.cca_base.specs.Sets.{has}
 use Rattle.reach_laws.specs.Cells.{IsShortest, IsStep}
 use Rattle.reach_laws.specs.Classes.{Test, OpenMove}
 use Rattle.reversibility.specs.Levels.{AreMovesWithin, IsLevel, AreLevelsOf}
 use Rattle.reversibility.specs.ClassParts.{ClassParts, in_row}
-use Rattle.reversibility.proofs.Standing.{modes_few}
-use Rattle.policy_tables.specs.Distances.{NearAt, IsFirstPlace, IsFirstNear}
+use Rattle.cca_base.proofs.NextModes.{few_modes as modes_few}
+use Rattle.policy_tables.specs.Distances.{NearAt, IsFirstLevel, IsFirstPlace, IsFirstNear}
 use Rattle.policy_tables.specs.Leaving.{IsCubeOf, AreLeaving}
 use Rattle.policy_tables.proofs.Approach.{no_level, level_shortest, apart_some, some_leads}
 use Rattle.policy_tables.proofs.Filled.{joined_here}
 use Rattle.policy_tables.proofs.Leavers.{leaving_within, near_place, first_near, step_is}
 use Rattle.policy_tables.proofs.filling.cell.Goals as goal
+
+-- where the modes differ, an open move is left, and the others are one less
+some_left : (m : PlantModel) → WellFormed m → (member : Test) (c : ℕ) (levels : List (List ℕ)) → AreLevelsOf m member c levels → (from to left : ℕ) → HasMode m c from → IsFirstLevel levels from to left
+    → from ≢ to → (0 < left) × IsShortest m member c from to (suc (left - 1))
+some_left m w member c levels of from to left has first apart =
+    let short = level_shortest m w member c levels of from to left has first in
+    let some = apart_some m w member c from to left short apart in
+    let e : left ≡ suc (left - 1) = omega (arith, some) in
+    (some, subst (IsShortest m member c from to) e short)
 
 pub unreachable-requires : goal.unreachable-requires
 unreachable-requires c =
@@ -30,8 +39,7 @@ overflow_sub-left c =
     let p : ClassParts = c.args.classes.now in
     let d : ℕ = c.args.leaving.now.component in
     let w : WellFormed p.compiled.model = c.class.ensures.classes.compiled.accepted.well_formed in
-    let short = level_shortest p.compiled.model w (in_row p.rows) d c.args.paths.now.levels c.requires.paths.levels c.args.leaving.now.mode c.args.to c.in-Some.left c.requires.from c.in-Some.ensures in
-    apart_some p.compiled.model w (in_row p.rows) d c.args.leaving.now.mode c.args.to c.in-Some.left short c.if-leaving-to.false
+    (some_left p.compiled.model w (in_row p.rows) d c.args.paths.now.levels c.requires.paths.levels c.args.leaving.now.mode c.args.to c.in-Some.left c.requires.from c.in-Some.ensures c.if-leaving-to.false).0
 
 pub get-requires : goal.get-requires
 get-requires c =
@@ -58,24 +66,22 @@ first_near-requires c =
     c.args.paths.now.levels c.requires.paths.levels (c.in-Some.left - 1) c.get.result.now c.as_slice-level.result.now c.get.ensures.value c.as_slice-level.ensures
     c.args.leaving.now.mode c.args.leaving.now.numbers c.as_slice.result.now c.requires.leaving.numbers c.as_slice.ensures
 
--- what is left after the next move
-rest_is : (m : PlantModel) (member : Test) (c from to left : ℕ) → IsShortest m member c from to left → 0 < left → IsShortest m member c from to (suc (left - 1))
-rest_is m member c from to left short some = let e : left ≡ suc (left - 1) = omega (arith, some) in subst (IsShortest m member c from to) e short
+-- one of the moves that leave leads near
+near_at : (m : PlantModel) → WellFormed m → (member : Test) (c from to rest : ℕ) (numbers : List ℕ) → AreLeaving m member c from numbers → IsShortest m member c from to (suc rest) → (level : List ℕ)
+    → IsLevel (OpenMove m member c) (slice_index (mode_counts m) c) rest level → (place : ℕ) × (place < length numbers) × NearAt m numbers level to place
+near_at m w member c from to rest numbers are shortest level is =
+    let leads = some_leads m w member c from to rest shortest level is in
+    near_place m w member c from numbers are level to leads.0 leads.1
 
 pub unreachable-requires-in_default-first_near : goal.unreachable-requires-in_default-first_near
 unreachable-requires-in_default-first_near c =
     let p : ClassParts = c.args.classes.now in
-    let m : PlantModel = p.compiled.model in
-    let member : Test = in_row p.rows in
     let d : ℕ = c.args.leaving.now.component in
-    let from : ℕ = c.args.leaving.now.mode in
-    let w : WellFormed m = c.class.ensures.classes.compiled.accepted.well_formed in
-    let short = level_shortest m w member d c.args.paths.now.levels c.requires.paths.levels from c.args.to c.in-Some.left c.requires.from c.in-Some.ensures in
-    let some = apart_some m w member d from c.args.to c.in-Some.left short c.if-leaving-to.false in
+    let w : WellFormed p.compiled.model = c.class.ensures.classes.compiled.accepted.well_formed in
     let level : List ℕ = c.as_slice-level.result.now in
-    let is = level_is m w member d m refl c.args.paths.now.levels c.requires.paths.levels (c.in-Some.left - 1) c.get.result.now level c.get.ensures.value c.as_slice-level.ensures in
-    let leads = some_leads m w member d from c.args.to (c.in-Some.left - 1) (rest_is m member d from c.args.to c.in-Some.left short some) level is in
-    let there = near_place m w member d from c.args.leaving.now.numbers c.requires.leaving.numbers level c.args.to leads.0 leads.1 in
+    let there = near_at p.compiled.model w (in_row p.rows) d c.args.leaving.now.mode c.args.to (c.in-Some.left - 1) c.args.leaving.now.numbers c.requires.leaving.numbers
+    (some_left p.compiled.model w (in_row p.rows) d c.args.paths.now.levels c.requires.paths.levels c.args.leaving.now.mode c.args.to c.in-Some.left c.requires.from c.in-Some.ensures c.if-leaving-to.false).1
+    level (level_is p.compiled.model w (in_row p.rows) d p.compiled.model refl c.args.paths.now.levels c.requires.paths.levels (c.in-Some.left - 1) c.get.result.now level c.get.ensures.value c.as_slice-level.ensures) in
     c.in_default-first_near.ensures there.0 (subst (λ l. there.0 < length l) (sym c.as_slice.ensures) there.1)
     (subst (λ l. NearAt c.model-model.result.now l level c.args.to there.0) (sym c.as_slice.ensures)
     (subst (λ (z : PlantModel). NearAt z c.args.leaving.now.numbers level c.args.to there.0) (sym (c.model-model.ensures.value ∙ ap (λ z. z.model) c.compiled.ensures.value)) there.2))
@@ -112,9 +118,8 @@ returns c =
     let cubes : List (List Pair) = c.args.leaving.now.cubes in
     let place : ℕ = c.in-Some-first_near.place in
     let number : ℕ = c.get-number.result.now in
-    let short = level_shortest m w member d c.args.paths.now.levels c.requires.paths.levels from c.args.to c.in-Some.left c.requires.from c.in-Some.ensures in
-    let some = apart_some m w member d from c.args.to c.in-Some.left short c.if-leaving-to.false in
-    let left_is : suc (c.in-Some.left - 1) ≡ c.in-Some.left = omega (arith, some) in
+    let near_by = some_left m w member d c.args.paths.now.levels c.requires.paths.levels from c.args.to c.in-Some.left c.requires.from c.in-Some.ensures c.if-leaving-to.false in
+    let left_is : suc (c.in-Some.left - 1) ≡ c.in-Some.left = omega (arith, near_by.0) in
     let level : List ℕ = c.as_slice-level.result.now in
     let is = level_is m w member d m refl c.args.paths.now.levels c.requires.paths.levels (c.in-Some.left - 1) c.get.result.now level c.get.ensures.value c.as_slice-level.ensures in
     let found : IsFirstPlace m numbers level c.args.to place =
@@ -130,6 +135,6 @@ returns c =
       c.if-leaving-to.false,
       subst (λ r. has r c.args.to ≡ true) c.class.ensures.value (sym c.has.ensures ∙ c.if-not-has.false),
       subst (IsStep p.compiled member d from c.args.to number c.get-2.result.now.command c.in_ok-copy.field-0) left_is
-          (step_is p.compiled w member d from c.args.to (c.in-Some.left - 1) (rest_is m member d from c.args.to c.in-Some.left short some) level is number
+          (step_is p.compiled w member d from c.args.to (c.in-Some.left - 1) near_by.1 level is number
           (subst (IsFirstNear m member level d from c.args.to) number_is near) c.get-2.result.now move_at c.in_ok-copy.field-0 cube),
     )

@@ -1,34 +1,20 @@
-use Rattle.std.proofs.Common.{◌≡◌, ◌+◌, ◌*◌, ◌∙◌, ℕ, slice_get, slice_index, Some, sym, ap, subst, arith}
-use Rattle.cca_base.specs.PlantModel.{PlantModel}
+use Rattle.std.proofs.Common.{◌∙◌, slice_index, ap, arith}
 use Rattle.cca_base.specs.Model.{mode_counts}
 use Rattle.reversibility.specs.ClassParts.{ClassParts}
-use Rattle.reversibility.proofs.Standing.{mode_count}
-use Rattle.policy_tables.specs.Filling.{AreRightTo}
-use Rattle.policy_tables.proofs.Filled.{right_next, row_end}
+use Rattle.policy_tables.proofs.Filled.{modes_read, right_pushed, row_end}
 use Rattle.policy_tables.proofs.filling.fill_row.Goals as goal
 
 pub loop-to-preserved : goal.loop-to-preserved
 loop-to-preserved c =
     let p : ClassParts = c.args.classes.now in
-    let m : PlantModel = p.compiled.model in
-    let d : ℕ = c.args.leaving.now.component in
-    let from : ℕ = c.args.leaving.now.mode in
-    let modes : ℕ = slice_index (mode_counts m) d in
-    let components_are = c.components-components.ensures.value ∙ ap (λ z. z.components) (c.model.ensures.value ∙ ap (λ z. z.model) c.compiled.ensures.value) in
-    let counted : c.len-to-end.result ≡ modes = c.len-to-end.ensures
-    ∙ sym (mode_count m.components d c.get.result.now (subst (λ l. slice_get l d ≡ Some c.get.result.now) components_are c.get.ensures.value)) in
-    let more : from * modes + c.loop-to.to + 1 ≡ from * modes + (c.loop-to.to + 1) = omega arith in
-    subst (AreRightTo p d modes c.push.new.self) more
-    (subst (λ l. AreRightTo p d modes l (from * modes + c.loop-to.to + 1)) (sym c.in_ok-push.ensures.ok)
-    (right_next p d modes c.loop-to.cells from c.loop-to.to c.in_ok-cell.field-0 (omega (arith, c.loop-to-test.true, counted)) c.loop-to.invariant
-    (record { policy = λ _. c.in_ok-cell.ensures; outside = λ none. absurd (none c.requires.stands) })))
+    let counted = modes_read p.compiled.model c.args.leaving.now.component
+    (c.components-components.ensures.value ∙ ap (λ z. z.components) (c.model.ensures.value ∙ ap (λ z. z.model) c.compiled.ensures.value)) c.get.ensures.value c.len-to-end.ensures in
+    right_pushed p c.args.leaving.now.component (slice_index (mode_counts p.compiled.model) c.args.leaving.now.component) c.loop-to.cells c.push.new.self c.args.leaving.now.mode c.loop-to.to c.in_ok-cell.field-0 c.in_ok-push.ensures.ok
+    (omega (arith, c.loop-to-test.true, counted)) c.loop-to.invariant (record { policy = λ _. c.in_ok-cell.ensures; outside = λ none. absurd (none c.requires.stands) })
 
 pub returns : goal.returns
 returns c =
     let p : ClassParts = c.args.classes.now in
-    let m : PlantModel = p.compiled.model in
-    let d : ℕ = c.args.leaving.now.component in
-    let components_are = c.components-components.ensures.value ∙ ap (λ z. z.components) (c.model.ensures.value ∙ ap (λ z. z.model) c.compiled.ensures.value) in
-    let counted : c.len-to-end.result ≡ slice_index (mode_counts m) d = c.len-to-end.ensures
-    ∙ sym (mode_count m.components d c.get.result.now (subst (λ l. slice_get l d ≡ Some c.get.result.now) components_are c.get.ensures.value)) in
-    row_end p d c.loop-to.cells c.args.leaving.now.mode c.loop-to.to (omega (arith, c.loop-to-test.false, c.loop-to.auto.to-end, counted)) c.loop-to.invariant
+    let counted = modes_read p.compiled.model c.args.leaving.now.component
+    (c.components-components.ensures.value ∙ ap (λ z. z.components) (c.model.ensures.value ∙ ap (λ z. z.model) c.compiled.ensures.value)) c.get.ensures.value c.len-to-end.ensures in
+    row_end p c.args.leaving.now.component c.loop-to.cells c.args.leaving.now.mode c.loop-to.to (omega (arith, c.loop-to-test.false, c.loop-to.auto.to-end, counted)) c.loop-to.invariant

@@ -2,7 +2,8 @@ use Rattle.std.proofs.Common.{rules, length, ◌≡◌, ◌∙◌, ◌<◌, ◌&
 use Rattle.std.specs.List.{list_all}
 use Rattle.std.proofs.lemmas.List.Folds.{list_all_more}
 use Rattle.prime_implicants.specs.DenseClauses.{is_wide, all_unfalsified, row_unfalsified, union_rows}
-use Rattle.prime_implicants.proofs.DenseClauseLaws.{wide-all, gone_through, list_all_get}
+use mathlib.Core.Bool.{or-and_distrib_right}
+use Rattle.prime_implicants.proofs.DenseClauseLaws.{wide-all, list_all_get}
 use Rattle.prime_implicants.proofs.gathering.resolve_on.Goals as goal
 
 pub join_row-requires-clause-out : goal.join_row-requires-clause-out
@@ -19,7 +20,7 @@ loop-row-preserved c =
           let joined : all_unfalsified q c.join_row.new.out.items ≡ (all_unfalsified q c.loop-row.out.items && (row_unfalsified q row || all_unfalsified q c.args.right.now)) = search rules in
           let was = c.loop-row.invariant.unfalsified_at q w in
           joined ∙ ap (λ b. b && (row_unfalsified q row || all_unfalsified q c.args.right.now)) was
-          ∙ gone_through (all_unfalsified q (take i c.args.left.now)) (row_unfalsified q row) (all_unfalsified q c.args.right.now)
+          ∙ sym (or-and_distrib_right (all_unfalsified q (take i c.args.left.now)) (row_unfalsified q row) (all_unfalsified q c.args.right.now))
           ∙ ap (λ r. (all_unfalsified q (take i c.args.left.now) && row_unfalsified q r) || all_unfalsified q c.args.right.now) c.row-item.is
           ∙ ap (λ b. b || all_unfalsified q c.args.right.now) (sym (list_all_more (row_unfalsified q) c.args.left.now i row inside));
       same = λ p h.

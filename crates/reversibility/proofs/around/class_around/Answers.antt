@@ -7,7 +7,7 @@ use Rattle.reversibility.specs.ClassParts.{in_row}
 use Rattle.reversibility.specs.Levels.{AreMovesWithin, MoveLeads, AreLevelsOf}
 use Rattle.reversibility.specs.Homes.{IsAround, IsHomeBy}
 use Rattle.reversibility.proofs.OpenMoves.{within_modes}
-use Rattle.reversibility.proofs.Standing.{modes_few}
+use Rattle.cca_base.proofs.NextModes.{few_modes as modes_few}
 use Rattle.reversibility.proofs.Shortest.{class_from, home_from, home_by, home_mode}
 use Rattle.reversibility.proofs.around.class_around.Goals as goal
 
@@ -21,8 +21,8 @@ home_of-requires c =
           (within_modes m c.model.ensures.compiled.accepted.well_formed (in_row c.args.rows.now) c.args.component c.in_ok-paths.paths.numbers c.in_ok-paths.ensures.open_moves)),
     )
 
-pub returns-in_default : goal.returns-in_default
-returns-in_default c a h =
+pub returns-in_default-clause-none : goal.returns-in_default-clause-none
+returns-in_default-clause-none c _ a h =
     let m : PlantModel = c.args.compiled.now.model in
     let by = home_by m c.model.ensures.compiled.accepted.well_formed (in_row c.args.rows.now) c.args.component c.in_ok-paths.paths.numbers c.in_ok-paths.ensures.open_moves c.args.mode a h in
     c.in_default.ensures a (subst (λ (x : PlantModel). IsHomeBy x.moves (MoveLeads x c.as_slice.result.now (length c.as_slice.result.now)) c.args.component c.args.mode a) (sym c.model.ensures.value)
@@ -56,8 +56,8 @@ around-requires-clause-within c =
     subst (λ n. home < n) (sym (ap length c.as_slice-2.ensures ∙ last.1))
     (home_mode m well member c.args.component numbers c.in_ok-paths.ensures.open_moves c.args.mode home c.requires.mode by)
 
-pub returns : goal.returns
-returns c =
+pub returns-clause-some : goal.returns-clause-some
+returns-clause-some c =
     let m : PlantModel = c.args.compiled.now.model in
     let well : WellFormed m = c.model.ensures.compiled.accepted.well_formed in
     let member : Test = in_row c.args.rows.now in

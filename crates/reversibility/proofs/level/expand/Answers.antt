@@ -1,6 +1,6 @@
 use Rattle.std.proofs.Common.{◌≡◌, ◌+◌, length, slice_get, slice_index, Some, sym, ap, subst, arith}
 use Rattle.std.proofs.lemmas.Option.{slice_get_within}
-use Rattle.reversibility.proofs.Near.{IsExpandedBy, move_within, expand_more}
+use Rattle.reversibility.proofs.Near.{IsExpandedBy, move_within, read_within, expand_more}
 use Rattle.reversibility.proofs.OpenMoves.{row_at}
 use Rattle.reversibility.proofs.level.expand.Goals as goal
 
@@ -11,18 +11,15 @@ get-m-requires c =
 
 pub get-requires : goal.get-requires
 get-requires c =
-    let at = subst (λ l. slice_get l (slice_index c.args.numbers.now c.loop-k.k) ≡ Some c.get-m.result.now) c.moves-moves.ensures.value c.get-m.ensures.value in
-    omega (arith, (move_within c.args.model.now (length c.args.level.now) c.args.numbers.now c.requires c.loop-k.k c.loop-k-test.true c.get-m.result.now at).0, c.loop-k.invariant.full)
+    omega (arith, (read_within c.args.model.now (length c.args.level.now) c.args.numbers.now c.requires c.loop-k.k c.loop-k-test.true c.moves-moves.ensures.value c.get-m.ensures.value).0, c.loop-k.invariant.full)
 
 pub bounds-level-m : goal.bounds-level-m
 bounds-level-m c =
-    let at = subst (λ l. slice_get l (slice_index c.args.numbers.now c.loop-k.k) ≡ Some c.get-m.result.now) c.moves-moves.ensures.value c.get-m.ensures.value in
-    (move_within c.args.model.now (length c.args.level.now) c.args.numbers.now c.requires c.loop-k.k c.loop-k-test.true c.get-m.result.now at).1
+    (read_within c.args.model.now (length c.args.level.now) c.args.numbers.now c.requires c.loop-k.k c.loop-k-test.true c.moves-moves.ensures.value c.get-m.ensures.value).1
 
 pub set-requires : goal.set-requires
 set-requires c =
-    let at = subst (λ l. slice_get l (slice_index c.args.numbers.now c.loop-k.k) ≡ Some c.get-m.result.now) c.moves-moves.ensures.value c.get-m.ensures.value in
-    omega (arith, (move_within c.args.model.now (length c.args.level.now) c.args.numbers.now c.requires c.loop-k.k c.loop-k-test.true c.get-m.result.now at).0, c.loop-k.invariant.full)
+    omega (arith, (read_within c.args.model.now (length c.args.level.now) c.args.numbers.now c.requires c.loop-k.k c.loop-k-test.true c.moves-moves.ensures.value c.get-m.ensures.value).0, c.loop-k.invariant.full)
 
 pub loop-k-preserved : goal.loop-k-preserved
 loop-k-preserved c =

@@ -12,38 +12,33 @@ use Rattle.reversibility.proofs.OpenMoves.{open_from, open_to, cubes_within}
 use Rattle.reversibility.proofs.open.leaves.Goals.{else-m-component-via-then-m-component+then-m-mode+else-is_open, else-m-component-via-then-m-component+else-m-mode, else-m-component-via-else-m-component}
 use Rattle.reversibility.proofs.open.leaves.Goals as goal
 
+-- an entry of a list is that of an equal list
+entry : {A : Type 0} {l k : List A} {x : A} (i : ℕ) → l ≡ k → slice_get l i ≡ Some x → slice_get k i ≡ Some x
+entry {x = x} i same at = subst (λ z. slice_get z i ≡ Some x) same at
+
 pub is_open-requires : goal.is_open-requires
 is_open-requires c =
     let b : CompiledModel = c.args.compiled.now in
-    let i : ℕ = c.loop-i.i in
-    let moves_is = c.moves-moves.ensures.value ∙ ap (λ z. z.moves) c.model.ensures.value in
-    let m : Move = c.get-m.result.now in
-    let move_at : slice_get b.model.moves i ≡ Some m = subst (λ l. slice_get l i ≡ Some m) moves_is c.get-m.ensures.value in
-    let cubes : List (List Pair) = c.get.result.now in
-    let ways_at : slice_get b.ways i ≡ Some cubes = subst (λ l. slice_get l i ≡ Some cubes) c.ways.ensures.value c.get.ensures.value in
     subst (All (λ cube. All (λ p. p.item < length c.args.rows.now) cube)) (sym c.as_slice.ensures)
-    (cubes_within b c.model.ensures.compiled (in_row c.args.rows.now) i m cubes move_at ways_at (length c.args.rows.now) c.requires)
+    (cubes_within b c.model.ensures.compiled (in_row c.args.rows.now) c.loop-i.i c.get-m.result.now c.get.result.now
+    (entry c.loop-i.i (c.moves-moves.ensures.value ∙ ap (λ z. z.moves) c.model.ensures.value) c.get-m.ensures.value) (entry c.loop-i.i c.ways.ensures.value c.get.ensures.value) (length c.args.rows.now) c.requires)
 
 pub returns-then-is_open : goal.returns-then-is_open
 returns-then-is_open c =
     let b : CompiledModel = c.args.compiled.now in
     let member : Test = in_row c.args.rows.now in
-    let i : ℕ = c.loop-i.i in
-    let moves_is = c.moves-moves.ensures.value ∙ ap (λ z. z.moves) c.model.ensures.value in
     let m : Move = c.get-m.result.now in
-    let move_at : slice_get b.model.moves i ≡ Some m = subst (λ l. slice_get l i ≡ Some m) moves_is c.get-m.ensures.value in
-    let cubes : List (List Pair) = c.get.result.now in
-    let ways_at : slice_get b.ways i ≡ Some cubes = subst (λ l. slice_get l i ≡ Some cubes) c.ways.ensures.value c.get.ensures.value in
-    let some : SomeInside member cubes = subst (SomeInside member) c.as_slice.ensures (c.is_open.ensures.0 c.if-is_open.true) in (
+    let move_at : slice_get b.model.moves c.loop-i.i ≡ Some m = entry c.loop-i.i (c.moves-moves.ensures.value ∙ ap (λ z. z.moves) c.model.ensures.value) c.get-m.ensures.value in
+    let some : SomeInside member c.get.result.now = subst (SomeInside member) c.as_slice.ensures (c.is_open.ensures.0 c.if-is_open.true) in (
       (λ _. (
         m.target,
         record {
           move = m;
-          of_model = move_in b.model i m move_at;
+          of_model = move_in b.model c.loop-i.i m move_at;
           own = c.if-m-component.true;
           source = c.if-m-mode.true;
           target = refl;
-          open_move = open_from b c.model.ensures.compiled member i m cubes move_at ways_at some;
+          open_move = open_from b c.model.ensures.compiled member c.loop-i.i m c.get.result.now move_at (entry c.loop-i.i c.ways.ensures.value c.get.ensures.value) some;
         },
       )),
       (λ _. refl),
@@ -54,9 +49,8 @@ loop-i-preserved c j move less at own source open_one =
     let b : CompiledModel = c.args.compiled.now in
     let member : Test = in_row c.args.rows.now in
     let i : ℕ = c.loop-i.i in
-    let moves_is = c.moves-moves.ensures.value ∙ ap (λ z. z.moves) c.model.ensures.value in
     let m : Move = c.get-m.result.now in
-    let move_at : slice_get b.model.moves i ≡ Some m = subst (λ l. slice_get l i ≡ Some m) moves_is c.get-m.ensures.value in
+    let move_at : slice_get b.model.moves i ≡ Some m = entry c.loop-i.i (c.moves-moves.ensures.value ∙ ap (λ z. z.moves) c.model.ensures.value) c.get-m.ensures.value in
     elim (cases_lt j i) [
       | inl before ↦ c.loop-i.invariant j move before at own source open_one
       | inr last ↦
@@ -65,7 +59,7 @@ loop-i-preserved c j move less at own source open_one =
           elim c.else-m-component.branch [
             | else-m-component-via-then-m-component+then-m-mode+else-is_open v ↦
                 let cubes : List (List Pair) = v.get.result.now in
-                let ways_at : slice_get b.ways i ≡ Some cubes = subst (λ l. slice_get l i ≡ Some cubes) v.ways.ensures.value v.get.ensures.value in
+                let ways_at : slice_get b.ways i ≡ Some cubes = entry i v.ways.ensures.value v.get.ensures.value in
                 both_ways v.is_open.result v.if-is_open.false (v.is_open.ensures.1 (subst (SomeInside member) (sym v.as_slice.ensures)
                 (open_to b c.model.ensures.compiled member i m cubes move_at ways_at (subst (IsOpen b.model member) same open_one))))
             | else-m-component-via-then-m-component+else-m-mode v ↦ v.if-m-mode.false (sym (ap (λ (z : Move). z.source) same) ∙ source)

@@ -77,25 +77,25 @@ returns-in-Some-clause-rejected g c e = all_words c.args.words.now.items c.in-So
 pub returns-in-Some-clause-ended_where : goal.returns-in-Some-clause-ended_where
 returns-in-Some-clause-ended_where g c read write =
     rw c.status_of.ensures (all_words c.args.words.now.items c.in-Some.form (rw c.deref.ensures.value at c.in-Some.ensures) (λ f input. NothingRefused f input → (status_of c.drive_form.result ≡ Ended) ⊎ (status_of c.drive_form.result ≡ Memory)) (g.S.Source.left c.args.source.now)
-    (ended_where c.in-Some.form (input_for (Some c.in-Some.form) (g.S.Source.left c.args.source.now)) c.drive_form.result (g.K.Sink.written c.args.sink.now) (g.K.Sink.written c.drive_form.new.sink) (form_prints c.in-Some.form (g.S.Source.left c.args.source.now) (g.S.Source.left c.drive_form.new.source) (g.K.Sink.written c.args.sink.now) (g.K.Sink.written c.drive_form.new.sink) _ _ c.drive_form.result c.drive_form.ensures.driven) (c.drive_form.ensures.complete read write)))
+    (ended_where c.in-Some.form (input_for (Some c.in-Some.form) (g.S.Source.left c.args.source.now)) c.drive_form.result (g.K.Sink.written c.args.sink.now) (g.K.Sink.written c.drive_form.new.sink) (form_prints c.in-Some.form (g.S.Source.left c.args.source.now) (g.S.Source.left c.drive_form.new.source) (g.K.Sink.written c.args.sink.now) (g.K.Sink.written c.drive_form.new.sink) _ _ c.drive_form.result c.drive_form.ensures.driven) (c.drive_form.ensures.faults.complete read write)))
 
 pub returns-in-Some-clause-refused_where : goal.returns-in-Some-clause-refused_where
 returns-in-Some-clause-refused_where g c read write =
     rw c.status_of.ensures (all_words c.args.words.now.items c.in-Some.form (rw c.deref.ensures.value at c.in-Some.ensures) (λ f input. SomeRefused f input → (status_of c.drive_form.result ≡ Refused) ⊎ (status_of c.drive_form.result ≡ Memory)) (g.S.Source.left c.args.source.now)
-    (refused_where c.in-Some.form (input_for (Some c.in-Some.form) (g.S.Source.left c.args.source.now)) c.drive_form.result (g.K.Sink.written c.args.sink.now) (g.K.Sink.written c.drive_form.new.sink) (form_prints c.in-Some.form (g.S.Source.left c.args.source.now) (g.S.Source.left c.drive_form.new.source) (g.K.Sink.written c.args.sink.now) (g.K.Sink.written c.drive_form.new.sink) _ _ c.drive_form.result c.drive_form.ensures.driven) (c.drive_form.ensures.complete read write)))
+    (refused_where c.in-Some.form (input_for (Some c.in-Some.form) (g.S.Source.left c.args.source.now)) c.drive_form.result (g.K.Sink.written c.args.sink.now) (g.K.Sink.written c.drive_form.new.sink) (form_prints c.in-Some.form (g.S.Source.left c.args.source.now) (g.S.Source.left c.drive_form.new.source) (g.K.Sink.written c.args.sink.now) (g.K.Sink.written c.drive_form.new.sink) _ _ c.drive_form.result c.drive_form.ensures.driven) (c.drive_form.ensures.faults.complete read write)))
 
 pub returns-in-Some-clause-rejected_where : goal.returns-in-Some-clause-rejected_where
 returns-in-Some-clause-rejected_where g c read write =
     rw c.status_of.ensures (all_words c.args.words.now.items c.in-Some.form (rw c.deref.ensures.value at c.in-Some.ensures) (λ f input. SomeRejected f input → (status_of c.drive_form.result ≡ Rejected) ⊎ (status_of c.drive_form.result ≡ Memory)) (g.S.Source.left c.args.source.now)
-    (rejected_where c.in-Some.form (input_for (Some c.in-Some.form) (g.S.Source.left c.args.source.now)) c.drive_form.result (g.K.Sink.written c.args.sink.now) (g.K.Sink.written c.drive_form.new.sink) (form_prints c.in-Some.form (g.S.Source.left c.args.source.now) (g.S.Source.left c.drive_form.new.source) (g.K.Sink.written c.args.sink.now) (g.K.Sink.written c.drive_form.new.sink) _ _ c.drive_form.result c.drive_form.ensures.driven) (c.drive_form.ensures.complete read write)))
+    (rejected_where c.in-Some.form (input_for (Some c.in-Some.form) (g.S.Source.left c.args.source.now)) c.drive_form.result (g.K.Sink.written c.args.sink.now) (g.K.Sink.written c.drive_form.new.sink) (form_prints c.in-Some.form (g.S.Source.left c.args.source.now) (g.S.Source.left c.drive_form.new.source) (g.K.Sink.written c.args.sink.now) (g.K.Sink.written c.drive_form.new.sink) _ _ c.drive_form.result c.drive_form.ensures.driven) (c.drive_form.ensures.faults.complete read write)))
 
 pub returns-in-Some-clause-own_traces : goal.returns-in-Some-clause-own_traces
 returns-in-Some-clause-own_traces g c read write check =
-    rw c.status_of.ensures (own_where c.in-Some.form (the_form c.args.words.now.items c.in-Some.form (rw c.deref.ensures.value at c.in-Some.ensures) Check check) (g.S.Source.left c.args.source.now) c.drive_form.result (g.K.Sink.written c.args.sink.now) (g.K.Sink.written c.drive_form.new.sink) (form_prints c.in-Some.form (g.S.Source.left c.args.source.now) (g.S.Source.left c.drive_form.new.source) (g.K.Sink.written c.args.sink.now) (g.K.Sink.written c.drive_form.new.sink) _ _ c.drive_form.result c.drive_form.ensures.driven) (c.drive_form.ensures.complete read write))
+    rw c.status_of.ensures (own_where c.in-Some.form (the_form c.args.words.now.items c.in-Some.form (rw c.deref.ensures.value at c.in-Some.ensures) Check check) (g.S.Source.left c.args.source.now) c.drive_form.result (g.K.Sink.written c.args.sink.now) (g.K.Sink.written c.drive_form.new.sink) (form_prints c.in-Some.form (g.S.Source.left c.args.source.now) (g.S.Source.left c.drive_form.new.source) (g.K.Sink.written c.args.sink.now) (g.K.Sink.written c.drive_form.new.sink) _ _ c.drive_form.result c.drive_form.ensures.driven) (c.drive_form.ensures.faults.complete read write))
 
 pub returns-in-Some-clause-complete : goal.returns-in-Some-clause-complete
 returns-in-Some-clause-complete g c read write =
-    rw c.status_of.ensures (completes (input_for (asked c.args.words.now.items) (g.S.Source.left c.args.source.now)) c.drive_form.result (g.K.Sink.written c.args.sink.now) (g.K.Sink.written c.drive_form.new.sink) (IsOutcome c.args.words.now.items) (form_writes c.args.words.now.items c.in-Some.form (rw c.deref.ensures.value at c.in-Some.ensures) (status_of c.drive_form.result) (g.S.Source.left c.args.source.now) (g.K.Sink.written c.args.sink.now) (g.K.Sink.written c.drive_form.new.sink) (form_prints c.in-Some.form (g.S.Source.left c.args.source.now) (g.S.Source.left c.drive_form.new.source) (g.K.Sink.written c.args.sink.now) (g.K.Sink.written c.drive_form.new.sink) _ _ c.drive_form.result c.drive_form.ensures.driven)) (c.drive_form.ensures.complete read write))
+    rw c.status_of.ensures (completes (input_for (asked c.args.words.now.items) (g.S.Source.left c.args.source.now)) c.drive_form.result (g.K.Sink.written c.args.sink.now) (g.K.Sink.written c.drive_form.new.sink) (IsOutcome c.args.words.now.items) (form_writes c.args.words.now.items c.in-Some.form (rw c.deref.ensures.value at c.in-Some.ensures) (status_of c.drive_form.result) (g.S.Source.left c.args.source.now) (g.K.Sink.written c.args.sink.now) (g.K.Sink.written c.drive_form.new.sink) (form_prints c.in-Some.form (g.S.Source.left c.args.source.now) (g.S.Source.left c.drive_form.new.source) (g.K.Sink.written c.args.sink.now) (g.K.Sink.written c.drive_form.new.sink) _ _ c.drive_form.result c.drive_form.ensures.driven)) (c.drive_form.ensures.faults.complete read write))
 
 pub returns-in-Some-clause-only_check : goal.returns-in-Some-clause-only_check
 returns-in-Some-clause-only_check g c e = sym (rw c.deref.ensures.value at c.in-Some.ensures) ∙ ap Some (only_check c.in-Some.form (g.S.Source.left c.args.source.now) (g.S.Source.left c.drive_form.new.source) (g.K.Sink.written c.args.sink.now) (g.K.Sink.written c.drive_form.new.sink) c.drive_form.result (form_streams c.in-Some.form (g.S.Source.left c.args.source.now) (g.S.Source.left c.drive_form.new.source) (g.K.Sink.written c.args.sink.now) (g.K.Sink.written c.drive_form.new.sink) _ _ c.drive_form.result c.drive_form.ensures.driven) (sym c.status_of.ensures ∙ e))

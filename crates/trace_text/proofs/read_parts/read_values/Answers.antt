@@ -9,4 +9,4 @@ returns-then-words-variables c =
     (λ e. c.if-words-variables.true (sym (length-map c.args.words.now (λ w. w.now)) ∙ e ∙ ap length (sym (c.as_slice-variables.ensures ∙ c.variables.ensures.value))))
 
 pub returns : goal.returns
-returns c = values_are_read c.args.model.now _ (map (λ w. w.now) c.args.words.now) c.read_each_value.result (c.as_slice-variables.ensures ∙ c.variables.ensures.value) c.read_each_value.ensures
+returns c = values_are_read c.args.model.now _ (map (λ w. w.now) c.args.words.now) c.read_each.result (c.as_slice-variables.ensures ∙ c.variables.ensures.value) c.read_each.ensures

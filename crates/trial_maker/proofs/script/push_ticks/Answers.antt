@@ -15,22 +15,18 @@ loop-tick-preserved c =
     let before = string_bytes c.loop-tick.out in
     let from = sym (ticks_from t x (omega arith) (omega arith)) in
     let next : t + 1 - 1 ≡ t = omega arith in
-    let text = c.in_ok-push_tick.ensures.text in
-    let number = c.in_ok-push_tick.ensures.number in (
+    let text = c.in_ok-push_tick.ensures.0 in
+    let number = c.in_ok-push_tick.ensures.1 in (
       rw (next, text, number)
           (drawn_more tick_lines before t (drop t ticks) x ∙ ap (λ (drawn : List (List ℕ) × ℕ). before ++ text_of drawn.0) from ∙ c.loop-tick.invariant.0),
       rw (next, number) (ap (λ (drawn : List (List ℕ) × ℕ). drawn.1) from ∙ c.loop-tick.invariant.1),
     )
 
-pub returns-clause-text : goal.returns-clause-text
-returns-clause-text c =
+pub returns : goal.returns
+returns c =
     let last : c.loop-tick.tick - 1 ≡ 200 = omega arith in
     let out = string_bytes c.loop-tick.out in
-    sym (append-nil out)
-    ∙ ap (λ (left : List ℕ). out ++ text_of (each tick_lines left c.loop-tick.draws.number).0) (sym (ap (λ n. drop n ticks) last ∙ no_tick))
-    ∙ c.loop-tick.invariant.0
-
-pub returns-clause-number : goal.returns-clause-number
-returns-clause-number c =
-    let last : c.loop-tick.tick - 1 ≡ 200 = omega arith in
-    ap (λ (left : List ℕ). (each tick_lines left c.loop-tick.draws.number).1) (sym (ap (λ n. drop n ticks) last ∙ no_tick)) ∙ c.loop-tick.invariant.1
+    let done = sym (ap (λ n. drop n ticks) last ∙ no_tick) in (
+      sym (append-nil out) ∙ ap (λ (left : List ℕ). out ++ text_of (each tick_lines left c.loop-tick.draws.number).0) done ∙ c.loop-tick.invariant.0,
+      ap (λ (left : List ℕ). (each tick_lines left c.loop-tick.draws.number).1) done ∙ c.loop-tick.invariant.1,
+    )

@@ -7,7 +7,7 @@ use Rattle.check_form.proofs.check_script.ScriptEvents.keep.Goals as goal
 pub returns-clause-keeps : goal.returns-clause-keeps
 returns-clause-keeps c =
     let s = script_of c.args.self.now in
-    let after = c.in_ok-pending.pending.pairs in
-    let new : ScriptSoFar = record { events = c.push_back.new.self.items; pending = after; mirrored = c.in_ok-pending.mirrored } in
-    let same : with_event s c.args.event after ≡ new = (λ i. record { events = (sym c.in_ok-push_back.ensures.items) i; pending = after; mirrored = (sym c.in_ok-pending.ensures.mirrored) i }) in
-    subst (KeepsScript c.args.model.now) same (kept c.args.model.now s c.args.event after c.requires.keeps c.requires.may_come c.in_ok-pending.ensures.pending c.in_ok-pending.ensures.rising)
+    let after = c.in_ok-known.known.pending.pairs in
+    let new : ScriptSoFar = record { events = c.push_back.new.self.items; pending = after; mirrored = c.in_ok-known.known.mirrored } in
+    let same : with_event s c.args.event after ≡ new = (λ i. record { events = (sym c.in_ok-push_back.ensures.items) i; pending = after; mirrored = (sym c.in_ok-known.ensures.mirrored) i }) in
+    subst (KeepsScript c.args.model.now) same (kept c.args.model.now s c.args.event after c.requires.keeps c.requires.may_come c.in_ok-known.ensures.pending c.in_ok-known.ensures.rising)

@@ -2,10 +2,10 @@ use Rattle.std.proofs.Common.{Some, sym}
 use Rattle.consistency.proofs.Answered.{counter_found, none_counters}
 use Rattle.consistency.proofs.worlds.Worlds.find_counter.Goals as goal
 
-pub returns-clause-some : goal.returns-clause-some
-returns-clause-some c =
-    rw (sym c.as_slice.ensures.pairs) (counter_found c.args.model.now c.as_slice.result.now c.args.formula.now c.first_found.result (c.first_found.ensures.some (Some c.args.formula.now) c.in_ok-problem.ensures))
+pub returns-clause-first : goal.returns-clause-first
+returns-clause-first c =
+    rw (sym c.as_slice.ensures.pairs) (counter_found c.args.model.now c.as_slice.result.now c.args.formula.now c.first_found.result (c.first_found.ensures (Some c.args.formula.now) c.in_ok-problem.ensures))
 
-pub returns-clause-none : goal.returns-clause-none
-returns-clause-none c =
-    rw (sym c.as_slice.ensures.pairs) (none_counters c.args.model.now c.as_slice.result.now c.args.formula.now c.first_found.result (c.first_found.ensures.none (Some c.args.formula.now) c.in_ok-problem.ensures))
+pub returns-clause-follows : goal.returns-clause-follows
+returns-clause-follows c =
+    rw (sym c.as_slice.ensures.pairs) (none_counters c.args.model.now c.as_slice.result.now c.args.formula.now c.first_found.result (c.first_found.ensures (Some c.args.formula.now) c.in_ok-problem.ensures))

@@ -3,7 +3,6 @@ use Rattle.cca_base.specs.Accepted.{CompiledModel, IsCompiled}
 use Rattle.consistency.specs.Worlds.{AreWorldsOf}
 use Rattle.trace_laws.specs.Fits.{Fits}
 use Rattle.trace_laws.proofs.FitsStay.{start_fits}
-use Rattle.executive_loop.specs.Standing.{state_of}
 use Rattle.executive_loop.proofs.executive.Executive.open.Goals as goal
 
 pub invariant_of-result : goal.invariant_of-result
@@ -14,7 +13,7 @@ invariant_of-result c =
       (subst (λ (z : CompiledModel). AreWorldsOf z.model c.in_ok-worlds.worlds) same (subst (λ m. AreWorldsOf m c.in_ok-worlds.worlds) c.model.ensures.value c.in_ok-worlds.ensures), c.new-mirror.ensures own.model),
       record {
         compiled = subst IsCompiled same c.model.ensures.compiled;
-        fits = subst (λ z. Fits z (state_of c.in_ok-standing.standing)) same (subst (Fits b) (sym c.in_ok-standing.ensures) (start_fits b 0 c.model.ensures.compiled));
+        fits = subst (λ z. Fits z c.in_ok-standing.standing) same (subst (Fits b) (sym c.in_ok-standing.ensures) (rw c.model-2.ensures.value (start_fits b 0 c.model.ensures.compiled)));
         tables = tt;
       },
     )
