@@ -1,11 +1,11 @@
 //! The first state by cost that explains what is seen. Each state that doesn't is cut with all others that share its
 //! conflict: conflict-directed best-first search, as in Williams and Ragno's conflict-directed A*.
 
-ghost use Rattle.std.specs.Prelude.{◌≡◌, [], None, IfOk, All, ℕ, List};
+ghost use Rattle.std.specs.Prelude.{IfOk, All, ℕ, List};
 ghost use Rattle.cca_base.specs.State.{HasValue, IsState};
 ghost use Rattle.consistency.specs.Worlds.{AreWorldsOf};
 ghost use Rattle.cost_search.specs.Search.{IsPicked};
-ghost use Rattle.mode_estimator.specs.First.{IsFirstShown};
+ghost use Rattle.mode_estimator.specs.First.{IsFirstShown, KeepsShown};
 
 use crate::answer::Estimate;
 use cca_base::{Model, Seen};
@@ -24,8 +24,7 @@ pub fn first_shown(
     requires worlds { AreWorldsOf model.now worlds.now }
     requires seen { All (λ p. HasValue model.now p.item p.value) seen.now.pairs }
     requires chosen { (s : List ℕ) (cost : ℕ) → IsPicked states.rows s cost → IsState model.now s }
-    requires last { states.last ≡ None }
-    requires cuts { states.cuts ≡ [] }
+    requires keeps { KeepsShown model.now states.rows seen.now.pairs states }
     ensures { IfOk result (IsFirstShown model.now states.rows seen.now.pairs) }
 {
     while let Some(costed) = states.next()? {

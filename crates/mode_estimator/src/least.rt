@@ -1,7 +1,9 @@
-//! The estimate of a tick.
+//! The estimate of a tick. The nominal state is the only one that costs nothing, so it is asked for first; where it doesn't
+//! explain what is seen, the search begins with its conflict cut.
 
 ghost use Rattle.std.specs.Prelude.{IfOk, All};
 ghost use Rattle.cca_base.specs.State.{HasValue, IsState};
+ghost use Rattle.cca_base.specs.Successors.{Nominal};
 ghost use Rattle.consistency.specs.Worlds.{AreWorldsOf};
 ghost use Rattle.mode_estimator.specs.Estimated.{IsEstimate};
 
@@ -11,7 +13,24 @@ use cca_base::{Compiled, Seen, State};
 use consistency::Worlds;
 use cost_search::Search;
 use std::alloc::{AllocError, Global};
-use successors::choices;
+use successors::{choices, obey};
+
+/// Where the command leads the state, which costs nothing. The error is out of memory.
+fn nominal_state(
+    alloc: Global,
+    compiled: &Compiled,
+    state: &State,
+    command: Option<u16>,
+) -> Result<State, AllocError>
+    requires { IsState compiled.now.model state.now.modes }
+    ensures nominal { IfOk result (λ s.
+        Nominal compiled.now.model state.now.modes command s.modes) }
+    ensures state { IfOk result (λ s. IsState compiled.now.model s.modes) }
+{
+    let mut next = state.copy(alloc)?;
+    obey(compiled, &mut next, command);
+    Ok(next)
+}
 
 /// The state of least cost that has a world agreeing with what is seen, the first in mode order among equals, by the
 /// clauses of the model's rules, which are made once for many ticks. The error is out of memory.
@@ -29,8 +48,16 @@ pub fn estimate_by(
     ensures { IfOk result (IsEstimate compiled.now.model state.now.modes command seen.now.pairs) }
 {
     let model = compiled.model();
+    let nominal = nominal_state(alloc, compiled, state, command)?;
+    let Some(conflict) = worlds.conflict(alloc, model, &nominal, seen)? else {
+        return Ok(Estimate::Found {
+            state: nominal,
+            cost: 0,
+        });
+    };
     let rows = choices(alloc, compiled, state, command)?;
-    let states = Search::of(alloc, rows)?;
+    let mut states = Search::of(alloc, rows)?;
+    states.cut(conflict)?;
     first_shown(alloc, model, worlds, states, seen)
 }
 
