@@ -17,7 +17,7 @@ use Rattle.check_form.specs.CheckTrace.{TraceSoFar, TraceOutcome, Follows, Fails
 use Rattle.model_form.specs.ModelSteps.{GoesOnIn, RefusesLine}
 use Rattle.check_form.specs.Verdicts.{no_line, checked_line}
 use Rattle.model_form.specs.declared.limits.TheConstants.{MAX_LINE}
-use Rattle.check_form.specs.declared.limits.TheConstants.{MAX_TRACE_LINE}
+use Rattle.trace_text.specs.declared.limits.TheConstants.{MAX_TRACE_LINE}
 
 -- where a check stands behind an accepted model: in its script, or in its trace
 pub data CheckState : Type 0 where

@@ -16,7 +16,7 @@ use Rattle.trace_laws.specs.Events.{AsGiven, IsTick}
 use Rattle.trace_text.specs.TraceLines.{FitsLine, trace_line}
 use Rattle.trace_text.specs.declared.trace_line.TraceLine.{TraceLine}
 use Rattle.check_form.specs.TickLines.{TickLines, NotNext, More, Whole, next_lines}
-use Rattle.check_form.specs.declared.limits.TheConstants.{MAX_TRACE_LINE}
+use Rattle.trace_text.specs.declared.limits.TheConstants.{MAX_TRACE_LINE}
 use Rattle.check_form.specs.declared.tick_lines.TickSoFar.{TickSoFar}
 use Rattle.check_form.specs.declared.tick_lines.TickSoFar.TheVariants.{Nothing}
 

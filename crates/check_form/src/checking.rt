@@ -6,13 +6,13 @@ ghost use Rattle.check_form.specs.CheckScript.{no_events};
 
 use crate::check_script::{ScriptEnd, ScriptEvents};
 use crate::check_trace::TraceCheck;
-use crate::limits::MAX_TRACE_LINE;
 use cca_base::codes::ENDS_EARLY;
 use cca_base::{Model, Refusal};
 use line_machine::{End, Machine, Said};
 use model_form::{Accepted, MAX_LINE, nothing, refusal_of, refuse_stop};
 use std::alloc::{AllocError, Global};
 use std::mem;
+use trace_text::MAX_TRACE_LINE;
 
 /// Where a check stands behind its model.
 #[derive(Drop)]

@@ -7,11 +7,9 @@ mod check_script;
 mod check_trace;
 mod checking;
 mod laws;
-mod limits;
 mod tick_lines;
 mod verdicts;
 
 pub use check::{Check, CheckMachine, open_check};
 pub use checking::Checking;
 pub use laws::checks_are_judged;
-pub use limits::MAX_TRACE_LINE;

@@ -22,6 +22,7 @@ use Rattle.line_machine.proofs.SureTextBegins.{stays_decided}
 use Rattle.line_machine.proofs.SentPieces.{write_on, less_on, room_on}
 use Rattle.line_machine.specs.Call.{Call, bytes_of, Notes, AllCame}
 use Rattle.line_machine.specs.Calls.{InTurn, DrivenInTurn}
+use Rattle.line_machine.specs.declared.machine.TheConstants.{MAX_LINES}
 use Rattle.line_machine.proofs.Calls.{prepend_twice, notes_twice, bytes_of-append, all_came-append, alive}
 use Rattle.line_machine.proofs.BetweenLines.{IsAt, line_taken, next_at, waits, long_taken, so_far, last_run, last_closed}
 
@@ -46,10 +47,10 @@ module _ {S : Type 0} (m : Ghosts S) where
   goes_by None s n l t p h = refl
 
   -- a line after which the program goes on isn't one too many
-  pub takes_few : (s : S) (n : ℕ) (l : List ℕ) (t : S) (p : List ℕ) → Transition m s n l (GoesOn t) p → n ≤ 1000000
+  pub takes_few : (s : S) (n : ℕ) (l : List ℕ) (t : S) (p : List ℕ) → Transition m s n l (GoesOn t) p → n ≤ MAX_LINES
   takes_few s n l t p h =
       let e = goes_by (length_code (m.limit_of s) n (length l)) s n l t p h in
-      ltb-false 1000000 n (few_by (ltb 1000000 n) 19 _ e)
+      ltb-false MAX_LINES n (few_by (ltb MAX_LINES n) 19 _ e)
 
 -- calls that brought something, and more of them
 live_on : {over : Type 0} (a b : List Call) → AllCame a → AllCame b ⊎ over → AllCame (a ++ b) ⊎ over
@@ -184,7 +185,7 @@ module _ {S : Type 0} {m : Ghosts S} {first : S} {left0 out0 : Option (List ℕ)
       pub line_next : (t : S) {out' : Option (List ℕ)} {space' : Option ℕ} (o : Option End) → o ≡ None → Sent (Transition m s (n + 1) l (next_of t o)) out out' space space' → IsDriving m first left0 out0 space0 calls0 over (n + 1) t (drop (k + 1) held) left out' space' calls
       line_next t o is_none h = line_goes_on t (said_as t o None is_none h)
 
-      pub line_few : (t : S) {out' : Option (List ℕ)} {space' : Option ℕ} (o : Option End) → o ≡ None → Sent (Transition m s (n + 1) l (next_of t o)) out out' space space' → n + 1 ≤ 1000000
+      pub line_few : (t : S) {out' : Option (List ℕ)} {space' : Option ℕ} (o : Option End) → o ≡ None → Sent (Transition m s (n + 1) l (next_of t o)) out out' space space' → n + 1 ≤ MAX_LINES
       line_few t o is_none h = let k = said_as t o None is_none h in takes_few m s (n + 1) l t k.text k.is
 
     -- ---- bytes that are a line already

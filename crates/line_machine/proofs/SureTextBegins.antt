@@ -7,6 +7,7 @@ use Rattle.line_machine.specs.Runs.{length_code, TransitionByCode, Transition, R
 use Rattle.line_machine.specs.declared.machine.End.{End}
 use Rattle.line_machine.specs.declared.machine.End.TheVariants.{Refused}
 use Rattle.line_machine.specs.declared.machine.Machine.{Ghosts}
+use Rattle.line_machine.specs.declared.machine.TheConstants.{MAX_LINES}
 use Rattle.line_machine.proofs.JoinedLines.{with_lines, lines-append, grown}
 use Rattle.line_machine.proofs.RunsAreOne.{IsFixed, stopped, stays, runs_on, runs_apart, runs_are_one}
 
@@ -17,7 +18,7 @@ code_kept false false u x y code grows e = absurd cc
 
 -- a line that has the code still has it when it is longer
 code_grows : (limit n j k code : ℕ) → j ≤ k → length_code limit n j ≡ Some code → length_code limit n k ≡ Some code
-code_grows limit n j k code le e = code_kept (ltb 1000000 n) (ltb limit j) (ltb limit k) 19 18 code (λ h. lt-ltb limit k (let lt : limit < j = ltb-true limit j h in omega arith)) e
+code_grows limit n j k code le e = code_kept (ltb MAX_LINES n) (ltb limit j) (ltb limit k) 19 18 code (λ h. lt-ltb limit k (let lt : limit < j = ltb-true limit j h in omega arith)) e
 
 goes_or_stops : {S : Type 0} (s : S) (e : End) → Stops e ≡ GoesOn s → ⊥
 goes_or_stops s e h = absurd cc

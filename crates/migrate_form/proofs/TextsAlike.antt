@@ -18,7 +18,9 @@ use Rattle.run_form.specs.TickProofs.{text_if, tick_text}
 use Rattle.trace_text.specs.Json.{Member, members_of, modes_object, reply_members, shown_members, report_object, json_line, report_json}
 use Rattle.trace_text.specs.ProofLines.{world_line, route_text}
 use Rattle.trace_text.specs.Refusals.{code_name, detail_text, refusal_line}
-use Rattle.trace_text.specs.Reports.{modes_text, reply_text, shown_text, report_line}
+use Rattle.trace_text.specs.LineWords.{mode_words, reply_words, shown_words}
+use Rattle.trace_text.specs.Reports.{report_line}
+use Rattle.trace_text.specs.Words.{spaced_line}
 use Rattle.version_laws.specs.Laws.{at_version}
 
 -- what holds of each kind of reply holds of every reply
@@ -34,18 +36,18 @@ module _ (m : PlantModel) (v : ℕ) where
 
   -- ---- lines
 
-  reply_alike : (reply : Reply) → reply_text other reply ≡ reply_text m reply
-  reply_alike = of_each_reply (λ r. reply_text other r ≡ reply_text m r) refl (λ k. refl) refl (λ c mode. refl)
+  reply_alike : (reply : Reply) → reply_words other reply ≡ reply_words m reply
+  reply_alike = of_each_reply (λ r. reply_words other r ≡ reply_words m r) refl (λ k. refl) refl (λ c mode. refl)
 
-  shown_alike : (shown : Shown) → shown_text other shown ≡ shown_text m shown
+  shown_alike : (shown : Shown) → shown_words other shown ≡ shown_words m shown
   shown_alike (Estimated cost state reply) =
-      ap (λ (t : List ℕ). codes " cost " ++ decimal cost ++ codes " modes" ++ modes_text m.components state.modes ++ 32 ∷ t) (reply_alike reply)
+      ap (λ (t : List (List ℕ)). codes "cost" ∷ decimal cost ∷ codes "modes" ∷ mode_words m.components state.modes ++ t) (reply_alike reply)
   shown_alike Unexplained = refl
   shown_alike Holding = refl
 
   pub report_alike : (r : TickReport) → report_line other r ≡ report_line m r
   unfolding report_line
-  report_alike r = ap (λ (t : List ℕ). codes "tick " ++ decimal r.tick ++ t ++ 10 ∷ []) (shown_alike r.shown)
+  report_alike r = ap (λ (t : List (List ℕ)). spaced_line (codes "tick") (decimal r.tick ∷ t)) (shown_alike r.shown)
 
   world_alike : (w : World) → world_line other w ≡ world_line m w
   unfolding world_line

@@ -6,8 +6,7 @@ use Rattle.cca_base.specs.Names.{AreNames}
 use Rattle.model_syntax.proofs.PrintedLines.{name_there}
 use Rattle.formula_syntax.specs.Lookups.{place_of}
 use Rattle.trace_text.specs.Names.{Row, name_at, choice_text}
-use Rattle.trace_text.specs.ProofLines.{choice_words}
-use Rattle.trace_text.specs.LineWords.{AreChosen}
+use Rattle.trace_text.specs.LineWords.{AreChosen, choice_words}
 
 -- ---- different names at different places
 

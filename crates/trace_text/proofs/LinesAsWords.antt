@@ -1,70 +1,29 @@
 -- The text of each line is its words, none of which has a space, with single spaces between them.
-use Rattle.std.proofs.Common.{◌≡◌, ℕ, Bool, true, false, cond, List, [], ◌∷◌, ◌++◌, All, drop, map, refl, sym, ap, ◌∙◌, arith, append_assoc}
-use Rattle.std.specs.Prelude.{codes}
-use Rattle.std.specs.Fmt.{decimal}
-use Rattle.std.proofs.lemmas.List.{append-nil, append_cancel_right}
-use Rattle.std.proofs.lemmas.List.Concat.{flat_map-append}
+use Rattle.std.proofs.Common.{◌≡◌, ℕ, List, [], ◌∷◌, ◌++◌, All, drop, refl, sym, ap, ◌∙◌, arith}
+use Rattle.std.proofs.lemmas.List.{append_cancel_right}
 use Rattle.std.proofs.lemmas.List.Elements.{All-weaker}
-use Rattle.cca_base.specs.declared.model.Component.{Component}
 use Rattle.cca_base.specs.declared.events.PlanEnd.{PlanEnd}
 use Rattle.cca_base.specs.declared.events.PlanEnd.TheVariants as plans
-use Rattle.cca_base.specs.declared.events.Reply.{Reply}
-use Rattle.cca_base.specs.declared.events.Reply.TheVariants.{Idle, Send, Achieved, Unreachable}
-use Rattle.cca_base.specs.declared.events.Shown.{Shown}
-use Rattle.cca_base.specs.declared.events.Shown.TheVariants.{Estimated, Unexplained, Holding}
 use Rattle.cca_base.specs.PlantModel.{PlantModel}
 use Rattle.cca_base.specs.Model.{WellFormed}
 use Rattle.trace_text.specs.declared.trace_line.TraceLine.{TraceLine}
 use Rattle.trace_text.specs.declared.trace_line.TraceLine.TheVariants.{Tick, World, Plan, Back}
-use Rattle.trace_text.specs.Names.{name_at, pair_text}
-use Rattle.trace_text.specs.Reports.{modes_text, reply_text, shown_text, report_line}
-use Rattle.trace_text.specs.ProofLines.{world_line, plan_text, is_only_long}
+use Rattle.trace_text.specs.Reports.{report_line}
+use Rattle.trace_text.specs.ProofLines.{world_line}
 use Rattle.trace_text.specs.TraceLines.{trace_line, FitsLine}
-use Rattle.trace_text.specs.LineWords.{mode_words, reply_words, shown_words, plan_words, line_words}
+use Rattle.trace_text.specs.LineWords.{line_words}
 use Rattle.trace_text.specs.Words.{behind_spaces, HasNoSpace, AreWords}
 use Rattle.trace_text.proofs.ShortWords.{IsLineWord, word_lacks, line_formed}
 use Rattle.trace_text.proofs.WordsApart.{behind_spaces_injective}
 
 -- ---- the text of a line is its words
 
-spaced-append : (xs ys : List (List ℕ)) → behind_spaces (xs ++ ys) ≡ behind_spaces xs ++ behind_spaces ys
-spaced-append xs ys = flat_map-append (λ word. 32 ∷ word) xs ys
-
-modes_spaced : (cs : List Component) (modes : List ℕ) → modes_text cs modes ≡ behind_spaces (mode_words cs modes)
-modes_spaced [] modes = refl
-modes_spaced (c ∷ cs) [] = refl
-modes_spaced (c ∷ cs) (k ∷ ks) = ap (λ t. 32 ∷ pair_text c k ++ t) (modes_spaced cs ks)
-
-reply_spaced : (m : PlantModel) (reply : Reply) → 32 ∷ reply_text m reply ≡ behind_spaces (reply_words m reply)
-reply_spaced m Idle = refl
-reply_spaced m (Send k) = simp append-nil
-reply_spaced m Achieved = refl
-reply_spaced m (Unreachable c mode) = simp append-nil
-
-shown_spaced : (m : PlantModel) (shown : Shown) → shown_text m shown ≡ behind_spaces (shown_words m shown)
-shown_spaced m (Estimated cost state reply) =
-    let words : behind_spaces (mode_words m.components state.modes ++ reply_words m reply) ≡ behind_spaces (mode_words m.components state.modes) ++ behind_spaces (reply_words m reply) =
-    spaced-append (mode_words m.components state.modes) (reply_words m reply) in
-    let modes : modes_text m.components state.modes ≡ behind_spaces (mode_words m.components state.modes) = modes_spaced m.components state.modes in
-    let said : 32 ∷ reply_text m reply ≡ behind_spaces (reply_words m reply) = reply_spaced m reply in
-    rw (words, ← modes, ← said) (simp append_assoc)
-shown_spaced m Unexplained = refl
-shown_spaced m Holding = refl
-
-plan_spaced : (names : List (List ℕ)) (end : PlanEnd) → plan_text names end ≡ behind_spaces (plan_words names end)
-plan_spaced names plans.Long = refl
-plan_spaced names (plans.Plan plan) = go (is_only_long names plan)
-  where
-    go : (b : Bool) → cond b (32 ∷ []) [] ++ behind_spaces (map (name_at names) plan) ≡ behind_spaces (cond b ([] ∷ []) [] ++ map (name_at names) plan)
-    go true = refl
-    go false = refl
-
 pub line_spaced : (m : PlantModel) (value : TraceLine) → 32 ∷ trace_line m value ≡ behind_spaces (line_words m value) ++ 10 ∷ []
 unfolding report_line world_line
-line_spaced m (Tick report) = ap (λ t. 32 ∷ codes "tick " ++ decimal report.tick ++ t ++ 10 ∷ []) (shown_spaced m report.shown)
+line_spaced m (Tick report) = refl
 line_spaced m (World world) = refl
-line_spaced m (Plan end) = ap (λ t. 32 ∷ codes "plan" ++ t ++ 10 ∷ []) (plan_spaced m.commands end)
-line_spaced m (Back end) = ap (λ t. 32 ∷ codes "back" ++ t ++ 10 ∷ []) (plan_spaced m.commands end)
+line_spaced m (Plan end) = refl
+line_spaced m (Back end) = refl
 
 -- ---- no word has a space
 

@@ -19,9 +19,8 @@ use Rattle.model_syntax.proofs.PrintedLines.{name_there}
 use Rattle.trace_text.specs.declared.trace_line.TraceLine.{TraceLine}
 use Rattle.trace_text.specs.declared.trace_line.TraceLine.TheVariants.{Tick, World, Plan, Back}
 use Rattle.trace_text.specs.Names.{Row, mode_row, value_row, name_at, pair_text_at}
-use Rattle.trace_text.specs.ProofLines.{value_words, is_only_long}
 use Rattle.trace_text.specs.TraceLines.{TellsLinesApart, FitsLine, FitsPlan, FitsReply, FitsShown, HasCommand}
-use Rattle.trace_text.specs.LineWords.{mode_words, reply_words, shown_words, report_words, plan_words, line_words}
+use Rattle.trace_text.specs.LineWords.{mode_words, reply_words, shown_words, report_words, plan_words, line_words, value_words, is_only_long}
 use Rattle.trace_text.proofs.ChosenRows.{name_at_injective, choice_words_injective, length-choice_words}
 use Rattle.trace_text.proofs.RowsOfModels.{HasRowNames, mode_rows, value_rows, state_is_chosen, values_are_chosen}
 use Rattle.trace_text.proofs.PairsApart.{pair_one}

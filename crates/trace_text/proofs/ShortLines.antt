@@ -16,10 +16,10 @@ use Rattle.cca_base.specs.Model.{WellFormed}
 use Rattle.trace_text.specs.declared.trace_line.TraceLine.{TraceLine}
 use Rattle.trace_text.specs.declared.trace_line.TraceLine.TheVariants.{Tick, World, Plan, Back}
 use Rattle.trace_text.specs.Names.{mode_row, value_row, name_at}
-use Rattle.trace_text.specs.ProofLines.{value_words, is_only_long}
 use Rattle.trace_text.specs.TraceLines.{trace_line, FitsLine, FitsShown, HasValues}
-use Rattle.trace_text.specs.LineWords.{mode_words, reply_words, shown_words, plan_words, line_words}
+use Rattle.trace_text.specs.LineWords.{mode_words, reply_words, shown_words, plan_words, line_words, value_words, is_only_long}
 use Rattle.trace_text.specs.Words.{behind_spaces}
+use Rattle.trace_text.specs.declared.limits.TheConstants.{MAX_TRACE_LINE}
 use Rattle.trace_text.proofs.ChosenRows.{length-choice_words}
 use Rattle.trace_text.proofs.RowsOfModels.{state_is_chosen, values_are_chosen}
 use Rattle.trace_text.proofs.LinesAsWords.{line_spaced}
@@ -43,7 +43,7 @@ pub record IsShortLine (text : List ℕ) : Type 0 where
   pub line : List ℕ
   pub is : text ≡ line ++ 10 ∷ []
   pub clean : All (λ b. b ≢ 10) line
-  pub short : length line ≤ 400000
+  pub short : length line ≤ MAX_TRACE_LINE
 
 -- ---- how many words there are
 
@@ -89,7 +89,7 @@ spaced_length : (k : ℕ) (words : List (List ℕ)) → All (λ word. length wor
 spaced_length k words h = subst (λ n. n ≤ length words * k) (sym (length-flat_map (λ word. 32 ∷ word) words)) (sum_by-le (λ word. length (32 ∷ word)) k words h)
 
 -- words of at most 65 bytes, as those of a tick or a world
-few_bytes : (words : List (List ℕ)) → All IsLineWord words → length words ≤ 263 → length (behind_spaces words) ≤ 400000
+few_bytes : (words : List (List ℕ)) → All IsLineWord words → length words ≤ 263 → length (behind_spaces words) ≤ MAX_TRACE_LINE
 few_bytes words h few =
     let most : length (behind_spaces words) ≤ length words * 66 =
     spaced_length 66 words (All-weaker IsLineWord (λ word. length word < 66) (λ word is. omega (arith, word_length word is)) words h) in
@@ -102,7 +102,7 @@ plan_bytes words h few =
     spaced_length 33 words (All-weaker IsShortWord (λ word. length word < 33) (λ word is. omega (arith, is.short)) words h) in
     omega arith
 
-line_bytes : (m : PlantModel) → WellFormed m → (value : TraceLine) → FitsLine m value → IsShowable value → length (behind_spaces (line_words m value)) ≤ 400000
+line_bytes : (m : PlantModel) → WellFormed m → (value : TraceLine) → FitsLine m value → IsShowable value → length (behind_spaces (line_words m value)) ≤ MAX_TRACE_LINE
 line_bytes m h (Tick report) fits show = few_bytes (line_words m (Tick report)) (line_formed m h (Tick report) fits) (omega (arith, shown_count m h report.shown fits.1))
 line_bytes m h (World world) fits show = few_bytes (line_words m (World world)) (line_formed m h (World world) fits) (omega (arith, value_count m h world.values fits))
 line_bytes m h (Plan end) fits show =
@@ -119,7 +119,7 @@ spaced_lacks (word ∷ words) h =
     (All-append (λ b. b ≢ 10) word (behind_spaces words) (All-head (Lacks 10) word words h) (spaced_lacks words (All-tail (Lacks 10) word words h)))
 
 -- the text behind the first space
-from_words : (text : List ℕ) (words : List (List ℕ)) → 32 ∷ text ≡ behind_spaces words ++ 10 ∷ [] → All (Lacks 10) words → length (behind_spaces words) ≤ 400000 → IsShortLine text
+from_words : (text : List ℕ) (words : List (List ℕ)) → 32 ∷ text ≡ behind_spaces words ++ 10 ∷ [] → All (Lacks 10) words → length (behind_spaces words) ≤ MAX_TRACE_LINE → IsShortLine text
 from_words text [] e h few = absurd cc
 from_words text (word ∷ words) e h few = record {
   line = word ++ behind_spaces words;

@@ -1,8 +1,10 @@
 -- The words of each line of a printed trace, and what it means that something is read from words.
-use Rattle.std.specs.Prelude.{◌≡◌, ◌≢◌, ◌<◌, ℕ, List, length, [], ◌∷◌, ◌++◌, codes, map, if◌then◌else◌, Option, MatchOption}
+use Rattle.std.specs.Prelude.{◌≡◌, ◌≢◌, ◌<◌, ℕ, Bool, false, List, length, [], ◌∷◌, ◌++◌, codes, map, if◌then◌else◌, Option, MatchOption}
 use Rattle.std.specs.List.{AllZip}
 use Rattle.std.specs.Fmt.{decimal}
+use Rattle.std.specs.Str.{bytes_eq}
 use Rattle.cca_base.specs.declared.model.Component.{Component}
+use Rattle.cca_base.specs.declared.model.Variable.{Variable}
 use Rattle.cca_base.specs.declared.events.PlanEnd.{PlanEnd}
 use Rattle.cca_base.specs.declared.events.PlanEnd.TheVariants as plans
 use Rattle.cca_base.specs.declared.events.Reply.{Reply}
@@ -13,8 +15,17 @@ use Rattle.cca_base.specs.declared.events.TickReport.{TickReport}
 use Rattle.cca_base.specs.PlantModel.{PlantModel}
 use Rattle.trace_text.specs.declared.trace_line.TraceLine.{TraceLine}
 use Rattle.trace_text.specs.declared.trace_line.TraceLine.TheVariants.{Tick, World, Plan, Back}
-use Rattle.trace_text.specs.Names.{name_at, Row, mode_row, pair_text_at}
-use Rattle.trace_text.specs.ProofLines.{choice_words, value_words, is_only_long}
+use Rattle.trace_text.specs.Names.{name_at, choice_text, Row, mode_row, value_row, pair_text_at}
+
+-- each name with one of its choices
+abbrev pub choice_words : List Row → List ℕ → List (List ℕ)
+choice_words [] ks = []
+choice_words (row ∷ rows) [] = []
+choice_words (row ∷ rows) (k ∷ ks) = choice_text row.name row.choices k ∷ choice_words rows ks
+
+-- each variable with its value
+abbrev pub value_words : List Variable → List ℕ → List (List ℕ)
+value_words variables values = choice_words (map value_row variables) values
 
 -- each component with its mode
 abbrev pub mode_words : List Component → List ℕ → List (List ℕ)
@@ -36,6 +47,12 @@ shown_words m Holding = codes "holding" ∷ []
 -- a report behind its line's word
 abbrev pub report_words : PlantModel → TickReport → List (List ℕ)
 report_words m report = decimal report.tick ∷ shown_words m report.shown
+
+-- the only command of the plan is named `long`
+abbrev pub is_only_long : List (List ℕ) → List ℕ → Bool
+is_only_long names [] = false
+is_only_long names (k ∷ []) = bytes_eq (name_at names k) (codes "long")
+is_only_long names (k ∷ l ∷ ks) = false
 
 -- a plan behind its line's word; two spaces have an empty word between them
 abbrev pub plan_words : List (List ℕ) → PlanEnd → List (List ℕ)

@@ -1,9 +1,13 @@
 -- A line as words with single spaces between them.
-use Rattle.std.specs.Prelude.{◌≡◌, ◌≢◌, ℕ, ◌∷◌, List, All, flat_map}
+use Rattle.std.specs.Prelude.{◌≡◌, ◌≢◌, ℕ, [], ◌∷◌, ◌++◌, List, All, flat_map}
 
 -- words, each behind a space
 abbrev pub behind_spaces : List (List ℕ) → List ℕ
 behind_spaces words = flat_map (λ word. 32 ∷ word) words
+
+-- the line that begins with a word: the other words follow it, each behind a space, and then the LF
+abbrev pub spaced_line : List ℕ → List (List ℕ) → List ℕ
+spaced_line word words = word ++ behind_spaces words ++ 10 ∷ []
 
 -- no byte of the word is a space
 abbrev pub HasNoSpace : List ℕ → Type 0

@@ -6,6 +6,7 @@ mod commands;
 mod compiled;
 mod json;
 pub mod json_laws;
+mod limits;
 pub mod line_laws;
 mod members;
 mod names;
@@ -19,6 +20,7 @@ mod words;
 
 pub use compiled::show_lines;
 pub use json::json_of;
+pub use limits::MAX_TRACE_LINE;
 pub use proof_lines::{route_lines, world_line};
 pub use refusal::refusal_line;
 pub use report::line_of;

@@ -2,7 +2,8 @@
 
 ghost use Rattle.std.specs.Prelude.{◌≡◌, ◌++◌, ◌∷◌, [], IfOk, OnOk, codes, map};
 ghost use Rattle.trace_text.specs.Names.{name_at, choice_text, value_row};
-ghost use Rattle.trace_text.specs.ProofLines.{is_only_long, plan_line, plan_text, route_text, value_words, world_line};
+ghost use Rattle.trace_text.specs.LineWords.{is_only_long, value_words, plan_words};
+ghost use Rattle.trace_text.specs.ProofLines.{plan_line, route_text, world_line};
 ghost use Rattle.trace_text.specs.Words.{behind_spaces};
 
 use crate::members::name_bytes;
@@ -63,7 +64,8 @@ fn push_commands(out: &mut Vec<u8>, names: &[Name], plan: &[u16]) -> Result<(), 
 
 /// A plan, behind the word of its line.
 fn push_plan(out: &mut Vec<u8>, names: &[Name], end: &PlanEnd) -> Result<(), AllocError>
-    ensures { OnOk result (out.new.items ≡ out.old.items ++ plan_text names.now end.now) }
+    ensures { OnOk result (out.new.items
+        ≡ out.old.items ++ behind_spaces (plan_words names.now end.now)) }
 {
     match end {
         PlanEnd::Long => out.extend_from_slice(b" long"),

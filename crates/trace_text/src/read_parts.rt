@@ -6,9 +6,8 @@ ghost use Rattle.std.specs.Option.{option_map};
 ghost use Rattle.cca_base.specs.declared.limits.TheConstants.{MAX_CHOICES};
 ghost use Rattle.cca_base.specs.State.{IsState};
 ghost use Rattle.formula_syntax.specs.Lookups.{place_of};
-ghost use Rattle.trace_text.specs.LineWords.{AreChosen, IsReadFrom, mode_words, plan_words};
+ghost use Rattle.trace_text.specs.LineWords.{AreChosen, IsReadFrom, mode_words, plan_words, choice_words, value_words};
 ghost use Rattle.trace_text.specs.Names.{HaveChoices, choice_text, name_at, rows_of};
-ghost use Rattle.trace_text.specs.ProofLines.{choice_words, value_words};
 ghost use Rattle.trace_text.specs.TraceLines.{FitsPlan, HasValues};
 
 use crate::commands::read_commands;

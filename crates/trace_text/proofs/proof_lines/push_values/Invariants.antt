@@ -1,5 +1,5 @@
 use Rattle.std.proofs.Common.{◌≡◌, ◌++◌, drop}
-use Rattle.trace_text.specs.ProofLines.{value_words}
+use Rattle.trace_text.specs.LineWords.{value_words}
 use Rattle.trace_text.specs.Words.{behind_spaces}
 use Rattle.trace_text.proofs.proof_lines.push_values.Given as goal
 
