@@ -15,7 +15,7 @@ use Rattle.cca_base.proofs.Members.{all_from}
 use Rattle.cca_base.proofs.Growth.{slice_get_cases}
 use Rattle.guard_compiler.specs.Ways.{AtMove, HasManyWays, IsStop}
 use Rattle.guard_compiler.proofs.WaysMeaning.{not_many}
-use Rattle.prime_implicants.proofs.Counting.{not_among_fewer}
+use Rattle.cca_base.proofs.Counting.{not_among_fewer}
 use Rattle.acceptance.specs.AllWays.{AreAllWays, IsFirstStop}
 use Rattle.acceptance.specs.Refusals.{HasManyAt, HasMany}
 use Rattle.acceptance.proofs.NeededMarks.{member_at, at_member}

@@ -23,7 +23,7 @@ use Rattle.causal_graph.proofs.EffectsFirst.{needed_within}
 use Rattle.cca_laws.proofs.OneCompiled.{one_bounds}
 use Rattle.acceptance.specs.Refusals.{IsTooDeep}
 use Rattle.acceptance.proofs.NeededMarks.{at_member}
-use Rattle.acceptance.proofs.CausesFirstOrders.{IsLaidOut, laid_out, laid_closed, laid_later, taken, sum_taken, sum_numbers, rising_few}
+use Rattle.cca_laws.proofs.CausesFirstOrders.{IsLaidOut, laid_out, laid_closed, laid_later, taken, sum_taken, sum_numbers, rising_few}
 
 module _ (sizes : List ℕ) (rows : List (List ℕ)) where
   -- one less than the modes of c, times one more than the bounds in its row

@@ -1,6 +1,5 @@
 pub mod BoundsCausesFirst
 pub mod FirstFalsified
-pub mod CausesFirstOrders
 pub mod NeededMarks
 pub mod OneRefusal
 pub mod RefusalSteps

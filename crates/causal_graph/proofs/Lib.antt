@@ -6,6 +6,4 @@ pub mod RemainingNeeds
 pub mod EffectsFirst
 pub mod ReachedRows
 pub mod ShownCycle
-pub mod SortedGoals
-pub mod PermutationLaws
 pub mod ModelNeeds

@@ -4,20 +4,14 @@ use Rattle.std.proofs.lemmas.List.{get_or_default}
 use Rattle.std.proofs.lemmas.List.Elements.{All-contains}
 use Rattle.cca_base.proofs.PathLaws.{ancestor_along, takes_same, acyclic_same, shown_same}
 use Rattle.cca_base.proofs.Members.{all_from}
-use Rattle.cca_base.proofs.Within.{mode_within}
-use Rattle.cca_base.specs.declared.cube.Pair.{Pair}
+use Rattle.cca_base.proofs.Within.{mode_within, needed_component}
 use Rattle.cca_base.specs.PlantModel.{PlantModel}
 use Rattle.cca_base.specs.Implicants.{Needs}
-use Rattle.cca_base.specs.Model.{WellFormed, HasMode, IsMove}
+use Rattle.cca_base.specs.Model.{WellFormed, IsMove}
 use Rattle.cca_base.specs.Relations.{numbers_below, TakesEffectsFirstBy}
 use Rattle.causal_graph.specs.Laws.{AreNeedsOf, ModelsHaveRows, OrdersAreOfModels, CyclesAreOfModels, AncestorsAreOfModels}
 use Rattle.causal_graph.specs.Needs.{RowNeeds}
 use Rattle.causal_graph.proofs.DistanceRound.{row_within}
-
-needed_component : (m : PlantModel) (c u : ℕ) → Needs m c u → u < length m.components
-needed_component m c u h =
-    let p : Pair = record { item = u; value = h.mode } in
-    mode_within m u h.mode (All-contains (λ (q : Pair). HasMode m q.item q.value) h.cube p h.prime.modes h.occurs)
 
 needing_component : (m : PlantModel) → WellFormed m → (c u : ℕ) → Needs m c u → c < length m.components
 needing_component m w c u h =

@@ -141,10 +141,17 @@ failure_kept m x h few good =
 -- ---- moves
 
 -- an element behind others stands where it stood
-slice_get_front : {X : Type 0} (xs : List X) (y : X) (i : ℕ) (x : X) → slice_get xs i ≡ Some x → slice_get (xs ++ y ∷ []) i ≡ Some x
+pub slice_get_front : {X : Type 0} (xs : List X) (y : X) (i : ℕ) (x : X) → slice_get xs i ≡ Some x → slice_get (xs ++ y ∷ []) i ≡ Some x
 slice_get_front [] y i x h = absurd cc
 slice_get_front (z ∷ xs) y zero x h = h
 slice_get_front (z ∷ xs) y (suc i) x h = slice_get_front xs y i x h
+
+-- the last element of the longer list
+pub slice_get_last : {X : Type 0} (xs : List X) (y : X) (i : ℕ) → i ≡ length xs → slice_get (xs ++ y ∷ []) i ≡ Some y
+slice_get_last [] y zero e = refl
+slice_get_last [] y (suc i) e = absurd cc
+slice_get_last (z ∷ xs) y zero e = absurd cc
+slice_get_last (z ∷ xs) y (suc i) e = slice_get_last xs y i (omega (arith, e))
 
 -- an element of the longer list is one of the shorter, or the last
 pub slice_get_cases : {X : Type 0} (xs : List X) (y : X) (i : ℕ) (x : X) → slice_get (xs ++ y ∷ []) i ≡ Some x → (slice_get xs i ≡ Some x) ⊎ ((i ≡ length xs) × (y ≡ x))

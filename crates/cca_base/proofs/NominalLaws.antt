@@ -1,8 +1,8 @@
 -- The nominal successor of a state: there is one, it is a state, and it costs nothing.
-use Rattle.std.proofs.Common.{◌≡◌, ◌≢◌, ◌<◌, ℕ, inl, inr, List, length, replicate, slice_get, slice_index_or, slice_set, Option, Some, Contains, length-set, refl, sym, ap, subst, ◌∙◌, arith}
+use Rattle.std.proofs.Common.{◌≡◌, ◌≢◌, ◌<◌, ℕ, inl, inr, List, length, replicate, slice_get, slice_index_or, slice_set, Option, Some, None, Contains, length-set, refl, sym, ap, subst, ◌∙◌, arith}
 use Rattle.std.proofs.lemmas.Bool.{cases_eq, cases_order}
 use Rattle.std.proofs.lemmas.Grind.{get_or-set_at}
-use Rattle.std.proofs.lemmas.Option.{slice_get-get_or, slice_get_within, get_or_from_slice_get, same_Some}
+use Rattle.std.proofs.lemmas.Option.{slice_get-get_or, slice_get_within, get_or_from_slice_get, same_Some, none-some}
 use Rattle.std.proofs.lemmas.List.{get_or-replicate, get_or-set_other, length-replicate}
 use Rattle.std.proofs.lemmas.List.Elements.{All-contains}
 use Rattle.std.proofs.lemmas.List.Folds.{sum_by-replicate}
@@ -43,6 +43,10 @@ one_nominal m s k t u fit (inl (a, h, e)) (inl (b, g, f)) = e ∙ ap (λ z. slic
 one_nominal m s k t u fit (inl (a, h, e)) (inr (free, f)) = absurd (free a h)
 one_nominal m s k t u fit (inr (free, e)) (inl (b, g, f)) = absurd (free b g)
 one_nominal m s k t u fit (inr (free, e)) (inr (none, f)) = e ∙ sym f
+
+-- without a command nothing moves
+pub stays : (m : PlantModel) (s : List ℕ) → Nominal m s None s
+stays m s = inr ((λ move h. none-some move.command h.command), refl)
 
 -- ---- it is a state
 

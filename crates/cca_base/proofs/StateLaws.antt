@@ -14,7 +14,7 @@ use Rattle.cca_base.specs.declared.model.Component.{Component}
 use Rattle.cca_base.specs.PlantModel.{PlantModel}
 use Rattle.cca_base.specs.Model.{HasMode, WellFormed}
 use Rattle.cca_base.specs.Repairs.{pairs_of}
-use Rattle.cca_base.specs.State.{IsState, Extends}
+use Rattle.cca_base.specs.State.{Extends}
 use Rattle.cca_base.proofs.Members.{in_pairs}
 use Rattle.cca_base.proofs.Within.{mode_within}
 use Rattle.cca_base.specs.Estimates.{IsEarlier}
@@ -25,10 +25,6 @@ same_state s t e extends = ext_get_or 0 t s e (λ i below.
     let inside : i < length s = omega (arith, e) in
     let p : Pair = record { item = i; value = get_or s i 0 } in
     get_or_from_slice_get t i (get_or s i 0) 0 (All-contains (λ q. slice_get t q.item ≡ Some q.value) (pairs_of s) p extends (in_pairs s p (slice_get-get_or s i 0 inside))))
-
--- what has a mode has one in each state
-pub mode_in_state : (m : PlantModel) (s : List ℕ) (c mode : ℕ) → IsState m s → HasMode m c mode → c < length s
-mode_in_state m s c mode is h = omega (arith, is.full, mode_within m c mode h)
 
 -- a mode is a number that a set can hold
 pub mode_is_small : (m : PlantModel) (c mode : ℕ) → WellFormed m → HasMode m c mode → mode < MAX_CHOICES

@@ -4,7 +4,10 @@ use Rattle.std.specs.Prelude.{nat_le, nat_lt, ◌^◌}
 use Rattle.std.specs.List.{list_all}
 use Rattle.std.proofs.lemmas.Bool.{ltb-true, lt-ltb, and_parts}
 use Rattle.std.proofs.lemmas.List.{length-map}
+use Rattle.std.proofs.lemmas.List.Elements.{All-contains}
+use Rattle.cca_base.specs.declared.cube.Pair.{Pair}
 use Rattle.cca_base.specs.PlantModel.{PlantModel}
+use Rattle.cca_base.specs.Implicants.{Needs}
 use Rattle.cca_base.specs.Formula.{fits, fits_step, is_within, within_step, is_choice_of, subject_value, subject_within}
 use Rattle.cca_base.specs.Model.{IsFormula, HasMode, mode_counts, value_counts}
 use Rattle.cca_base.specs.State.{IsState, IsWorld, HasValue}
@@ -26,6 +29,12 @@ mode_within m c mode h = omega (arith, place_within (mode_counts m) c (omega (ar
 
 pub value_within : (m : PlantModel) (v value : ℕ) → HasValue m v value → v < length m.variables
 value_within m v value h = omega (arith, place_within (value_counts m) v (omega (arith, h)), length-map m.variables (λ variable. length variable.values))
+
+-- what a component needs is a component
+pub needed_component : (m : PlantModel) (c u : ℕ) → Needs m c u → u < length m.components
+needed_component m c u h =
+    let p : Pair = record { item = u; value = h.mode } in
+    mode_within m u h.mode (All-contains (λ (q : Pair). HasMode m q.item q.value) h.cube p h.prime.modes h.occurs)
 
 -- a choice of none holds nothing
 pub choice_positive : (n set : ℕ) → is_choice_of n set ≡ true → 0 < n

@@ -12,6 +12,7 @@ pub mod Goals
 pub mod Implicants
 pub mod Laws
 pub mod Model
+pub mod MoveIndex
 pub mod Names
 pub mod Orders
 pub mod Padded

@@ -9,6 +9,7 @@ mod compiled;
 mod cube;
 mod events;
 mod formula;
+mod index;
 mod laws;
 mod limits;
 mod list;

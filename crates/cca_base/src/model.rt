@@ -1,10 +1,14 @@
 //! Models of concurrent components: modes, variables, rules, moves and failures.
 
-ghost use Rattle.std.specs.Prelude.{◌≡◌, ◌↔◌, [], ◌∷◌, ◌++◌, ◌-◌, ◌<◌, false, length, Contains, IfSome, IsNone, OnOk, OnErr, IsTrue};
+ghost use Rattle.std.specs.Prelude.{◌≡◌, ◌↔◌, ℕ, [], ◌∷◌, ◌++◌, ◌-◌, ◌<◌, false, length, Contains, IfSome, IsNone, OnOk, OnErr, IsTrue};
 ghost use Rattle.cca_base.specs.Model.{WellFormed, IsVersion, IsNext, IsMended, IsInChain, is_broken, is_used, empty_model, in_second, with_component, with_variable, with_rule, with_command, without_last_command, with_move, with_failure};
+ghost use Rattle.cca_base.specs.MoveIndex.{IsMoveOf, HasCommand, Names};
+ghost use Rattle.cca_base.specs.Relations.{AreExactly};
 ghost use Rattle.cca_base.specs.Repairs.{Mending};
+ghost use Rattle.cca_base.specs.State.{IsState};
 
 use crate::formula::Formula;
+use crate::index::MoveIndex;
 use crate::limits::MAX_CHOICES;
 use crate::list::List;
 use crate::name::Name;
@@ -70,6 +74,8 @@ pub struct Model {
     commands: List<Name>,
     moves: List<Move>,
     failures: List<Failure>,
+    /// Which moves there are of what.
+    index: MoveIndex,
 }
 
 impl std::marker::Model for Model {
@@ -82,12 +88,14 @@ impl std::marker::Model for Model {
     ghost coded = { Prim.hlevel model_codes };
 
     ghost use Rattle.cca_base.specs.Model.{WellFormed};
+    ghost use Rattle.cca_base.specs.MoveIndex.{IsIndex};
 
     ghost view = { λ m.
         plant_model m.version m.components m.variables m.rules m.commands m.moves m.failures };
 
     ghost invariant = { λ m. WellFormed
-        (plant_model m.version m.components m.variables m.rules m.commands m.moves m.failures) };
+        (plant_model m.version m.components m.variables m.rules m.commands m.moves m.failures)
+        × IsIndex m.components m.commands m.moves m.index };
 }
 
 impl Model {
@@ -105,6 +113,7 @@ impl Model {
             commands: List::new(alloc),
             moves: List::new(alloc),
             failures: List::new(alloc),
+            index: MoveIndex::empty(alloc),
         }
     }
 
@@ -129,6 +138,7 @@ impl Model {
             commands,
             moves,
             failures,
+            index,
         } = self;
         Model {
             version: 2,
@@ -138,6 +148,7 @@ impl Model {
             commands,
             moves,
             failures,
+            index,
         }
     }
 
@@ -197,7 +208,15 @@ impl Model {
         ensures ok { OnOk result (self.new ≡ with_component self.old x) }
         ensures err { OnErr result (self.new ≡ self.old) }
     {
-        self.components.push(x)
+        let modes = x.modes.len();
+        self.components.push(x)?;
+        match self.index.add_component(modes) {
+            Ok(()) => Ok(()),
+            Err(e) => {
+                self.components.take_back();
+                Err(e)
+            }
+        }
     }
 
     /// Puts a variable behind the others.
@@ -226,7 +245,14 @@ impl Model {
         ensures ok { OnOk result (self.new ≡ with_command self.old x) }
         ensures err { OnErr result (self.new ≡ self.old) }
     {
-        self.commands.push(x)
+        self.commands.push(x)?;
+        match self.index.add_command() {
+            Ok(()) => Ok(()),
+            Err(e) => {
+                self.commands.take_back();
+                Err(e)
+            }
+        }
     }
 
     /// Removes the last command, which no move has.
@@ -237,6 +263,7 @@ impl Model {
         ensures { self.new ≡ without_last_command self.old }
     {
         self.commands.take_back();
+        self.index.take_back_command();
     }
 
     /// Puts a move behind the others.
@@ -246,7 +273,15 @@ impl Model {
         ensures ok { OnOk result (self.new ≡ with_move self.old x) }
         ensures err { OnErr result (self.new ≡ self.old) }
     {
-        self.moves.push(x)
+        let number = self.moves.len();
+        self.moves.push(x)?;
+        match self.index.add_move(self.moves.get(number), number as u16) {
+            Ok(()) => Ok(()),
+            Err(e) => {
+                self.moves.take_back();
+                Err(e)
+            }
+        }
     }
 
     /// Puts a failure behind the others. The error is out of memory.
@@ -262,10 +297,7 @@ impl Model {
     pub fn broken(&self, c: u16, m: u8) -> bool
         ensures { result ≡ is_broken self.now.moves c m }
     {
-        self.moves()
-            .as_slice()
-            .iter()
-            .any(|x| x.repair && (x.component == c && x.source == m))
+        self.next_mode(c, m).is_some()
     }
 
     /// The mode that the repairs of the component's mode lead to.
@@ -274,12 +306,7 @@ impl Model {
         ensures next { IfSome result (IsNext self.now.moves c m) }
         ensures none { IsNone result ↔ (is_broken self.now.moves c m ≡ false) }
     {
-        for x in self.moves().as_slice() {
-            if x.repair && x.component == c && x.source == m {
-                return Some(x.target);
-            }
-        }
-        None
+        self.index.next_mode(c as usize, m as usize)
     }
 
     /// The mended mode: the first in the chain of the component's mode that isn't broken.
@@ -351,11 +378,43 @@ impl Model {
             × (move.command ≡ command) × (move.component ≡ result) }
         ensures well_formed { WellFormed self.now }
     {
-        for x in self.moves().as_slice() {
-            if x.command == command {
-                return x.component;
+        let moves = self.moves();
+        let first = self.moves_by(command)[0];
+        moves.get(first as usize).component
+    }
+
+    /// The numbers of the component's moves, rising.
+    pub fn moves_of(&self, c: u16) -> &[u16]
+        requires { c < length self.now.components }
+        ensures { AreExactly (IsMoveOf self.now.moves c) result.now }
+    {
+        self.index.moves_of(c as usize)
+    }
+
+    /// The numbers of the command's moves, rising.
+    pub fn moves_by(&self, command: u16) -> &[u16]
+        requires { command < length self.now.commands }
+        ensures { AreExactly (HasCommand self.now.moves command) result.now }
+    {
+        self.index.moves_by(command as usize)
+    }
+
+    /// The number of the move that the command names in the state. None comes exactly where it names none.
+    pub fn named(&self, state: &State, command: u16) -> Option<u16>
+        requires { IsState self.now state.now.modes }
+        ensures some { IfSome result (Names self.now.moves state.now.modes command) }
+        ensures none { IsNone result → (i : ℕ) → Names self.now.moves state.now.modes command i → ⊥ }
+    {
+        if command as usize >= self.commands().len() {
+            return None;
+        }
+        let moves = self.moves();
+        for number in self.moves_by(command) {
+            let x = moves.get(*number as usize);
+            if *state.modes.get(x.component as usize) == x.source {
+                return Some(*number);
             }
         }
-        unreachable!()
+        None
     }
 }

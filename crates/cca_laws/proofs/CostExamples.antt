@@ -5,6 +5,7 @@ use Rattle.std.specs.List.{list_all, list_any}
 use Rattle.std.proofs.lemmas.Bool.{false≢true, eqb-true, leb-true}
 use Rattle.std.proofs.lemmas.Option.{same_Some}
 use Rattle.list_laws.proofs.Places.{value_at}
+use Rattle.cca_base.proofs.NominalLaws.{stays}
 use Rattle.cca_base.specs.declared.cube.Pair.{Pair}
 use Rattle.cca_base.specs.declared.model.Move.{Move}
 use Rattle.cca_base.specs.declared.model.Failure.{Failure}
@@ -16,7 +17,7 @@ use Rattle.cca_base.specs.State.{IsState, HasValue}
 use Rattle.cca_base.specs.Successors.{Nominal, IsCommanded, ChangeCosts, HasFailure}
 use Rattle.cca_base.specs.Estimates.{Consistent, IsEarlier}
 use Rattle.cca_laws.proofs.Tiny.{one_at, below_one, below_two, below_three}
-use Rattle.cca_laws.proofs.SmallCosts.{nominal_costs, failure_costs, each_failure, stays, unmoved, part_from_start, costs_of_two}
+use Rattle.cca_laws.proofs.SmallCosts.{nominal_costs, failure_costs, each_failure, unmoved, part_from_start, costs_of_two}
 use Rattle.cca_laws.proofs.FormulaExamples.{truth_mode, truth_iff, truth_both, truth_either}
 use Rattle.cca_laws.proofs.ValveExamples.{truth_flow, open_is_the_one}
 use Rattle.cca_laws.specs.FormulaExamples.{mode_in, both, either}

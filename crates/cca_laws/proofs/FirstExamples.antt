@@ -4,6 +4,7 @@ use Rattle.std.specs.Prelude.{slice_get, slice_index, IsTrue, if◌then◌else�
 use Rattle.std.specs.List.{list_all}
 use Rattle.std.proofs.lemmas.Bool.{false≢true, eqb-true}
 use Rattle.list_laws.proofs.Places.{value_at}
+use Rattle.cca_base.proofs.NominalLaws.{stays}
 use Rattle.cca_base.specs.declared.cube.Pair.{Pair}
 use Rattle.cca_base.specs.Formula.{truth}
 use Rattle.cca_base.specs.Sets.{has}
@@ -15,7 +16,7 @@ use Rattle.cca_laws.proofs.Tiny.{one_at, below_one, below_two}
 use Rattle.cca_laws.proofs.EstimateLaws.{one_estimate}
 use Rattle.cca_laws.proofs.FormulaExamples.{truth_mode, truth_iff, truth_both}
 use Rattle.cca_laws.proofs.ValveExamples.{truth_flow}
-use Rattle.cca_laws.proofs.SmallCosts.{sum_two, nominal_costs, failure_costs, each_failure, stays, unmoved, part_from_start, costs_of_two}
+use Rattle.cca_laws.proofs.SmallCosts.{sum_two, nominal_costs, failure_costs, each_failure, unmoved, part_from_start, costs_of_two}
 use Rattle.cca_laws.proofs.ObservedExamples.{world}
 use Rattle.cca_laws.specs.FormulaExamples.{mode_in, both}
 use Rattle.cca_laws.specs.ValveExamples.{flow_in}

@@ -41,3 +41,7 @@ pub mod MendPicks
 pub mod MendRoute
 pub mod ChainExamples
 pub mod FirstVersion
+pub mod CausesFirstOrders
+pub mod Between
+pub mod StandingPrimes
+pub mod OneRoute

@@ -3,15 +3,14 @@ use Rattle.std.proofs.Common.{◌≡◌, ◌<◌, ◌+◌, ◌-◌, ◌*◌, ◌
 use Rattle.std.proofs.lemmas.Bool.{cases_order}
 use Rattle.std.proofs.lemmas.List.Sums.{sum_by-cons}
 use Rattle.std.proofs.lemmas.Option.{slice_get_within}
-use Rattle.std.proofs.lemmas.List.Elements.{All-contains}
 use Rattle.std.proofs.lemmas.List.{ext_get_or}
 use Rattle.list_laws.proofs.Places.{some_at}
 use Rattle.cca_base.specs.declared.cube.Pair.{Pair}
 use Rattle.cca_base.specs.declared.model.Move.{Move}
 use Rattle.cca_base.proofs.PathLaws.{all_taken, below_contains, numbers_within, other_stays}
-use Rattle.cca_base.proofs.Within.{mode_within}
+use Rattle.cca_base.proofs.Within.{needed_component}
 use Rattle.cca_base.specs.PlantModel.{PlantModel}
-use Rattle.cca_base.specs.Model.{HasMode, mode_counts}
+use Rattle.cca_base.specs.Model.{mode_counts}
 use Rattle.cca_base.specs.Cube.{IsBeforeCube}
 use Rattle.cca_base.specs.Implicants.{Needs}
 use Rattle.cca_base.specs.Orders.{numbers_below, TakesEffectsFirst, IsEffectsFirst}
@@ -37,11 +36,6 @@ one_order m remaining (c ∷ a) (d ∷ b) h k =
     λ i. heads i ∷ tails i
 
 -- ---- the bounds
-
-needed_within : (m : PlantModel) (c u : ℕ) → Needs m c u → u < length m.components
-needed_within m c u h =
-    let p : Pair = record { item = u; value = h.mode } in
-    mode_within m u h.mode (All-contains (λ (q : Pair). HasMode m q.item q.value) h.cube p h.prime.modes h.occurs)
 
 one_needs : (m : PlantModel) (c : ℕ) (us vs : List ℕ) → AreNeeds m c us → AreNeeds m c vs → us ≡ vs
 one_needs m c us vs h k = same_by_order (λ u v. u < v) (λ u v below above. omega (arith, below, above)) us vs h.rising k.rising
@@ -92,7 +86,7 @@ module _ (m : PlantModel) (a b : List ℕ) (x : AreBounds m a) (y : AreBounds m 
       let all : List ℕ = numbers_below (length m.components) in
       ext_get_or 0 a b (x.full ∙ sym y.full) (λ c within.
       let there : Contains all c = below_contains (length m.components) c (omega (arith, within, x.full)) in
-      same_along all order h (λ d u among needs. below_contains (length m.components) u (needed_within m d u needs)) (numbers_within (length m.components)) c (all_taken (Needs m) all order h c there))
+      same_along all order h (λ d u among needs. below_contains (length m.components) u (needed_component m d u needs)) (numbers_within (length m.components)) c (all_taken (Needs m) all order h c there))
 
 -- ---- the ways
 

@@ -58,9 +58,6 @@ change m c (suc (suc to)) cost n h only x = absurd (omega arith)
 pub unmoved : (m : PlantModel) (s nominal : List ℕ) → Nominal m s None nominal → nominal ≡ s
 unmoved m s nominal h = elim h [ inl x ↦ absurd (none-some x.0.command x.1.command) | inr x ↦ x.1 ]
 
-pub stays : (m : PlantModel) (s : List ℕ) → Nominal m s None s
-stays m s = inr (λ move h. none-some move.command h.command, refl)
-
 -- the part of a component that stood in mode 0, of which one failure at one cost leads to mode 1
 pub part_from_start : (m : PlantModel) (s other : List ℕ) (more : ℕ) (h : Costs m s None other more) (c n : ℕ) → c < length other → slice_index s c ≡ 0 → slice_index other c < 2
     → ((k : ℕ) → HasFailure m c 0 1 k → k ≡ n) → slice_index h.parts c ≡ n * slice_index other c

@@ -1,14 +1,14 @@
 -- The events of a script, kept one after the other and then made one after the other.
-use Rattle.std.proofs.Common.{◌≡◌, ℕ, List, [], ◌∷◌, ◌++◌, Contains, inr, refl, sym, ap, subst}
+use Rattle.std.proofs.Common.{◌≡◌, ℕ, List, [], ◌∷◌, ◌++◌, inr, refl, sym, ap, subst}
 use Rattle.cca_base.specs.declared.cube.Pair.{Pair}
 use Rattle.cca_base.specs.declared.events.Event.{Event}
 use Rattle.cca_base.specs.declared.events.Event.TheVariants as event
-use Rattle.cca_base.specs.Cube.{IsUnion, IsRising}
+use Rattle.cca_base.specs.Cube.{IsRising}
 use Rattle.cca_base.specs.PlantModel.{PlantModel}
 use Rattle.cca_base.specs.Trace.{ExecutiveState, MayCome, Changes}
 use Rattle.plan_checker.specs.Standing.{FitsModel}
 use Rattle.trace_laws.specs.Events.{AsGiven, PendingAfter, mirrored_after}
-use Rattle.trace_laws.proofs.PendingKnown.{one_pending}
+use Rattle.trace_laws.proofs.PendingKnown.{one_pending, union_same}
 use Rattle.check_form.specs.CheckScript.{ScriptSoFar, with_event}
 use Rattle.check_form.specs.CheckStages.{ComeInTurn, KeepsScript, Advances}
 
@@ -31,15 +31,12 @@ kept m s e after keeps may known rises = record { rising = rises; come = come_sn
 
 -- ---- made
 
-same_union : (x y : ExecutiveState) (pairs both : List Pair) → both ≡ y.pending → IsUnion (Contains x.pending) (Contains pairs) both → IsUnion (Contains x.pending) (Contains pairs) y.pending
-same_union x y pairs both e h = subst (IsUnion (Contains x.pending) (Contains pairs)) e h
-
 -- what is pending and mirrored behind an event
 pub changed_known : (m : PlantModel) (x : ExecutiveState) (e : Event) (y : ExecutiveState) → Changes m AsGiven x e y → PendingAfter x.pending e y.pending × (y.mirrored ≡ mirrored_after x.mirrored e)
 changed_known m x event.Tick y h = absurd h
 changed_known m x (event.Goal pairs) y (goal, given, e) = (ap (λ (s : ExecutiveState). s.pending) e, ap (λ (s : ExecutiveState). s.mirrored) e)
 changed_known m x event.Clear y e = (ap (λ (s : ExecutiveState). s.pending) e, ap (λ (s : ExecutiveState). s.mirrored) e)
-changed_known m x (event.Observe pairs) y (both, union, e) = (same_union x y pairs both (sym (ap (λ (s : ExecutiveState). s.pending) e)) union, ap (λ (s : ExecutiveState). s.mirrored) e)
+changed_known m x (event.Observe pairs) y (both, union, e) = (union_same x y pairs both (sym (ap (λ (s : ExecutiveState). s.pending) e)) union, ap (λ (s : ExecutiveState). s.mirrored) e)
 changed_known m x (event.Fault p) y e = (ap (λ (s : ExecutiveState). s.pending) e, ap (λ (s : ExecutiveState). s.mirrored) e)
 changed_known m x (event.Mirror v) y e = (ap (λ (s : ExecutiveState). s.pending) e, ap (λ (s : ExecutiveState). s.mirrored) e)
 changed_known m x event.Reset y e = (ap (λ (s : ExecutiveState). s.pending) e, ap (λ (s : ExecutiveState). s.mirrored) e)

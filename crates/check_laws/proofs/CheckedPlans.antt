@@ -6,9 +6,9 @@ use Rattle.cca_base.specs.Model.{RepairsFit}
 use Rattle.cca_base.specs.Repairs.{Mending}
 use Rattle.cca_base.specs.Steps.{StepKind, Leads, Step, Run, Allowed, AllowedPlan, Reach}
 use Rattle.reach_laws.specs.Laws.{Returns}
-use Rattle.reach_laws.proofs.Commands.{one_step}
+use Rattle.cca_base.proofs.Commands.{one_step}
 use Rattle.check_laws.specs.Laws.{MadeAgain, OneWayBack, PlansReturn, CheckedPlanBegins, TestsAreExact, OneEnd}
-use Rattle.check_laws.proofs.MendingLaws.{mending_same, mending_join, repair_leads}
+use Rattle.reach_laws.proofs.MendingLaws.{mending_same, mending_join, repair_leads}
 use Rattle.check_laws.proofs.StepsAgain.{step_again, run_again}
 
 -- ---- runs

@@ -1,3 +1,2 @@
-pub mod MendingLaws
 pub mod StepsAgain
 pub mod CheckedPlans

@@ -10,7 +10,7 @@ use Rattle.cca_base.specs.Steps.{Step}
 use Rattle.cca_base.proofs.NextModes.{next_broken}
 use Rattle.reach_laws.proofs.Facts.{step_within, step_source, step_target, step_other, step_length}
 use Rattle.check_laws.specs.Laws.{MadeAgain, RunsAreMadeAgain}
-use Rattle.check_laws.proofs.MendingLaws.{still_follows, step_mends}
+use Rattle.reach_laws.proofs.MendingLaws.{still_follows, step_mends}
 
 module _ (m : PlantModel) (fit : RepairsFit m.version m.moves) (s t u : List ℕ) (k : ℕ) (h : Mending m s u) (step : Step m s k t) where
   -- the components that the step leaves alone stand as they did

@@ -11,7 +11,7 @@ use Rattle.clause_form.specs.declared.clause.Clauses.{Clauses}
 use Rattle.clause_form.specs.Clauses.{AllBelow, AreValues, all_met}
 use Rattle.clause_form.proofs.ModelSizes.{both_values}
 use Rattle.elimination.specs.Projection.{AreProjected, CanBeMet, IsProjection, has_empty}
-use Rattle.elimination.proofs.OtherSubjects.{all_met_first}
+use Rattle.clause_form.proofs.OtherSubjects.{all_met_first}
 
 -- values of the ones, and behind them those of the others
 pub rest_of_values : (counts sizes s r : List ℕ) → length s ≡ length counts → AreValues (counts ++ sizes) (s ++ r) → AreValues sizes r

@@ -1,4 +1,3 @@
-mod OtherSubjects
 mod Projecting
 mod SubjectProjected
 pub mod KeptSubjects

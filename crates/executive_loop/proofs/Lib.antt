@@ -1,4 +1,3 @@
 pub mod CoveredStates
 pub mod ExecutiveFits
 pub mod ShownTicks
-pub mod PendingPairs

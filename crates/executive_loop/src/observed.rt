@@ -13,7 +13,7 @@ use std::alloc::{AllocError, Global};
 use trace_laws::Standing;
 
 /// The pending observations, and the mirrored variables with one value. The error is out of memory.
-#[tactic(auto, using(crate::proofs::PendingPairs::pending_values, crate::proofs::PendingPairs::pending_unmirrored))]
+#[tactic(auto, using(trace_laws::proofs::PendingPairs::pending_values, trace_laws::proofs::PendingPairs::pending_unmirrored))]
 pub(crate) fn observe(
     alloc: Global,
     compiled: &Compiled,

@@ -11,3 +11,7 @@ pub mod FormulaReadWhole
 pub mod TextFormulas
 pub mod TextDepths
 pub mod SoundReadings
+pub mod FirstPlaces
+pub mod Spellings
+pub mod UnknownCommands
+pub mod NamesInGrowth

@@ -16,6 +16,7 @@ use Rattle.formula_syntax.specs.declared.formula_parser.Expected.TheVariants.{Op
 use Rattle.formula_syntax.specs.Grammar.{NameWord, Factor, Conjunction, Disjunction, Whole, True, False, Equal, Differs, In, Not, Parens, Single, And, Case, Or, Plain, Implies, Iff, name_word, values_spelled, factor_spelled, conjunction_spelled, disjunction_spelled, whole_spelled}
 use Rattle.formula_syntax.specs.ReadParts.{any_of, all_of, named, with_value, enclosed}
 use Rattle.text_base.specs.Chain.{◌>>=◌}
+use Rattle.text_base.proofs.ChainLaws.{bind_some}
 use Rattle.formula_syntax.specs.FormulaParser.{State, start, nots, more_or_one, completed, level_read, against, step, ended, run, link_from, close_from}
 use Rattle.formula_syntax.proofs.TextReadings.{with_values, factor_read, conjunction_read, disjunction_read, whole_read}
 use Rattle.formula_syntax.proofs.Complete.{here, level}
@@ -395,10 +396,6 @@ module _ (strict : Bool) (m : PlantModel) where
   ends_whole outer (AtBrace f name) x e = no_reading x e
   ends_whole outer (AtComma f name first values) x e = no_reading x e
   ends_whole outer (AtFollowed f name first values) x e = no_reading x e
-
-  bind_some : {A B : Type 0} (o : Option A) (f : A → Option B) (y : B) → (o >>= f) ≡ Some y → (x : A) × (o ≡ Some x) × (f x ≡ Some y)
-  bind_some (Some x) f y e = (x, refl, e)
-  bind_some None f y e = absurd cc
 
   only_text : (ls : List Lexeme) (outer : List Frame) (place : Reached) (x : ReadPart) → run strict m (state_of outer place) ls ≡ Some x → IsRead (text_of outer place ls) x
   unfolding run

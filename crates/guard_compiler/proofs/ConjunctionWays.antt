@@ -17,7 +17,7 @@ use Rattle.guard_compiler.specs.Conjunctions.{AreWaysOfBoth, IsConjunction, with
 use Rattle.guard_compiler.specs.Cover.{IsCovered}
 use Rattle.guard_compiler.specs.LeastUnions.{AreLeastUnions, IsLeastOverBoth, IsOverBoth}
 use Rattle.guard_compiler.proofs.CoverLaws.{part_of_part}
-use Rattle.guard_compiler.proofs.NamedPairs.{named, named_part, named_rises, of_named, to_named}
+use Rattle.prime_implicants.proofs.NamedPairs.{named, named_part, named_rises, of_named, to_named}
 
 -- what a prime implicant covers suffices
 covered_suffices : (m : PlantModel) (move : Move) (cubes : List (List Pair)) (cube : List Pair) → AreWays m move cubes → IsCovered cubes cube → Suffices m move cube

@@ -14,7 +14,7 @@ use Rattle.cca_base.specs.Cube.{AreInCubeOrder, IsBeforeCube, IsPart, IsRising, 
 use Rattle.cca_base.proofs.Members.{all_from, contains_cases, contains_here, contains_there, contains_none, from_filter, to_filter}
 use Rattle.cca_laws.proofs.OneOrder.{cube_total, neither_cube}
 use Rattle.guard_compiler.specs.Cover.{AreApart, IsCovered, is_subsequence}
-use Rattle.guard_compiler.proofs.Between.{AllPairs-insert}
+use Rattle.cca_laws.proofs.Between.{AllPairs-insert}
 use Rattle.guard_compiler.proofs.CoverLaws.{covered_whole, part_itself, part_of_part}
 use Rattle.guard_compiler.proofs.Subsequences.{subsequence_part, part_subsequence}
 

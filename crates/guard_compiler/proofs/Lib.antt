@@ -6,11 +6,9 @@ pub mod AskedOfState
 pub mod SharedClauses
 pub mod WorldsOfStates
 pub mod CoverLaws
-pub mod Between
 pub mod Subsequences
 pub mod Merged
 pub mod KeptCubes
 pub mod LeastUnionLaws
-pub mod NamedPairs
 pub mod ConjunctionWays
 pub mod GuardParts

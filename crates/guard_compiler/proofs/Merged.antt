@@ -6,11 +6,11 @@ use Rattle.list_laws.proofs.Elements.{all_left, all_right}
 use Rattle.cca_base.specs.declared.cube.Pair.{Pair}
 use Rattle.cca_base.specs.Cube.{IsPart, IsRising, Lacks}
 use Rattle.cca_base.proofs.Members.{all_from}
-use Rattle.cca_base.proofs.Pairwise.{AllPairs-head}
+use Rattle.cca_base.proofs.Pairwise.{AllPairs-head, AllPairs-right}
 use Rattle.prime_implicants.proofs.PartialPairs.{one_of_each}
 use Rattle.prime_implicants.proofs.ListedPairs.{lacks_seam as lacks_next}
 use Rattle.guard_compiler.specs.Cover.{IsOver, IsLeastOver}
-use Rattle.guard_compiler.proofs.Between.{AllPairs-between, AllPairs-right, all_before}
+use Rattle.cca_laws.proofs.Between.{AllPairs-between, all_before}
 use Rattle.guard_compiler.proofs.CoverLaws.{part_itself}
 
 -- the cubes over the two are those over what was merged with what is left of each, both of which rise

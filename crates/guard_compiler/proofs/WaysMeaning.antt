@@ -28,7 +28,7 @@ use Rattle.guard_compiler.specs.Asked.{AreAskedOf}
 use Rattle.prime_implicants.specs.Primes.{IsBlocked, IsPrime, AreAllPrimes, AreMorePrimes}
 use Rattle.prime_implicants.specs.Many.{AreMoreCubes}
 use Rattle.prime_implicants.proofs.PartialPairs.{one_of_each}
-use Rattle.prime_implicants.proofs.Counting.{not_among_fewer}
+use Rattle.cca_base.proofs.Counting.{not_among_fewer}
 use Rattle.prime_implicants.proofs.FoundKeys.{list_all_if}
 use Rattle.prime_implicants.proofs.DenseClauseLaws.{list_all_get}
 use Rattle.elimination.specs.Projection.{IsProjection}

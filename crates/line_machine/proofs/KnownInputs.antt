@@ -88,12 +88,9 @@ module _ {S : Type 0} (m : Ghosts S) (first : S) (fixed : IsFixed m) (out out' :
   pub streamed : (left left' : Option (List ℕ)) (r : Result End Cut) → Driven m first left left' out out' r → Streamed m first left left' out out' r
   streamed left left' r d = record { driven = d; sure = λ more t y q. sure_by d.taken left' r t y more d.says q }
 
-  by_told : (left left' : Option (List ℕ)) (r : Result End Cut) → Driven m first left left' out out' r → IfSome left (λ input. OutputFor m first input out out' r)
-  by_told None left' r d = tt
-  by_told (Some input) left' r d = tells input left' r d
-
   pub told_tells : (left left' : Option (List ℕ)) (r : Result End Cut) → Driven m first left left' out out' r → IfSome left (λ input. OutputFor m first input out out' r)
-  told_tells = by_told
+  told_tells None left' r d = tt
+  told_tells (Some input) left' r d = tells input left' r d
 
   ends_as : (input : List ℕ) (r : Result End Cut) → OutputFor m first input out out' r → (e : End) (y : List ℕ) → IsText m first input e y → IfOk r (λ f. f ≡ e)
   ends_as input (Ok f) h e y q = (text_is_one m first fixed input h.text y f e h.is q).0

@@ -2,12 +2,9 @@
 use Rattle.std.proofs.Common.{◌≡◌, ℕ, ◌+◌, ◌-◌, ◌≤◌, List, [], ◌++◌, length, take, drop, Option, Some, None, refl, sym, ap, ◌∙◌, append_assoc, append-nil, arith, length-append}
 use Rattle.std.specs.Io.KnownBytes.{append_known}
 use Rattle.std.proofs.lemmas.List.{take-append-drop, take_all}
+use Rattle.titan_wire.proofs.Bytes.{append_known-append}
 use Rattle.titan_wire.specs.Wire.{HasRoom, less_space}
 use Rattle.line_machine.specs.Sent.{SentFront}
-
-pub append_known-append : (o : Option (List ℕ)) (a b : List ℕ) → append_known (append_known o a) b ≡ append_known o (a ++ b)
-append_known-append None a b = refl
-append_known-append (Some x) a b = ap (λ (l : List ℕ). Some l) (append_assoc x a b)
 
 pub append_known-nil : (o : Option (List ℕ)) → append_known o [] ≡ o
 append_known-nil None = refl

@@ -3,3 +3,4 @@ pub mod Elements
 pub mod Kept
 pub mod Tests
 pub mod Orders
+pub mod GoneThrough

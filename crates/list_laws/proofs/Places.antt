@@ -1,5 +1,5 @@
 -- What stands at a place of a list.
-use Rattle.std.proofs.Common.{◌≡◌, ◌<◌, ℕ, zero, suc, List, [], ◌∷◌, length, slice_get, slice_index, get_or, Some, inl, inr, refl, ap, ◌∙◌, arith}
+use Rattle.std.proofs.Common.{◌≡◌, ◌<◌, ℕ, zero, suc, List, [], ◌∷◌, length, take, slice_get, slice_index, get_or, Some, inl, inr, refl, ap, ◌∙◌, arith}
 use Rattle.std.proofs.lemmas.Bool.{cases_lt}
 use Rattle.std.proofs.lemmas.List.{get_or_past}
 use Rattle.std.proofs.lemmas.Option.{get_or_from_slice_get, slice_get-get_or}
@@ -9,6 +9,13 @@ pub some_at : {X : Type 0} (xs : List X) (i : ℕ) → i < length xs → (x : X)
 some_at [] i h = absurd (omega arith)
 some_at (x ∷ xs) zero h = (x, refl)
 some_at (x ∷ xs) (suc i) h = some_at xs i (omega arith)
+
+-- what stands at a place stands there in the first elements
+pub get_take : {X : Type 0} (xs : List X) (n k : ℕ) → k < n → slice_get (take n xs) k ≡ slice_get xs k
+get_take xs zero k h = absurd (omega (arith, h))
+get_take [] (suc n) k h = refl
+get_take (x ∷ xs) (suc n) zero h = refl
+get_take (x ∷ xs) (suc n) (suc k) h = get_take xs n k (omega (arith, h))
 
 -- the number at a place, by both words
 pub value_at : (xs : List ℕ) (i v : ℕ) → slice_get xs i ≡ Some v → slice_index xs i ≡ v

@@ -1,5 +1,5 @@
 -- What follows from a test, from a choice by one, and from an option.
-use Rattle.std.proofs.Common.{◌≡◌, ℕ, Bool, true, false, not, cond, ◌||◌, ◌==◌, Option, Some, None, refl, sym, ap, ◌∙◌}
+use Rattle.std.proofs.Common.{◌≡◌, ℕ, Bool, true, false, not, cond, ◌||◌, ◌&&◌, ◌==◌, Option, Some, None, refl, sym, ap, ◌∙◌}
 use Rattle.std.proofs.lemmas.Bool.{false≢true, eq-eqb}
 
 -- what follows from either branch
@@ -11,6 +11,20 @@ cond_either false x y z e f g = g refl e
 pub either : {P : Type 0} (a b : Bool) → (a || b) ≡ true → (a ≡ true → P) → (b ≡ true → P) → P
 either true b e f g = f refl
 either false b e f g = g e
+
+-- neither test holds
+pub neither : (a b : Bool) → a ≡ false → b ≡ false → (a || b) ≡ false
+neither a b h k = ap (λ t. t || b) h ∙ k
+
+-- two tests that exclude each other
+pub no_and : (a b : Bool) → (a ≡ true → b ≡ true → ⊥) → (a && b) ≡ false
+no_and true true h = absurd (h refl refl)
+no_and true false h = refl
+no_and false b h = refl
+
+pub and_false : (a b : Bool) → (a && b) ≡ false → a ≡ true → b ≡ false
+and_false true b e h = e
+and_false false b e h = absurd cc
 
 -- what is found only where the test holds
 pub cond_found : {A : Type 0} (b : Bool) (o : Option A) (y : A) → cond b o None ≡ Some y → (b ≡ true) × (o ≡ Some y)

@@ -1,6 +1,7 @@
 -- What the machine prints behind a model is its script's lines as they stand, up to where they are read, both ways.
 use Rattle.std.specs.Prelude.{◌-◌, filter, take}
 use Rattle.std.proofs.Common.{◌≡◌, ℕ, ◌+◌, ◌<◌, suc, Bool, true, false, cond, List, [], ◌∷◌, ◌++◌, Option, Some, None, Result, Ok, Err, refl, sym, ap, subst, ◌∙◌, append_assoc, append-nil, arith}
+use Rattle.script_reader.proofs.LinesSayItems.{none_is}
 use Rattle.cca_base.specs.PlantModel.{PlantModel}
 use Rattle.cca_base.specs.Refusals.{bare}
 use Rattle.cca_base.specs.declared.cube.Pair.{Pair}
@@ -19,7 +20,7 @@ use Rattle.run_form.specs.Document.{Document, DocumentEnd, Complete, RefusedAt, 
 use Rattle.run_form.specs.Printed.{ending, with_text}
 use Rattle.run_form.specs.Summaries.{counts_of}
 use Rattle.run_form.specs.declared.notation.Notation.TheVariants.{Words}
-use Rattle.script_reader.specs.EventLines.{event_line, event_of, as_event, by_form, by_tokens}
+use Rattle.script_reader.specs.EventLines.{event_line, event_of, by_form, by_tokens}
 use Rattle.script_reader.specs.Items.{Item}
 use Rattle.text_base.specs.Tokens.{Tok, tokens_of}
 use Rattle.trace_laws.specs.Events.{mirrored_after}
@@ -34,13 +35,9 @@ event_some says (Err at) e h = absurd cc
 event_some says (Ok []) e h = absurd cc
 event_some says (Ok (t ∷ ts)) e h = refl
 
-some_event : (r : Result Event ℕ) → as_event r ≡ Ok None → ⊥
-some_event (Ok e) h = absurd cc
-some_event (Err code) h = absurd cc
-
 some_item : (says : Item → Result Event ℕ) (form : Option Item) → by_form says form ≡ Ok None → ⊥
 some_item says None h = absurd cc
-some_item says (Some item) h = some_event (says item) h
+some_item says (Some item) h = none_is (says item) h
 
 event_none : (says : Item → Result Event ℕ) (read : Result (List Tok) ℕ) → by_tokens says read ≡ Ok None → is_something read ≡ false
 event_none says (Err at) h = absurd cc

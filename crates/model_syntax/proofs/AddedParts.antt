@@ -21,8 +21,8 @@ use Rattle.formula_syntax.specs.Lookups.{subject_of, or_else, place_of}
 use Rattle.formula_syntax.specs.Meanings.{has_twice}
 use Rattle.model_syntax.specs.Codes.{is_long, is_taken, start_mode, list_passes, names_code, component_code, new_component, variable_code, new_variable}
 use Rattle.model_syntax.specs.Lines.{is_bare_name}
-use Rattle.model_syntax.proofs.NamesInGrowth.{not_some}
-use Rattle.model_syntax.proofs.FirstPlaces.{none_passes}
+use Rattle.formula_syntax.proofs.NamesInGrowth.{not_some}
+use Rattle.formula_syntax.proofs.FirstPlaces.{none_passes}
 pub use Rattle.std.proofs.lemmas.Bool.{or_parts, not-false as not_parts}
 
 -- no code applies

@@ -13,6 +13,7 @@ use Rattle.std.proofs.lemmas.List.Quantifiers.{position-Some}
 use Rattle.std.proofs.lemmas.Slice.Eq.{bytes_eq-Decides}
 use Rattle.indexmap.specs.IndexMap.{IsUnchanged, Updates}
 use Rattle.std.specs.Map.{lookup}
+use Rattle.list_laws.proofs.Tests.{and_false}
 use Rattle.cca_base.specs.declared.model.Move.{Move}
 use Rattle.cca_base.specs.declared.limits.TheConstants.{MAX_MOVES}
 use Rattle.cca_base.specs.PlantModel.{PlantModel}
@@ -25,8 +26,8 @@ use Rattle.model_syntax.specs.Codes.{least, is_long, command_number, with_named,
 use Rattle.model_syntax.specs.Lines.{is_bare_name}
 use Rattle.formula_syntax.proofs.LeastLaws.{least_none}
 use Rattle.model_syntax.proofs.AddedParts.{below, is_named}
-use Rattle.model_syntax.proofs.NamesInGrowth.{Names}
-use Rattle.model_syntax.proofs.FirstPlaces.{position_push, none_passes}
+use Rattle.formula_syntax.proofs.NamesInGrowth.{Names}
+use Rattle.formula_syntax.proofs.FirstPlaces.{position_push, none_passes}
 
 -- ---- what leads to a repaired mode
 
@@ -44,10 +45,6 @@ leads_to_push moves x =
 all_of_any : {X : Type 0} (p : X → Bool) (xs : List X) → list_any p xs ≡ false → All (λ x. p x ≡ false) xs
 all_of_any p [] e = All-nil (λ x. p x ≡ false)
 all_of_any p (x ∷ xs) e = let q = or_parts (p x) (list_any p xs) e in All-cons (λ x. p x ≡ false) x xs q.0 (all_of_any p xs q.1)
-
-and_false : (a b : Bool) → (a && b) ≡ false → a ≡ true → b ≡ false
-and_false true b e h = e
-and_false false b e h = absurd cc
 
 any_push : {X : Type 0} (p : X → Bool) (xs : List X) (x : X) → list_any p (xs ++ x ∷ []) ≡ (list_any p xs || p x)
 any_push p xs x = list_any-append p xs (x ∷ []) ∙ ap (λ b. list_any p xs || b) (or-false (p x))

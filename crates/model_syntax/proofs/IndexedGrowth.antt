@@ -13,7 +13,7 @@ use Rattle.cca_base.specs.PlantModel.{PlantModel}
 use Rattle.cca_base.specs.Model.{with_component, with_variable, with_command, with_move}
 use Rattle.formula_syntax.specs.Lookups.{place_of, subject_of}
 use Rattle.model_syntax.specs.Reader.{IsIndexed}
-use Rattle.model_syntax.proofs.NamesInGrowth.{Names, unchanged_fits, component_named, variable_named}
+use Rattle.formula_syntax.proofs.NamesInGrowth.{Names, unchanged_fits, component_named, variable_named}
 use Rattle.model_syntax.proofs.GrowthByMove.{command_numbered, unchanged_numbers, new_complete}
 
 module _ (m : PlantModel) (names : Names Subject) (numbers : Names ℕ) (h : IsIndexed m names numbers) where

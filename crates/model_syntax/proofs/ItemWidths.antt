@@ -28,6 +28,7 @@ use Rattle.model_syntax.proofs.KeptLines.{Grows, keeps_all, keeps_push, formula_
 use Rattle.model_syntax.proofs.GrownModels.{component_adds, variable_adds, rule_grows, rule_adds, move_adds, failure_grows, failure_adds}
 use Rattle.model_syntax.proofs.NamedPlaces.{start_named, command_named, AreNamed, ends_named, ends_printed}
 use Rattle.model_syntax.proofs.NumberPlaces.{whole_passes, list_passes, sensed_passes}
+use Rattle.model_syntax.proofs.Kept.{unless_goes}
 
 -- the text has room for these tokens, if no number stands before their end
 abbrev pub HasRoom : List ℕ → List Lexeme → Type 0
@@ -37,11 +38,6 @@ HasRoom text ls = numbers_end ls ≡ true → width false ls false ≤ length te
 printed : (text : List ℕ) (ls read : List Lexeme) → NoLonger ls read → numbers_end read ≡ true → HasRoom text read → length (joined ls) ≤ length text
 printed text ls read h e room = omega (arith, joined_width ls, h false false, room e)
 
--- the code doesn't apply, and this is the model
-goes : (o : Option ℕ) (m n : PlantModel) → Goes n ≡ unless o m → (o ≡ None) × (m ≡ n)
-goes None m n e = (refl, let f : m ≡ n = cc in f)
-goes (Some code) m n e = absurd cc
-
 module _ (m : PlantModel) (w : WellFormed m) (text : List ℕ) where
   abbrev Adds : PlantModel → Type 0
   Adds n = AddsLine m n text
@@ -50,7 +46,7 @@ module _ (m : PlantModel) (w : WellFormed m) (text : List ℕ) where
 
   component_line : (n : PlantModel) (name : List ℕ) (modes : List (List ℕ)) (start : List ℕ) → HasRoom text (line_spelled (items.Component name modes start)) → Goes n ≡ component_next m name modes start → Adds n
   component_line n name modes start room e =
-      let g = goes (component_code m name modes start) (with_component m (new_component name modes start)) n e in
+      let g = unless_goes (component_code m name modes start) (with_component m (new_component name modes start)) n e in
       let line = line_spelled (items.Component name modes start) in
       let front : List ℕ → List Lexeme = λ x. word (codes "component") ∷ word name ∷ symbol (codes "=") ∷ name_list_spelled modes ++ word (codes "start") ∷ word x ∷ [] in
       let same : component_said (new_component name modes start) ≡ line = ap front (start_named modes start (may_be_component m name modes start g.0).found) in
@@ -59,7 +55,7 @@ module _ (m : PlantModel) (w : WellFormed m) (text : List ℕ) where
 
   variable_line : (n : PlantModel) (name : List ℕ) (values : List (List ℕ)) (sensed : Bool) → HasRoom text (line_spelled (items.Variable name values sensed)) → Goes n ≡ variable_next m name values sensed → Adds n
   variable_line n name values sensed room e =
-      let g = goes (variable_code m name values) (with_variable m (new_variable name values sensed)) n e in
+      let g = unless_goes (variable_code m name values) (with_variable m (new_variable name values sensed)) n e in
       let line = line_spelled (items.Variable name values sensed) in
       subst Adds g.1 (variable_adds m w (new_variable name values sensed) text
       (printed text line line (same_tokens line line refl) (list_passes values (sensed_spelled sensed) ∙ sensed_passes sensed) room))
@@ -76,7 +72,7 @@ module _ (m : PlantModel) (w : WellFormed m) (text : List ℕ) where
   rule_line : (n : PlantModel) (t : Whole) → HasRoom text (line_spelled (items.Rule (spelling t))) → Goes n ≡ rule_next m t → Adds n
   rule_line n t room e =
       let f = whole_formula m t in
-      let g = goes (rule_code m t) (with_rule m f) n e in
+      let g = unless_goes (rule_code m t) (with_rule m f) n e in
       let said = formula_said (with_rule m f) f in
       let rule = word (codes "rule") in
       subst Adds g.1 (rule_adds m w f text
@@ -141,7 +137,7 @@ module _ (m : PlantModel) (w : WellFormed m) (text : List ℕ) where
     move_from : (n : PlantModel) (o : Option (ℕ × ℕ × ℕ)) → ends_of m ends ≡ o → HasRoom text (move_words (spelling t)) → Goes n ≡ unless (move_code_from m repair o command t) (with_declared m repair o command t) → Adds n
     move_from n None h room e = absurd cc
     move_from n (Some x) h room e =
-        let g = goes (move_code_from m repair (Some x) command t) (grown x) n e in
+        let g = unless_goes (move_code_from m repair (Some x) command t) (grown x) n e in
         subst Adds g.1 (move_fits x room (ends_named m ends x h) (move_known x g.0))
 
     move_line : (n : PlantModel) → HasRoom text (move_words (spelling t)) → Goes n ≡ move_next m repair ends command t → Adds n
@@ -156,7 +152,7 @@ module _ (m : PlantModel) (w : WellFormed m) (text : List ℕ) where
   failure_from n ends cost k (Some x) h d room e =
       let new = new_failure x k in
       let grown = with_failure m new in
-      let g = goes (failure_code_from m (Some x) k) grown n e in
+      let g = unless_goes (failure_code_from m (Some x) k) grown n e in
       let line = failure_said grown new in
       let read = line_spelled (items.Failure ends cost) in
       let same : line ≡ read =

@@ -14,6 +14,7 @@ use Rattle.text_base.specs.Lexemes.{Lexeme, lexeme}
 use Rattle.text_base.proofs.TokenKinds.{tokens_of_kinds}
 use Rattle.formula_syntax.specs.declared.read_part.ReadPart.TheVariants.{Sound}
 use Rattle.text_base.specs.Chain.{◌>>=◌}
+use Rattle.text_base.proofs.ChainLaws.{bind_some}
 use Rattle.formula_syntax.specs.Grammar.{Whole, spelling}
 use Rattle.model_syntax.specs.Items.{Ends, Item, item_of}
 use Rattle.model_syntax.specs.Items as items
@@ -37,7 +38,7 @@ use Rattle.model_syntax.proofs.ItemWords.{item_has_bare_names}
 goes_same : (m n : PlantModel) → Goes m ≡ Goes n → m ≡ n
 goes_same m n e = cc
 
-unless_goes : (o : Option ℕ) (m n : PlantModel) → Goes n ≡ unless o m → (o ≡ None) × (m ≡ n)
+pub unless_goes : (o : Option ℕ) (m n : PlantModel) → Goes n ≡ unless o m → (o ≡ None) × (m ≡ n)
 unless_goes None m n e = (refl, sym (goes_same n m e))
 unless_goes (Some code) m n e = absurd cc
 
@@ -103,16 +104,12 @@ rule_good m n ls good h =
 
 -- ---- ends
 
-bind_is : {A B : Type 0} (o : Option A) (f : A → Option B) (y : B) → (o >>= f) ≡ Some y → (x : A) × (o ≡ Some x) × (f x ≡ Some y)
-bind_is (Some x) f y e = (x, refl, e)
-bind_is None f y e = absurd cc
-
 -- known ends are modes of their component
 ends_are_modes : (m : PlantModel) (ends : Ends) (x : ℕ × ℕ × ℕ) → ends_of m ends ≡ Some x → HasMode m x.0 x.1 × HasMode m x.0 x.2
 ends_are_modes m ends x e =
-    let c = bind_is (as_component (subject_of m ends.name)) (λ c. value_of m (subjects.Component c) ends.source >>= λ a. value_of m (subjects.Component c) ends.target >>= λ b. Some (c, a, b)) x e in
-    let a = bind_is (value_of m (subjects.Component c.0) ends.source) (λ a. value_of m (subjects.Component c.0) ends.target >>= λ b. Some (c.0, a, b)) x c.2 in
-    let b = bind_is (value_of m (subjects.Component c.0) ends.target) (λ b. Some (c.0, a.0, b)) x a.2 in
+    let c = bind_some (as_component (subject_of m ends.name)) (λ c. value_of m (subjects.Component c) ends.source >>= λ a. value_of m (subjects.Component c) ends.target >>= λ b. Some (c, a, b)) x e in
+    let a = bind_some (value_of m (subjects.Component c.0) ends.source) (λ a. value_of m (subjects.Component c.0) ends.target >>= λ b. Some (c.0, a, b)) x c.2 in
+    let b = bind_some (value_of m (subjects.Component c.0) ends.target) (λ b. Some (c.0, a.0, b)) x a.2 in
     let same : (c.0, a.0, b.0) ≡ x = cc in (
       subst (λ (y : ℕ × ℕ × ℕ). HasMode m y.0 y.1) same (mode_of_component m c.0 a.0 ends.source a.1),
       subst (λ (y : ℕ × ℕ × ℕ). HasMode m y.0 y.2) same (mode_of_component m c.0 b.0 ends.target b.1),

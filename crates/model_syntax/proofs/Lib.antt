@@ -1,13 +1,10 @@
 pub mod ItemGrammar
 pub mod Kept
 pub mod OneWay
-pub mod FirstPlaces
-pub mod NamesInGrowth
 pub mod AddedParts
 pub mod FormulaLines
 pub mod FailureLines
 pub mod GrowthByMove
-pub mod UnknownCommands
 pub mod MoveLines
 pub mod ItemWords
 pub mod LineAnswers
@@ -16,7 +13,6 @@ pub mod PrintedText
 pub mod Widths
 pub mod SetWidths
 pub mod TextWidths
-pub mod Spellings
 pub mod SaidWidths
 pub mod SubjectNames
 pub mod LineWidths
@@ -43,3 +39,4 @@ mod ChainTests
 mod RepairCodes
 mod RepairsAsBefore
 pub mod IndexedGrowth
+pub mod FaultsByIndex

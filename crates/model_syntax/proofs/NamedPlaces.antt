@@ -22,7 +22,7 @@ use Rattle.model_syntax.proofs.SubjectNames.{subject_name}
 
 -- ---- names in a list
 
-at_place : (names : List (List ℕ)) (k : ℕ) → k < length names → name_at names k ≡ get_or names k []
+pub at_place : (names : List (List ℕ)) (k : ℕ) → k < length names → name_at names k ≡ get_or names k []
 at_place names k h = let none : List ℕ = [] in ap (λ o. option_map_or (λ (x : List ℕ). x) o []) (slice_get-get_or names k none h)
 
 place_named : (names : List (List ℕ)) (text : List ℕ) (k : ℕ) → place_of names text ≡ Some k → name_at names k ≡ text

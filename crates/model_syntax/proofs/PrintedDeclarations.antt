@@ -7,6 +7,7 @@ use Rattle.std.proofs.lemmas.Bool.{le-ltb, lt-leb, or_from}
 use Rattle.std.proofs.lemmas.List.{map-append}
 use Rattle.std.proofs.lemmas.List.Elements.{All-head, All-tail, All-cons, All-nil}
 use Rattle.list_laws.proofs.Elements.{all_left, all_right}
+use Rattle.cca_base.proofs.Pairwise.{AllPairs-right}
 use Rattle.cca_base.specs.declared.formula.Subject.TheVariants as subjects
 use Rattle.cca_base.specs.declared.model.Component.{Component}
 use Rattle.cca_base.specs.declared.model.Variable.{Variable}
@@ -25,7 +26,7 @@ use Rattle.model_syntax.specs.Printing.{joined, name_at, component_said, variabl
 use Rattle.model_syntax.specs.RoundTrip.{AreOfTheirKinds}
 use Rattle.formula_syntax.proofs.UnknownNames.{position_none, different_text}
 use Rattle.model_syntax.proofs.PrintedLines.{begun, line_leads, IsAt, name_there, not_too_long, never_twice, none_long, name_words, all_are_names}
-use Rattle.model_syntax.proofs.PrintedNames.{pairs_right, pairs_across, not_first}
+use Rattle.model_syntax.proofs.PrintedNames.{pairs_across, not_first}
 use Rattle.model_syntax.proofs.PrintedParts.{names_kinds, name_parts, kinds_append, word_kind}
 
 pub none_applies : (a b c : Bool) (i j k : ℕ) → a ≡ false → b ≡ false → c ≡ false → least ((i, a) ∷ (j, b) ∷ (k, c) ∷ []) ≡ None
@@ -124,7 +125,7 @@ module _ (version : ℕ) (cs : List Component) (all : List Variable) (names : Ar
     divided = sym (map-append name_of_quantity front (x ∷ rest)) ∙ ap (map name_of_quantity) e
 
     own : AreDifferent (map name_of_quantity front ++ x.name ∷ map name_of_quantity rest)
-    own = subst AreDifferent (sym divided) (pairs_right (λ a b. a ≢ b) part_names (map name_of_quantity all) names.different)
+    own = subst AreDifferent (sym divided) (AllPairs-right (λ a b. a ≢ b) part_names (map name_of_quantity all) names.different)
 
     whole : AreDifferent ((part_names ++ map name_of_quantity front) ++ x.name ∷ map name_of_quantity rest)
     whole = subst AreDifferent (sym (append_assoc part_names (map name_of_quantity front) (x.name ∷ map name_of_quantity rest) ∙ ap (λ ns. part_names ++ ns) divided)) names.different

@@ -3,16 +3,11 @@ use Rattle.std.proofs.Common.{◌≡◌, ◌≢◌, ℕ, Bool, true, false, not,
 use Rattle.std.specs.List.{list_any}
 use Rattle.std.proofs.lemmas.Bool.{eqb-true, eq-eqb, not-true, both_ways}
 use Rattle.std.proofs.lemmas.List.Folds.{list_any_none}
-use Rattle.list_laws.proofs.Tests.{either}
+use Rattle.list_laws.proofs.Tests.{either, no_and}
 use Rattle.cca_base.specs.declared.model.Move.{Move}
 use Rattle.cca_base.specs.Model.{CommandsFit}
 use Rattle.model_syntax.specs.Codes.{is_ambiguous}
 use Rattle.model_syntax.proofs.PrintedNames.{pairs_across}
-
-no_and : (a b : Bool) → (a ≡ true → b ≡ true → ⊥) → (a && b) ≡ false
-no_and true true h = absurd (h refl refl)
-no_and true false h = refl
-no_and false b h = refl
 
 any_at : {X : Type 0} (p : X → Bool) (xs : List X) (y : X) (ys : List X) → p y ≡ true → list_any p (xs ++ y ∷ ys) ≡ true
 any_at p [] y ys h = ap (λ b. b || list_any p ys) h

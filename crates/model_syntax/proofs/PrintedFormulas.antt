@@ -3,6 +3,7 @@ use Rattle.std.proofs.Common.{◌≡◌, ℕ, Bool, true, false, ◌||◌, codes
 use Rattle.std.specs.Prelude.{nat_le}
 use Rattle.std.specs.List.{list_all, list_any}
 use Rattle.std.proofs.lemmas.Bool.{and_parts}
+use Rattle.list_laws.proofs.Tests.{neither}
 use Rattle.cca_base.specs.declared.formula.Formula.{Formula, roll-Formula}
 use Rattle.cca_base.specs.declared.formula.Formula.TheOpen.{Formula-F}
 use Rattle.cca_base.specs.declared.formula.Formula.TheFolds.{fold-roll-Formula, ind-Formula, map-Formula}
@@ -17,7 +18,7 @@ use Rattle.text_base.specs.Lists.{names_spelled}
 use Rattle.formula_syntax.specs.Lookups.{choices_of}
 use Rattle.formula_syntax.specs.Meanings.{Comparison, words, lacks_value, is_unknown, has_twice, has_among, is_among}
 use Rattle.model_syntax.specs.Printing.{Said, said, said_step, among_said, name_of, names_in}
-use Rattle.model_syntax.proofs.PrintedParts.{printed, or_false, kinds_append, name_parts, word_kind, names_kinds, IsAtom, WholeText, whole_at, IsPrintedAs, by_not}
+use Rattle.model_syntax.proofs.PrintedParts.{printed, kinds_append, name_parts, word_kind, names_kinds, IsAtom, WholeText, whole_at, IsPrintedAs, by_not}
 use Rattle.model_syntax.proofs.PrintedRows.{Part, firsts, conjunction_of, disjunction_of, sides}
 
 -- ---- sets
@@ -50,10 +51,10 @@ module _ (m : PlantModel) where
       means_set = ap (λ o. has_among m o names) h.subject ∙ ap (λ n. roll-Formula (Formula-F.Among s n)) h.gives
 
       is_known : list_any (is_unknown m) (record { name = name; values = names } ∷ []) ≡ false
-      is_known = or_false _ false (ap (λ o. lacks_value m o names) h.subject ∙ h.known) refl
+      is_known = neither _ false (ap (λ o. lacks_value m o names) h.subject ∙ h.known) refl
 
       is_once : list_any (λ c. has_twice c.values) (let c : Comparison = record { name = name; values = names } in c ∷ []) ≡ false
-      is_once = or_false _ false h.once refl
+      is_once = neither _ false h.once refl
 
     among_text : (names : List (List ℕ)) → IsAtom m s set names → IsPrintedAs m (among_said name names) (record { precedence = 0; depth = 1 }) atom
     among_text [] h = let e = h.gives in let k = h.some in absurd (omega (arith, e, k))

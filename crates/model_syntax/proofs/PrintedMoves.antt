@@ -6,7 +6,7 @@ use Rattle.std.specs.Str.{bytes_eq}
 use Rattle.std.proofs.lemmas.Bool.{lt-leb, cases_lt, eqb-true, or_from}
 use Rattle.std.proofs.lemmas.List.{take-append-drop}
 use Rattle.std.proofs.lemmas.List.Elements.{All-head, All-tail, All-cons, All-nil}
-use Rattle.list_laws.proofs.Places.{some_at}
+use Rattle.list_laws.proofs.Places.{some_at, get_take}
 use Rattle.list_laws.proofs.Elements.{all_left, all_right}
 use Rattle.cca_base.specs.declared.model.Move.{Move}
 use Rattle.cca_base.specs.declared.limits.TheConstants.{MAX_MOVES}
@@ -42,13 +42,6 @@ got_left (x ∷ xs) ys (suc k) lt = got_left xs ys k (omega arith)
 got_seam : {X : Type 0} (xs : List X) (y : X) (ys : List X) → slice_get (xs ++ y ∷ ys) (length xs) ≡ Some y
 got_seam [] y ys = refl
 got_seam (x ∷ xs) y ys = got_seam xs y ys
-
-got_taken : {X : Type 0} (xs : List X) (n k : ℕ) → k < n → slice_get (take n xs) k ≡ slice_get xs k
-got_taken [] zero k lt = refl
-got_taken [] (suc n) k lt = refl
-got_taken (x ∷ xs) zero k lt = absurd (omega arith)
-got_taken (x ∷ xs) (suc n) zero lt = refl
-got_taken (x ∷ xs) (suc n) (suc k) lt = got_taken xs n k (omega arith)
 
 one_more : {X : Type 0} (xs : List X) (k : ℕ) (x : X) → slice_get xs k ≡ Some x → take k xs ++ x ∷ [] ≡ take (suc k) xs
 one_more [] k x e = absurd cc
@@ -180,7 +173,7 @@ module _ (m : PlantModel) (w : WellFormed m) where
         elim (cases_lt x.command (used front)) [
           | inl l ↦
               let found = place_found (take (used front) m.commands) x.command command (AllPairs-take (λ a b. a ≢ b) (used front) m.commands w.command_names.different)
-              (got_taken m.commands (used front) x.command l ∙ the_name)
+              (get_take m.commands (used front) x.command l ∙ the_name)
               in
               let same : used front ≡ used (front ++ x ∷ []) = omega (arith, pushed, l) in
               subst (IsNumbered n command x.command) (ap (λ k. take k m.commands) same) (numbered_old n command x.command found)

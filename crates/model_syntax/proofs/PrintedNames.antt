@@ -22,13 +22,13 @@ use Rattle.cca_base.specs.Names.{is_name, AreNames, AreDifferent}
 use Rattle.cca_base.specs.Sets.{has, with_number}
 use Rattle.cca_base.specs.Formula.{is_choice_of, subject_value}
 use Rattle.cca_base.specs.Model.{AreChoices, IsComponent, mode_counts, value_counts, names_of}
-use Rattle.cca_base.proofs.Pairwise.{AllPairs-tail, AllPairs-head, AllPairs-take}
+use Rattle.cca_base.proofs.Pairwise.{AllPairs-tail, AllPairs-head, AllPairs-take, AllPairs-right}
 use Rattle.cca_base.proofs.SetLaws.{has-with_number, has-empty, has_above}
 use Rattle.formula_syntax.specs.Lookups.{place_of, subject_of, value_of, choices_of, or_else}
 use Rattle.formula_syntax.specs.Meanings.{has_twice, with_found, with_numbers}
 use Rattle.model_syntax.specs.Printing.{name_of, names_in}
 use Rattle.formula_syntax.proofs.UnknownNames.{position_none, different_text}
-use Rattle.model_syntax.proofs.FirstPlaces.{position_map, position_cons}
+use Rattle.formula_syntax.proofs.FirstPlaces.{position_map, position_cons}
 use Rattle.model_syntax.proofs.PrintedParts.{IsAtom}
 
 -- ---- elements of lists
@@ -38,10 +38,6 @@ member_at P xs k x h e = subst P (get_or_from_slice_get xs k x x e) (h k x (slic
 
 pub pairs_left : {X : Type 0} (R : X → X → Type 0) (xs ys : List X) → AllPairs R (xs ++ ys) → AllPairs R xs
 pairs_left R xs ys h = subst (AllPairs R) (take-append_seam xs ys) (AllPairs-take R (length xs) (xs ++ ys) h)
-
-pub pairs_right : {X : Type 0} (R : X → X → Type 0) (xs ys : List X) → AllPairs R (xs ++ ys) → AllPairs R ys
-pairs_right R [] ys h = h
-pairs_right R (x ∷ xs) ys h = pairs_right R xs ys (AllPairs-tail R x (xs ++ ys) h)
 
 -- each of the first is related to an element of the others
 pub pairs_across : {X : Type 0} (R : X → X → Type 0) (xs ys : List X) (k : ℕ) (y : X) → AllPairs R (xs ++ ys) → slice_get ys k ≡ Some y → All (λ x. R x y) xs
@@ -97,7 +93,7 @@ module _ (m : PlantModel) (h : HasNames m) where
   variable_found : (v : ℕ) (x : Variable) → slice_get m.variables v ≡ Some x → subject_of m x.name ≡ Some (subjects.Variable v)
   variable_found v x e =
       let at = named_at (λ (q : Variable). q.name) m.variables v x e in
-      let different = pairs_right (λ a b. a ≢ b) component_names variable_names h.names.different in
+      let different = AllPairs-right (λ a b. a ≢ b) component_names variable_names h.names.different in
       let found = sym (position_map (λ n. bytes_eq n x.name) (λ (q : Variable). q.name) m.variables) ∙ place_found variable_names v x.name different at in
       let none = position_none (λ c. bytes_eq c.name x.name) m.components (not_first m.components x.name (pairs_across (λ a b. a ≢ b) component_names variable_names v x.name h.names.different at)) in
       ap (λ (o : Option ℕ). or_else (option_map subjects.Component o) (option_map subjects.Variable (position (λ v. bytes_eq v.name x.name) m.variables))) none

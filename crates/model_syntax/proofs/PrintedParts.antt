@@ -1,5 +1,5 @@
 -- A printed text stands in another as it is, or in parentheses where they are needed.
-use Rattle.std.proofs.Common.{◌≡◌, ℕ, zero, suc, ◌+◌, ◌<◌, Bool, true, false, not, ◌&&◌, ◌||◌, codes, List, [], ◌∷◌, ◌++◌, length, Some, refl, sym, ap, subst, ◌∙◌, arith, append_assoc}
+use Rattle.std.proofs.Common.{◌≡◌, ℕ, zero, suc, ◌+◌, ◌<◌, Bool, true, false, not, ◌&&◌, codes, List, [], ◌∷◌, ◌++◌, length, Some, refl, sym, ap, subst, ◌∙◌, arith, append_assoc}
 use Rattle.std.specs.Prelude.{nat_le, is_some}
 use Rattle.std.specs.List.{list_all, list_any}
 use Rattle.std.proofs.lemmas.Bool.{and_parts, and_from}
@@ -24,10 +24,6 @@ use Rattle.model_syntax.specs.RoundTrip.{AreOfTheirKinds}
 -- a formula's printed depth
 abbrev pub printed : Formula → Printed
 printed = fold-Formula Printed printed_step
-
-pub or_false : (a b : Bool) → a ≡ false → b ≡ false → (a || b) ≡ false
-or_false true b e f = absurd cc
-or_false false b e f = f
 
 pub kinds_append : (ls ms : List Lexeme) → AreOfTheirKinds ls → AreOfTheirKinds ms → AreOfTheirKinds (ls ++ ms)
 kinds_append ls ms h k = list_all-append (λ l. is_of_kind l.0 l.1) ls ms ∙ and_from _ _ h k

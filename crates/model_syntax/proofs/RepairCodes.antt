@@ -4,6 +4,7 @@ use Rattle.std.specs.List.{list_any, slice_index}
 use Rattle.std.proofs.lemmas.Bool.{cases_Bool, cases_eq, both_ways, and_parts, and_from, eqb-true, eq-eqb, or_parts, or_from, or_cases, not-true, not_from_false, false_from_ne_true}
 use Rattle.std.proofs.lemmas.List.Elements.{All-contains, Contains-push_cases, Contains-append_left, Contains-append_right}
 use Rattle.std.proofs.lemmas.List.Folds.{list_any-from_Any, Any-from_list_any}
+use Rattle.list_laws.proofs.Tests.{no_and, and_false}
 use Rattle.cca_base.specs.declared.model.Move.{Move}
 use Rattle.cca_base.specs.PlantModel.{PlantModel}
 use Rattle.cca_base.specs.Model.{WellFormed, IsNext, RepairChain, RepairsFit, MendsAtOnce, mode_counts, is_broken, is_repair_of}
@@ -15,15 +16,6 @@ use Rattle.model_syntax.proofs.ChainTests.{to_chain, chains_are_tested}
 
 pub any_some : {X : Type 0} (p : X → Bool) (xs : List X) (y : X) → Contains xs y → p y ≡ true → list_any p xs ≡ true
 any_some p xs y among pass = list_any-from_Any p xs (among.0, y, among.1, among.2, pass)
-
-and_false : (a b : Bool) → (a && b) ≡ false → a ≡ true → b ≡ false
-and_false true b e h = e
-and_false false b e h = absurd cc
-
-no_and : (a b : Bool) → (a ≡ true → b ≡ true → ⊥) → (a && b) ≡ false
-no_and true true h = absurd (h refl refl)
-no_and true false h = refl
-no_and false b h = refl
 
 -- ---- a mode that is broken, and a move that is the repair
 

@@ -17,7 +17,7 @@ use Rattle.model_syntax.proofs.Widths.{NoLonger, same_tokens, through, behind, b
 use Rattle.model_syntax.proofs.SetWidths.{tally, set_tally, one_text}
 use Rattle.model_syntax.proofs.SaidWidths.{said, formula_denied, values_width, among_width}
 use Rattle.model_syntax.proofs.SubjectNames.{subject_name}
-use Rattle.model_syntax.proofs.Spellings.{append_twice, conjunction_apart, disjunction_apart, whole_apart}
+use Rattle.formula_syntax.proofs.Spellings.{append_twice, conjunction_apart, disjunction_apart, whole_apart}
 use Rattle.formula_syntax.proofs.TextFormulas.{Known, known_both, known_one, some_conjuncts, some_disjuncts}
 
 -- ---- atoms

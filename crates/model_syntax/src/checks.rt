@@ -10,7 +10,7 @@ use crate::indexed_model::IndexedModel;
 use crate::item::Ends;
 use crate::words::{any_long, has_twice, is_long, start_mode};
 use cca_base::codes::{LIMIT, NAME_REPEATED, NAME_UNKNOWN};
-use cca_base::{MAX_CHOICES, MAX_COMPONENTS, MAX_NAME, MAX_VARIABLES, Subject};
+use cca_base::{MAX_CHOICES, MAX_COMPONENTS, MAX_VARIABLES, Subject};
 use formula_syntax::value_of;
 
 /// Whether a name is too long, or there are too many of them.

@@ -10,11 +10,20 @@ use cca_base::codes::{AMBIGUOUS, INTO_BROKEN, LIMIT, REPAIR_CYCLE, TWO_MENDS, UN
 use cca_base::{MAX_MOVES, Model, Move};
 
 /// Whether another move has the command, and is of another component or leaves the same mode.
-fn is_ambiguous(moves: &[Move], x: &Move) -> bool
-    ensures { result ≡ is_ambiguous moves.now x.now }
+fn is_ambiguous(model: &Model, x: &Move) -> bool
+    ensures { result ≡ is_ambiguous model.now.moves x.now }
 {
-    moves.iter().any(|y| y.command == x.command
-        && (y.component != x.component || y.source == x.source))
+    if x.command as usize >= model.commands().len() {
+        return false;
+    }
+    let moves = model.moves();
+    for number in model.moves_by(x.command) {
+        let y = moves.get(*number as usize);
+        if y.component != x.component || y.source == x.source {
+            return true;
+        }
+    }
+    false
 }
 
 /// Whether a move leads to the mode.
@@ -88,18 +97,21 @@ fn is_unmarked_exit(model: &Model, x: &Move) -> bool
 }
 
 /// Whether a repair of the mode leads to another mode than this.
-fn is_mended_elsewhere(moves: &[Move], component: u16, mode: u8, mended: u8) -> bool
-    ensures { result ≡ list_any (mends_elsewhere component mode mended) moves.now }
+fn is_mended_elsewhere(model: &Model, component: u16, mode: u8, mended: u8) -> bool
+    ensures { result ≡ list_any (mends_elsewhere component mode mended) model.now.moves }
 {
-    moves.iter().any(|y| y.repair
-        && ((y.component == component && y.source == mode) && y.target != mended))
+    let _moves = model.moves();
+    match model.next_mode(component, mode) {
+        Some(next) => next != mended,
+        None => false,
+    }
 }
 
 /// Whether an earlier repair of the repair's source leads to another mode.
-fn mends_twice(moves: &[Move], x: &Move) -> bool
-    ensures { result ≡ mends_twice moves.now x.now }
+fn mends_twice(model: &Model, x: &Move) -> bool
+    ensures { result ≡ mends_twice model.now.moves x.now }
 {
-    x.repair && is_mended_elsewhere(moves, x.component, x.source, x.target)
+    x.repair && is_mended_elsewhere(model, x.component, x.source, x.target)
 }
 
 /// The least code of a move between modes that are known, and whose guard is sound.
@@ -107,16 +119,16 @@ pub fn move_code(model: &Model, x: &Move, command: &[u8]) -> Option<u8>
     ensures code { result ≡ sound_move_code model.now x.now command.now }
     ensures well_formed { WellFormed model.now }
 {
-    let moves = model.moves().as_slice();
-    if is_long(command) || moves.len() >= MAX_MOVES {
+    let count = model.moves().len();
+    if is_long(command) || count >= MAX_MOVES {
         Some(LIMIT)
-    } else if is_ambiguous(moves, x) {
+    } else if is_ambiguous(model, x) {
         Some(AMBIGUOUS)
     } else if is_into_broken(model, x) {
         Some(INTO_BROKEN)
     } else if is_unmarked_exit(model, x) {
         Some(UNMARKED_EXIT)
-    } else if mends_twice(moves, x) {
+    } else if mends_twice(model, x) {
         Some(TWO_MENDS)
     } else if is_repair_cycle(model, x) {
         Some(REPAIR_CYCLE)

@@ -96,7 +96,7 @@ impl IndexedModel {
     }
 
     /// The number of a command that the model has.
-    #[tactic(auto, using(crate::proofs::UnknownCommands::long_is_none))]
+    #[tactic(auto, using(formula_syntax::proofs::UnknownCommands::long_is_none))]
     fn number_of(&self, command: &[u8]) -> Option<u16>
         ensures { result ≡ place_of self.now.commands command.now }
     {

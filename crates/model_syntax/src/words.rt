@@ -61,7 +61,7 @@ fn place_of_word(words: &[&[u8]], text: &[u8]) -> Option<usize>
 }
 
 /// The number of the start mode among the words.
-#[tactic(auto, using(crate::proofs::FirstPlaces::position_map))]
+#[tactic(auto, using(formula_syntax::proofs::FirstPlaces::position_map))]
 pub fn start_mode(modes: &[&[u8]], start: &[u8]) -> Option<usize>
     ensures start { result ≡ start_mode (map (λ w. w.now) modes.now) start.now }
     ensures within { IfSome result (λ k. k < length modes.now) }

@@ -18,7 +18,7 @@ use Rattle.cca_base.specs.Steps.{support}
 use Rattle.cca_base.proofs.Members.{all_from, contains_cases, contains_here, contains_there, to_filter, from_filter, in_pairs, stands_in}
 use Rattle.cca_base.proofs.StateLaws.{same_state}
 use Rattle.cca_base.proofs.Within.{fits_within}
-use Rattle.consistency.proofs.StatePairs.{extends_own}
+use Rattle.cca_base.proofs.StatePairs.{extends_own}
 use Rattle.plan_checker.specs.Steps.{AreSupport}
 
 -- a move's guard speaks only of what the model has

@@ -8,4 +8,3 @@ pub mod WorldParts
 pub mod YesShows
 pub mod TakesFit
 pub mod VerdictLaws
-pub mod SureFormulas

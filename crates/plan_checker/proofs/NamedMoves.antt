@@ -1,6 +1,6 @@
 -- A command names one move from a state; its step, and its nominal move.
-use Rattle.std.proofs.Common.{◌≡◌, ◌<◌, ℕ, List, [], ◌∷◌, ◌++◌, length, slice_get, slice_set, Some, None, Contains, refl, sym, ap, subst, inl, inr}
-use Rattle.std.proofs.lemmas.List.Elements.{All-contains, Contains-push_cases}
+use Rattle.std.proofs.Common.{◌≡◌, ◌<◌, ℕ, List, length, slice_set, Some, refl, sym, ap, subst, inl, inr}
+use Rattle.std.proofs.lemmas.List.Elements.{All-contains}
 use Rattle.std.proofs.lemmas.Option.{same_Some, slice_get_within}
 use Rattle.cca_base.specs.declared.model.Move.{Move}
 use Rattle.cca_base.specs.PlantModel.{PlantModel}
@@ -9,7 +9,7 @@ use Rattle.cca_base.specs.State.{IsState, Follows, Holds}
 use Rattle.cca_base.specs.Steps.{support, Step}
 use Rattle.cca_base.specs.Successors.{IsCommanded, Nominal}
 use Rattle.cca_base.proofs.NominalLaws.{moved}
-use Rattle.reach_laws.proofs.Commands.{one_named}
+use Rattle.cca_base.proofs.Commands.{one_named}
 use Rattle.plan_checker.specs.Steps.{IsNamed, NoStep}
 
 module _ (m : PlantModel) (s : List ℕ) (k : ℕ) where
@@ -43,15 +43,3 @@ module _ (m : PlantModel) (s : List ℕ) (k : ℕ) (move : Move) (h : IsNamed m 
 
   pub named_state : WellFormed m → IsState m s → IsState m (slice_set s move.component move.target)
   named_state good state = moved m s move.component move.target state (All-contains (IsMove m) m.moves move good.moves h.of_model).target
-
--- none of the moves names it, where none of the first ones does, and this one doesn't
-pub none_more : (m : PlantModel) (s : List ℕ) (k : ℕ) (first : List Move) (x : Move) → ((move : Move) → Contains first move → move.command ≡ k → slice_get s move.component ≡ Some move.source → ⊥)
-    → ((x.command ≡ k) × (slice_get s x.component ≡ Some x.source) → ⊥)
-    → (move : Move) → Contains (first ++ x ∷ []) move → move.command ≡ k → slice_get s move.component ≡ Some move.source → ⊥
-none_more m s k first x none other move among named at = elim (Contains-push_cases first x move among) [
-  | inl before ↦ none move before named at
-  | inr e ↦ other (subst (λ (y : Move). (y.command ≡ k) × (slice_get s y.component ≡ Some y.source)) (sym e) (named, at))
-]
-
-pub no_command : (m : PlantModel) (s : List ℕ) → Nominal m s None s
-no_command m s = inr ((λ move h. (let e : None ≡ Some move.command = h.command in absurd cc)), refl)

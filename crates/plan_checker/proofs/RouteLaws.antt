@@ -17,7 +17,7 @@ use Rattle.cca_base.specs.Model.{CommandsFit}
 use Rattle.cca_base.specs.State.{Extends}
 use Rattle.cca_base.specs.Steps.{Step, Run}
 use Rattle.cca_base.specs.Trace.{ExecutiveState}
-use Rattle.reach_laws.proofs.Commands.{one_step}
+use Rattle.cca_base.proofs.Commands.{one_step}
 use Rattle.check_laws.proofs.CheckedPlans.{one_end}
 use Rattle.plan_checker.specs.declared.reasons.TheConstants.{STEP, PLAN, GOAL, BACK}
 use Rattle.plan_checker.specs.declared.verdict.Verdict.{Verdict}

@@ -3,7 +3,7 @@ use Rattle.std.proofs.Common.{◌≡◌, ◌<◌, ◌+◌, ℕ, List, [], ◌∷
 use Rattle.cca_base.specs.PlantModel.{PlantModel}
 use Rattle.cca_base.specs.Model.{CommandsFit}
 use Rattle.cca_base.specs.Steps.{Step, Run}
-use Rattle.reach_laws.proofs.Commands.{one_step}
+use Rattle.cca_base.proofs.Commands.{one_step}
 use Rattle.plan_checker.specs.Steps.{NoStep, NoRun}
 
 -- from here the commands that are left lead to where all of them lead from the start

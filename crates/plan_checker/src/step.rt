@@ -12,15 +12,6 @@ use crate::rules::Rules;
 use cca_base::{Model, Move, State};
 use std::alloc::AllocError;
 
-/// Whether the command names the move from its component's mode.
-fn is_named(state: &State, command: u16, step: &Move) -> bool
-    requires { step.now.component < length state.now.modes }
-    ensures { IsTrue result ↔ ((step.now.command ≡ command)
-        × (slice_get state.now.modes step.now.component ≡ Some step.now.source)) }
-{
-    step.command == command && *state.modes.get(step.component as usize) == step.source
-}
-
 /// The move that the command names from its component's mode. None comes exactly where it names none.
 fn named<'a>(model: &'a Model, state: &State, command: u16) -> Option<&'a Move>
     requires { IsState model.now state.now.modes }
@@ -28,12 +19,9 @@ fn named<'a>(model: &'a Model, state: &State, command: u16) -> Option<&'a Move>
     ensures none { IsNone result → NoneNamed model.now state.now.modes command }
     ensures well_formed { WellFormed model.now }
 {
-    for x in model.moves().as_slice() {
-        if is_named(state, command, x) {
-            return Some(x);
-        }
-    }
-    None
+    let moves = model.moves();
+    let number = model.named(state, command)?;
+    Some(moves.get(number as usize))
 }
 
 /// Makes the command's step, where it is one. The error is out of memory.

@@ -13,16 +13,15 @@ fn target_of(model: &Model, state: &State, command: u16) -> Pair
     ensures { (next : List ℕ) × (step : Step model.now state.now.modes command next)
         × (result ≡ record { item = step.move.component; value = step.move.target }) }
 {
-    let moves = model.moves().as_slice();
-    for m in moves {
-        if m.command == command && *state.modes.get(m.component as usize) == m.source {
-            return Pair {
-                item: m.component,
-                value: m.target,
-            };
-        }
+    let moves = model.moves();
+    let Some(number) = model.named(state, command) else {
+        unreachable!()
+    };
+    let x = moves.get(number as usize);
+    Pair {
+        item: x.component,
+        value: x.target,
     }
-    unreachable!()
 }
 
 /// Makes the command's step.

@@ -10,7 +10,7 @@ use Rattle.cca_base.specs.Steps.{Run, AllowedPlan}
 use Rattle.cca_base.specs.Plans.{Whole}
 use Rattle.reach_laws.specs.Classes.{Test, AreInside}
 use Rattle.reach_laws.specs.Laws.{Setting}
-use Rattle.reach_laws.proofs.Commands.{one_step}
+use Rattle.cca_base.proofs.Commands.{one_step}
 use Rattle.reach_laws.proofs.PlanLaws.{serialisation}
 use Rattle.reach_laws.proofs.Sound.{stays_covered_law}
 use Rattle.reach_laws.proofs.Answered.{whole_is_allowed, empty_stays}

@@ -1,4 +1,3 @@
-pub mod Later
 pub mod Covered
 pub mod Stepping
 pub mod Replies

@@ -32,7 +32,7 @@ use Rattle.planner_step.specs.declared.answer.Answer.TheVariants.{Send, Achieved
 use Rattle.planner_step.specs.Planning.{cells_of, member_of, reply_of, AreReached, IsGoal}
 use Rattle.planner_step.specs.Toward.{IsWantedPair}
 use Rattle.planner_step.proofs.Covered.{setting, reach_from, reach_inside}
-use Rattle.planner_step.proofs.Later.{in_order_few}
+use Rattle.reach_laws.proofs.Later.{in_order_few}
 
 same_pair : (c mode : ℕ) (p : Pair) → Unreachable c mode ≡ Unreachable p.item p.value → (c ≡ p.item) × (mode ≡ p.value)
 same_pair c mode p h = (cc, cc)

@@ -17,7 +17,7 @@ use Rattle.policy_tables.specs.Tables.{TableParts, IsTables}
 use Rattle.planner_step.specs.Planning.{cells_of, member_of}
 use Rattle.planner_step.specs.Toward.{IsWantedPair, GoesOn}
 use Rattle.planner_step.proofs.Covered.{inside_within, inside_place}
-use Rattle.planner_step.proofs.Later.{later, later_less}
+use Rattle.reach_laws.proofs.Later.{later, later_less}
 
 module _ (t : TableParts) (is : IsTables t) (s : List ℕ) (cov : CoversState t.classes s) where
   abbrev b : CompiledModel

@@ -17,7 +17,7 @@ use Rattle.prime_implicants.specs.Primes.{IsPrime, AreAllPrimes, AreMorePrimes}
 use Rattle.prime_implicants.proofs.FalsifyingChoices.{prime_if, found_if, below_size, passes_below, find_false, row_unfalsified-drop}
 use Rattle.prime_implicants.proofs.PartialPairs.{values_in, some_inside}
 use Rattle.prime_implicants.proofs.PrimeCubes.{AreRowsOf, cube_is_prime, partial_is_prime, cube_again}
-use Rattle.prime_implicants.proofs.Counting.{not_among_fewer}
+use Rattle.cca_base.proofs.Counting.{not_among_fewer}
 use Rattle.prime_implicants.proofs.ListedPairs.{most_true}
 use Rattle.prime_implicants.proofs.FoundKeys.{StandsFor, each_stands, is_a_key, in_order, pairs_of_key-key_of}
 

@@ -11,4 +11,4 @@ pub mod ListedPairs
 pub mod PrimeCubes
 pub mod FoundKeys
 pub mod FoundAnswers
-pub mod Counting
+pub mod NamedPairs

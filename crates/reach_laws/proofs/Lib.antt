@@ -1,10 +1,8 @@
 pub mod Facts
-pub mod Support
 pub mod Ready
 pub mod Order
 pub mod Walk
 pub mod Sound
-pub mod Commands
 pub mod Agree
 pub mod Cells
 pub mod Trails
@@ -16,3 +14,5 @@ pub mod Picks
 pub mod Needed
 pub mod Answered
 pub mod Stands
+pub mod MendingLaws
+pub mod Later

@@ -5,7 +5,7 @@ use Rattle.cca_base.specs.Steps.{Step}
 use Rattle.cca_laws.proofs.OneOrder.{compiled_none_twice}
 use Rattle.cca_laws.proofs.OnePick.{one_command}
 use Rattle.reach_laws.specs.Plans.{OnePick, OneWhole}
-use Rattle.reach_laws.proofs.Commands.{one_step}
+use Rattle.cca_base.proofs.Commands.{one_step}
 
 pub one_pick_law : OnePick
 one_pick_law b s goal k l compiled x y =

@@ -18,7 +18,7 @@ use Rattle.cca_base.proofs.PathLaws.{below_contains}
 use Rattle.reach_laws.specs.Classes.{Test, IsOpen, OpenMove, OpenWalk, Joined, OpenRepairs, IsHome, InClass, AreClasses, IsOnWay, Stands, Covers}
 use Rattle.reach_laws.specs.Laws.{Setting, Ready, ClassIsReach, OneClasses, Returns, ReturnsInside, RepairsLeadIn, StaysCovered}
 use Rattle.reach_laws.proofs.Facts.{RepairRules, run_one, step_within, step_source, step_target, step_other, step_state, join, go_one, repairs_join, repairs_walk}
-use Rattle.reach_laws.proofs.Support.{leans}
+use Rattle.cca_base.proofs.Support.{leans}
 use Rattle.reach_laws.proofs.Order.{repair_rules, Among, AreEffectsFirst, IsOrder, order_from}
 use Rattle.cca_laws.proofs.Minimal.{one_pair, search_list}
 use Rattle.reach_laws.proofs.Ready.{steps_are_ready}

@@ -1,10 +1,10 @@
-pub mod Lists
 pub mod Exactly
 pub mod OpenMoves
 pub mod Near
 pub mod Shortest
 pub mod Taken
 pub mod Standing
+pub mod Places
 pub mod Promised
 pub mod EdgeRepairs
 pub mod OpenChains

@@ -136,6 +136,14 @@ impl Classes {
         self.rows.as_slice()
     }
 
+    /// The broken modes of each component's open chain.
+    pub fn chains(&self) -> &[ValueSet]
+        ensures value { result.now ≡ self.now.chains }
+        ensures classes { IsClasses self.now }
+    {
+        self.chains.as_slice()
+    }
+
     /// Whether the component may stand in the mode where the classes cover a state.
     pub fn stands(&self, component: u16, mode: u8) -> bool
         requires { component < length self.now.compiled.model.components }

@@ -13,3 +13,4 @@ pub mod ScriptRuns
 pub mod ShownPlans
 pub mod SureRuns
 pub mod TraceOfRun
+pub mod FittingLines

@@ -28,6 +28,10 @@ some_words (Mirror name) e = absurd cc
 some_words Reset e = absurd cc
 some_words Tick e = absurd cc
 
+pub none_is : (r : Result Event ℕ) → as_event r ≡ Ok None → ⊥
+none_is (Ok e) k = absurd cc
+none_is (Err code) k = absurd cc
+
 module _ (m : PlantModel) (pending : List Pair) (mirrored : ℕ) where
   -- no item is malformed
   well_formed : (i : Item) (r : Result Event ℕ) → Says m pending mirrored i r → as_event r ≡ Err MALFORMED → ⊥
@@ -35,10 +39,6 @@ module _ (m : PlantModel) (pending : List Pair) (mirrored : ℕ) where
   well_formed i (Err code) h k =
       let same : code ≡ MALFORMED = code_is code k in
       omega (arith, applies_above m pending mirrored i code h.0, same)
-
-  none_is : (r : Result Event ℕ) → as_event r ≡ Ok None → ⊥
-  none_is (Ok e) k = absurd cc
-  none_is (Err code) k = absurd cc
 
   form_nothing : (o : Option Item) → by_form (event_of m pending mirrored) o ≡ Ok None → ⊥
   form_nothing None h = absurd cc

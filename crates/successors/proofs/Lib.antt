@@ -1,5 +1,3 @@
-pub mod Standing
 pub mod Sending
 pub mod Changes
 pub mod Rows
-pub mod Starts

@@ -1,17 +1,17 @@
 -- Which moves are commanded.
-use Rattle.std.proofs.Common.{◌≡◌, ◌↔◌, ◌<◌, ℕ, inl, inr, List, length, Some, Contains, sym, ◌∙◌, arith}
+use Rattle.std.proofs.Common.{◌≡◌, ◌↔◌, ℕ, List, Some, Contains, sym, ap, subst, ◌∙◌}
 use Rattle.std.specs.List.{slice_get}
-use Rattle.std.proofs.lemmas.Option.{slice_get_within, get_or_from_slice_get, same_Some}
-use Rattle.std.proofs.lemmas.Bool.{cases_lt}
-use Rattle.std.proofs.lemmas.List.{length-map, get_or_past}
-use Rattle.std.proofs.lemmas.List.Elements.{All-contains}
-use Rattle.cca_base.specs.Model.{IsMove, mode_counts}
+use Rattle.std.proofs.lemmas.Option.{slice_get_within, slice_get-get_or, get_or_from_slice_get, same_Some}
 use Rattle.cca_base.specs.declared.cube.Pair.{Pair}
 use Rattle.cca_base.specs.declared.model.Move.{Move}
 use Rattle.cca_base.specs.Accepted.{CompiledModel, IsCompiled}
 use Rattle.cca_base.specs.State.{IsState, Holds}
-use Rattle.successors.specs.Nominal.{SomeStands}
-use Rattle.successors.proofs.Standing.{holds_by_prime, prime_holds}
+use Rattle.cca_base.specs.PlantModel.{PlantModel}
+use Rattle.cca_base.specs.MoveIndex.{Names}
+use Rattle.cca_base.specs.Successors.{IsCommanded}
+use Rattle.cca_base.proofs.Commands.{one_named}
+use Rattle.successors.specs.Nominal.{SomeStands, NoneSent}
+use Rattle.cca_laws.proofs.StandingPrimes.{holds_by_prime, prime_holds}
 
 pub stands_holds : (b : CompiledModel) → IsCompiled b → (s : List ℕ) → IsState b.model s → (at : ℕ) (move : Move) (cubes : List (List Pair)) → slice_get b.model.moves at ≡ Some move
     → slice_get b.ways at ≡ Some cubes → slice_get s move.component ≡ Some move.source → SomeStands s cubes ↔ Holds b.model s move.guard
@@ -24,16 +24,25 @@ stands_holds b h s state at move cubes of_model of_ways source =
 pub among_at : (moves : List Move) (at : ℕ) (move : Move) → slice_get moves at ≡ Some move → Contains moves move
 among_at moves at move e = (at, slice_get_within moves at move e, get_or_from_slice_get moves at move move e)
 
-pub same_at : (moves : List Move) (at : ℕ) (a b : Move) → slice_get moves at ≡ Some a → slice_get moves at ≡ Some b → a ≡ b
-same_at moves at a b x y = same_Some a b (sym x ∙ y)
+module _ (b : CompiledModel) (h : IsCompiled b) (s : List ℕ) (state : IsState b.model s) (k i : ℕ) (names : Names b.model.moves s k i) where
+  -- the move that the command names is commanded where one of its cubes stands
+  pub commanded_at : (cubes : List (List Pair)) → slice_get b.ways i ≡ Some cubes → SomeStands s cubes → IsCommanded b.model s (Some k) names.0
+  commanded_at cubes of_ways stands = record {
+    of_model = among_at b.model.moves i names.0 names.1;
+    command = ap Some (sym names.2);
+    source = names.3;
+    guard = (stands_holds b h s state i names.0 cubes names.1 of_ways names.3).0 stands;
+  }
 
--- a move's component is one of the state's
-pub component_within : (b : CompiledModel) → IsCompiled b → (s : List ℕ) → IsState b.model s → (at : ℕ) (move : Move) → slice_get b.model.moves at ≡ Some move → move.component < length s
-component_within b h s state at move of_model =
-    let fits : IsMove b.model move = All-contains (IsMove b.model) b.model.moves move h.accepted.well_formed.moves (among_at b.model.moves at move of_model) in
-    let full = state.full in
-    let long = length-map b.model.components (λ c. length c.modes) in
-    elim (cases_lt move.component (length (mode_counts b.model))) [
-      | inl lt ↦ omega arith
-      | inr ge ↦ (let none = get_or_past (mode_counts b.model) move.component 0 ge in let source = fits.source in absurd (omega arith))
-    ]
+  -- and else none is: it names one move
+  pub none_commanded : (cubes : List (List Pair)) → slice_get b.ways i ≡ Some cubes → (SomeStands s cubes → ⊥) → NoneSent b.model s (Some k)
+  none_commanded cubes of_ways none move sent =
+      let same : move ≡ names.0 = one_named b.model h.accepted.well_formed.commands s k move names.0 sent.of_model (among_at b.model.moves i names.0 names.1)
+      (sym (same_Some k move.command sent.command)) names.2 sent.source names.3 in
+      none ((stands_holds b h s state i names.0 cubes names.1 of_ways names.3).1 (subst (λ (x : Move). Holds b.model s x.guard) same sent.guard))
+
+-- a command that names no move moves nothing
+pub unnamed : (m : PlantModel) (s : List ℕ) (k : ℕ) → ((i : ℕ) → Names m.moves s k i → ⊥) → NoneSent m s (Some k)
+unnamed m s k none move sent =
+    let among = sent.of_model in
+    none among.0 (move, slice_get-get_or m.moves among.0 move among.1 ∙ ap Some among.2, sym (same_Some k move.command sent.command), sent.source)

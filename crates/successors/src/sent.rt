@@ -21,24 +21,6 @@ fn some_stands(modes: &[u8], cubes: &[Cube]) -> bool
     false
 }
 
-/// Whether the command names the move with this number from its component's mode, and its guard holds.
-fn is_commanded(compiled: &Compiled, state: &State, command: u16, at: usize) -> bool
-    requires state { IsState compiled.now.model state.now.modes }
-    requires at { at < length compiled.now.model.moves }
-    ensures { (move : Move) → slice_get compiled.now.model.moves at ≡ Some move →
-        (IsTrue result ↔ IsCommanded compiled.now.model state.now.modes (Some command) move) }
-{
-    let step = compiled.model().moves().get(at);
-    let modes = state.modes.as_slice();
-    if step.command != command {
-        return false;
-    }
-    if modes[step.component as usize] != step.source {
-        return false;
-    }
-    some_stands(modes, compiled.ways().get(at).as_slice())
-}
-
 /// The component that the command sends to a target, with that target. None comes exactly where it sends none.
 pub fn nominal(compiled: &Compiled, state: &State, command: Option<u16>) -> Option<Pair>
     requires { IsState compiled.now.model state.now.modes }
@@ -46,17 +28,17 @@ pub fn nominal(compiled: &Compiled, state: &State, command: Option<u16>) -> Opti
     ensures mode { IfSome result (λ p. HasMode compiled.now.model p.item p.value) }
     ensures none { IsNone result → NoneSent compiled.now.model state.now.modes command }
 {
-    let command = command?;
-    for at in 0..compiled.model().moves().len() {
-        if is_commanded(compiled, state, command, at) {
-            let step = compiled.model().moves().get(at);
-            return Some(Pair {
-                item: step.component,
-                value: step.target,
-            });
-        }
+    let model = compiled.model();
+    let number = model.named(state, command?)?;
+    let ways = compiled.ways().get(number as usize);
+    if !some_stands(state.modes.as_slice(), ways.as_slice()) {
+        return None;
     }
-    None
+    let step = model.moves().get(number as usize);
+    Some(Pair {
+        item: step.component,
+        value: step.target,
+    })
 }
 
 /// Makes the nominal move of the command, if there is one.

@@ -1,7 +1,6 @@
 pub mod Agreements
 pub mod BehindDocuments
 pub mod EverySource
-pub mod FittingLines
 pub mod FormAnswers
 pub mod FormStatuses
 pub mod FrontsOfRuns

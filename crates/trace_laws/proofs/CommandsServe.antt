@@ -21,11 +21,10 @@ use Rattle.cca_base.specs.Runs.{TickRecord, reply_at, is_send, is_unreachable}
 use Rattle.std.proofs.lemmas.Option.{same_Some}
 use Rattle.cca_base.proofs.Members.{all_from, stands_in}
 use Rattle.cca_laws.specs.Laws.{NoneTwice}
-use Rattle.cca_base.proofs.NominalLaws.{one_nominal, nominal_is_free}
+use Rattle.cca_base.proofs.NominalLaws.{one_nominal, nominal_is_free, stays}
 use Rattle.cca_laws.proofs.GoalLaws.{middle, sends_serve, standing_is_reached}
 use Rattle.cca_laws.proofs.OnePick.{one_command}
 use Rattle.trace_laws.specs.Served.{IsReached, IsMeasure}
-use Rattle.trace_laws.proofs.StaysRight.{stays}
 
 -- ---- steps
 

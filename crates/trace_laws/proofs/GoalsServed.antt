@@ -22,6 +22,7 @@ use Rattle.cca_base.specs.Choice.{IsChosenReply}
 use Rattle.cca_base.specs.Trace.{ExecutiveState, start, ReplyRule, GoalOrder, Changes, IsReply, command_of, TickShows}
 use Rattle.cca_base.specs.Runs.{TickRecord, Trace, IsRight, HasEstimate, LeavesPlantAndGoalAlone, reply_of, reply_at, is_unreachable, stretch, IsStretch, ServesGoal, Within}
 use Rattle.std.proofs.lemmas.Option.{same_Some}
+use Rattle.list_laws.proofs.Places.{get_take}
 use Rattle.cca_laws.proofs.GoalLaws.{sends_serve}
 use Rattle.cca_laws.proofs.OneOrder.{compiled_none_twice}
 use Rattle.trace_laws.specs.Events.{Becomes}
@@ -41,12 +42,6 @@ get_drop xs zero k n e = ap (slice_get xs) (sym (e ∙ omega arith))
 get_drop [] (suc i) k n e = refl
 get_drop (x ∷ xs) (suc i) k zero e = absurd (omega (arith, e))
 get_drop (x ∷ xs) (suc i) k (suc n) e = get_drop xs i k n (omega (arith, e))
-
-get_take : {X : Type 0} (xs : List X) (n k : ℕ) → k < n → slice_get (take n xs) k ≡ slice_get xs k
-get_take xs zero k h = absurd (omega (arith, h))
-get_take [] (suc n) k h = refl
-get_take (x ∷ xs) (suc n) zero h = refl
-get_take (x ∷ xs) (suc n) (suc k) h = get_take xs n k (omega (arith, h))
 
 -- the element at a place, with those after it
 pub record IsAt {X : Type 0} (xs : List X) (i : ℕ) (x : X) : Type 0 where

@@ -12,3 +12,4 @@ pub mod LampTicks
 pub mod PromisesKept
 pub mod PendingKnown
 pub mod MirrorTicks
+pub mod PendingPairs

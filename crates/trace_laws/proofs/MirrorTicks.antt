@@ -12,6 +12,7 @@ use Rattle.std.proofs.lemmas.Option.{none-some, same_Some}
 use Rattle.cca_base.proofs.Members.{contains_cases, contains_none, contains_here}
 use Rattle.cca_laws.proofs.Tiny.{one_at}
 use Rattle.cca_laws.proofs.ValveExamples.{rule_is, start_world}
+use Rattle.cca_laws.proofs.RightExamples.{wrong}
 use Rattle.cca_laws.specs.Examples.{always_true}
 use Rattle.cca_laws.specs.RightExamples.{no_flow}
 use Rattle.cca_laws.specs.ValveExamples.{valve_model}
@@ -49,9 +50,6 @@ mirror_shows_flow = record {
     ],
   );
 }
-
-wrong : ◌≡◌ {A = List ℕ} (1 ∷ 0 ∷ []) (0 ∷ 0 ∷ []) → ⊥
-wrong e = absurd cc
 
 can_be_seen : CanBeSeen valve_model mirrored_record
 can_be_seen = (no_flow, 0 ∷ [], mirror_shows_flow, start_world, one_at (λ (p : Pair). slice_get (0 ∷ []) p.item ≡ Some p.value) (record { item = 0; value = 0 }) refl)

@@ -1,11 +1,11 @@
 -- What bears on which events may come next.
-use Rattle.std.proofs.Common.{◌≡◌, List, [], Option, Some, None, Contains, sym, ap, subst, ◌↔◌, ◌⊎◌, ◌∙◌}
+use Rattle.std.proofs.Common.{◌≡◌, List, [], Option, Some, None, Contains, sym, ap, subst, ◌∙◌}
 use Rattle.cca_base.specs.declared.cube.Pair.{Pair}
 use Rattle.cca_base.specs.declared.events.Event.{Event}
 use Rattle.cca_base.specs.declared.events.Event.TheVariants as event
 use Rattle.cca_base.specs.declared.events.TickReport.{TickReport}
 use Rattle.cca_base.specs.Accepted.{CompiledModel}
-use Rattle.cca_base.specs.Cube.{IsUnion, IsRising}
+use Rattle.cca_base.specs.Cube.{IsUnion}
 use Rattle.cca_base.specs.Trace.{ExecutiveState, ReplyRule}
 use Rattle.cca_laws.proofs.OneOrder.{one_union}
 use Rattle.trace_laws.specs.Events.{Acts, PendingAfter, mirrored_after}
@@ -20,10 +20,10 @@ one_pending pending event.Clear a b h k = k ∙ sym h
 one_pending pending (event.Fault p) a b h k = k ∙ sym h
 one_pending pending (event.Mirror v) a b h k = k ∙ sym h
 
-module _ (b : CompiledModel) (answers : ReplyRule) where
-  union_same : (x y : ExecutiveState) (pairs both : List Pair) → both ≡ y.pending → IsUnion (Contains x.pending) (Contains pairs) both → IsUnion (Contains x.pending) (Contains pairs) y.pending
-  union_same x y pairs both e h = record { rising = subst IsRising e h.rising; each = λ p. subst (λ l. Contains l p ↔ (Contains x.pending p ⊎ Contains pairs p)) e (h.each p) }
+pub union_same : (x y : ExecutiveState) (pairs both : List Pair) → both ≡ y.pending → IsUnion (Contains x.pending) (Contains pairs) both → IsUnion (Contains x.pending) (Contains pairs) y.pending
+union_same x y pairs both e h = subst (IsUnion (Contains x.pending) (Contains pairs)) e h
 
+module _ (b : CompiledModel) (answers : ReplyRule) where
   pub known_after : (x y : ExecutiveState) (e : Event) (report : Option TickReport) → Acts b answers x e y report → PendingAfter x.pending e y.pending × (y.mirrored ≡ mirrored_after x.mirrored e)
   known_after x y event.Tick None acts = absurd acts
   known_after x y event.Tick (Some report) acts = let same : AreAlike (record x { pending = [] }) y = tick_alike b.model answers x report.shown y acts.2 in (sym same.pending, sym same.mirrored)

@@ -1,5 +1,5 @@
 -- Right estimates stay right.
-use Rattle.std.proofs.Common.{◌≡◌, ◌<◌, ◌≤◌, ◌⊎◌, ℕ, zero, suc, false, List, [], ◌∷◌, ◌++◌, length, map, None, All, slice_get, slice_index, inl, inr, refl, sym, ap, subst, ◌∙◌, arith}
+use Rattle.std.proofs.Common.{◌≡◌, ◌<◌, ◌≤◌, ◌⊎◌, ℕ, zero, suc, false, List, [], ◌∷◌, ◌++◌, length, map, All, slice_get, slice_index, inl, inr, refl, sym, ap, subst, ◌∙◌, arith}
 use Rattle.std.proofs.lemmas.Bool.{false≢true}
 use Rattle.std.proofs.lemmas.List.Elements.{All-head, All-tail}
 use Rattle.cca_base.specs.declared.cube.Pair.{Pair}
@@ -18,8 +18,8 @@ use Rattle.cca_base.specs.Estimates.{Consistent}
 use Rattle.cca_base.specs.Goals.{IsGoodReply}
 use Rattle.cca_base.specs.Trace.{ExecutiveState, start, ReplyRule, GoalOrder, Changes, Observed, command_of, TickShows}
 use Rattle.cca_base.specs.Runs.{TickRecord, IsRight, HasEstimate, CostsNothing, LeavesPlantAlone, StartsAnew, ComesAfterRight, StaysRight}
-use Rattle.std.proofs.lemmas.Option.{none-some, same_Some}
-use Rattle.cca_base.proofs.NominalLaws.{one_nominal, nominal_is_free}
+use Rattle.std.proofs.lemmas.Option.{same_Some}
+use Rattle.cca_base.proofs.NominalLaws.{one_nominal, nominal_is_free, stays}
 use Rattle.cca_base.proofs.StartLaws.{start_state}
 use Rattle.cca_laws.proofs.CostLaws.{free_is_nominal}
 use Rattle.cca_laws.proofs.OneTrace.{one_seen}
@@ -33,10 +33,6 @@ starts_within : (cs : List Component) (c : ℕ) → All IsComponent cs → c < l
 starts_within [] c all within = absurd (omega arith)
 starts_within (x ∷ cs) zero all within = (All-head IsComponent x cs all).start
 starts_within (x ∷ cs) (suc c) all within = starts_within cs c (All-tail IsComponent x cs all) (omega arith)
-
--- without a command nothing moves
-pub stays : (m : PlantModel) (s : List ℕ) → Nominal m s None s
-stays m s = inr ((λ move h. none-some move.command h.command), refl)
 
 -- ---- in step
 

@@ -10,7 +10,7 @@ use Rattle.cca_base.specs.declared.events.Detail.TheVariants.{Nothing, Pairs, Of
 use Rattle.cca_base.specs.PlantModel.{PlantModel}
 use Rattle.cca_base.specs.Model.{WellFormed}
 use Rattle.cca_base.specs.Names.{is_word_byte}
-use Rattle.trace_text.proofs.ModelNames.{IsName, HasNames, word_bytes, model_names}
+use Rattle.cca_base.proofs.ModelNames.{IsName, HasNames, word_bytes, model_names}
 use Rattle.trace_text.specs.Names.{name_at, pair_text_at, component_name, mode_name, mode_text_at, move_text, move_text_at}
 use Rattle.trace_text.specs.Refusals.{detail_text}
 use Rattle.trace_text.specs.Json.{HasAsciiNames}

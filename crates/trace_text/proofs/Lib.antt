@@ -7,7 +7,6 @@ mod KeyOrder
 mod LineExamples
 mod LinesAsWords
 mod MappedCommands
-mod ModelNames
 mod NoFloats
 pub mod OneTextEach
 mod PairsApart
@@ -19,4 +18,3 @@ mod SameMembers
 pub mod ShortLines
 mod ShortWords
 mod WordsApart
-mod WordsByPlace

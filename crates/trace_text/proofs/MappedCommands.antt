@@ -11,9 +11,10 @@ use Rattle.cca_base.specs.Names.{AreNames}
 use Rattle.formula_syntax.specs.Lookups.{place_of}
 use Rattle.model_syntax.specs.Reader.{NumbersFit}
 use Rattle.model_syntax.proofs.GrowthByMove.{command_numbered}
+use Rattle.model_syntax.proofs.NamedPlaces.{at_place}
 use Rattle.trace_text.specs.Names.{name_at}
 use Rattle.trace_text.proofs.ChosenRows.{name_at_injective}
-use Rattle.trace_text.proofs.ReadWords.{place_is_read, at_place}
+use Rattle.trace_text.proofs.ReadWords.{place_is_read}
 
 abbrev Places : Type 0
 Places = IndexMap (List ℕ) ℕ (BuildHasherDefault FoldHasher)

@@ -1,9 +1,10 @@
 -- No object of a report or of a refusal has a float.
-use Rattle.std.proofs.Common.{◌≡◌, ℕ, ◌++◌, Bool, true, false, ◌||◌, List, [], ◌∷◌, codes, Ordering, Less, Equal, Greater, nat_cmp, refl, ap, ◌∙◌}
+use Rattle.std.proofs.Common.{◌≡◌, ℕ, ◌++◌, Bool, true, false, ◌||◌, List, [], ◌∷◌, codes, Ordering, Less, Equal, Greater, nat_cmp, refl}
 use Rattle.std.proofs.lemmas.Bool.{true≢false}
 use Rattle.std.specs.Cmp.Lexicographic.{slice_cmp}
 use Rattle.std.specs.Ordering.{match_ordering}
 use Rattle.std.specs.List.{AllByRecursion}
+use Rattle.list_laws.proofs.Tests.{neither}
 use Rattle.serde_json.specs.Data.{Data, number, unsigned, string, Members, no_members, member, put}
 use Rattle.serde_json.specs.Written.{has_float, members_have_float}
 use Rattle.cca_base.specs.declared.model.Component.{Component}
@@ -16,9 +17,6 @@ use Rattle.cca_base.specs.declared.events.Refusal.{Refusal}
 use Rattle.cca_base.specs.PlantModel.{PlantModel}
 use Rattle.trace_text.specs.Json.{Member, with_members, modes_members, modes_object, reply_members, shown_members, report_object, bare_detail, refusal_object}
 use Rattle.trace_text.specs.Refusals.{code_name}
-
-neither : (a b : Bool) → a ≡ false → b ≡ false → (a || b) ≡ false
-neither a b h k = ap (λ t. t || b) h ∙ k
 
 first_of : (a b : Bool) → (a || b) ≡ false → a ≡ false
 first_of true b h = h

@@ -13,7 +13,7 @@ use Rattle.formula_syntax.specs.Lookups.{place_of}
 use Rattle.model_syntax.proofs.PrintedNames.{member_at, pairs_left, place_found}
 use Rattle.trace_text.specs.Names.{name_at, choice_text, pair_text_at}
 use Rattle.trace_text.proofs.ChosenRows.{name_at_injective}
-use Rattle.trace_text.proofs.ModelNames.{IsName, HasNames, word_bytes, model_names}
+use Rattle.cca_base.proofs.ModelNames.{IsName, HasNames, word_bytes, model_names}
 use Rattle.trace_text.proofs.WordsApart.{first_word, name_lacks}
 
 -- a component that is there, with its name and its modes

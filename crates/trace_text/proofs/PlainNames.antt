@@ -9,7 +9,7 @@ use Rattle.serde_json.specs.Written.{compact_text}
 use Rattle.serde_json.proofs.OnLiterals.{serde_json_on_literals}
 use Rattle.cca_base.specs.declared.model.Component.{Component}
 use Rattle.cca_base.specs.Names.{is_word_byte}
-use Rattle.trace_text.proofs.ModelNames.{IsName, HasNames, word_bytes, model_names}
+use Rattle.cca_base.proofs.ModelNames.{IsName, HasNames, word_bytes, model_names}
 use Rattle.trace_text.specs.JsonLaws.{IsPlain, NamesArePlain}
 
 -- a byte that a word may have is above the control bytes, and is no quotation mark or backslash

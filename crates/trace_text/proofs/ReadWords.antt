@@ -7,11 +7,10 @@ use Rattle.std.proofs.lemmas.Fmt.{decimal_is_IsNumeral_wide}
 use Rattle.std.proofs.lemmas.List.{append_cancel_left}
 use Rattle.std.proofs.lemmas.List.Quantifiers.{position-Some}
 use Rattle.std.proofs.lemmas.Slice.Eq.{bytes_eq-Decides}
-use Rattle.std.proofs.lemmas.Option.{slice_get-get_or}
 use Rattle.std.proofs.Math.Seq.{take-append_seam}
-use Rattle.std.specs.Option.{option_map_or}
+use Rattle.model_syntax.proofs.NamedPlaces.{at_place}
 use Rattle.formula_syntax.specs.Lookups.{place_of}
-use Rattle.model_syntax.proofs.FirstPlaces.{none_passes}
+use Rattle.formula_syntax.proofs.FirstPlaces.{none_passes}
 use Rattle.trace_text.specs.Names.{name_at, choice_text}
 use Rattle.trace_text.specs.LineWords.{IsReadFrom}
 
@@ -33,9 +32,6 @@ other_prefix prefix word front is differ rest e =
     absurd cc
 
 -- ---- names
-
-pub at_place : (names : List (List ℕ)) (k : ℕ) → k < length names → name_at names k ≡ get_or names k []
-at_place names k h = let none : List ℕ = [] in ap (λ o. option_map_or (λ (x : List ℕ). x) o []) (slice_get-get_or names k none h)
 
 pub place_is_read : (names : List (List ℕ)) (word : List ℕ) (o : Option ℕ) → o ≡ place_of names word → IsReadFrom word (λ k. k < length names) (name_at names) o
 place_is_read names word None is = λ k lt e.

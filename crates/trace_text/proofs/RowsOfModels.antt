@@ -15,7 +15,7 @@ use Rattle.cca_base.specs.State.{IsState}
 use Rattle.trace_text.specs.Names.{Row, mode_row, value_row}
 use Rattle.trace_text.specs.TraceLines.{HasValues}
 use Rattle.trace_text.specs.LineWords.{AreChosen, IsReadFrom, mode_words, choice_words, value_words}
-use Rattle.trace_text.proofs.ModelNames.{IsName}
+use Rattle.cca_base.proofs.ModelNames.{IsName}
 use Rattle.trace_text.proofs.ChosenRows.{chosen_at_places, chosen_from_places, too_many_or_few}
 
 -- choices of the rows of some parts, by place

@@ -26,7 +26,7 @@ use Rattle.trace_text.specs.declared.trace_line.TraceLine.TheVariants.{Tick, Wor
 use Rattle.trace_text.specs.Names.{Row, mode_row, value_row, name_at, choice_text, pair_text_at}
 use Rattle.trace_text.specs.TraceLines.{FitsLine, FitsShown}
 use Rattle.trace_text.specs.LineWords.{mode_words, reply_words, shown_words, report_words, plan_words, line_words, choice_words, value_words, is_only_long}
-use Rattle.trace_text.proofs.ModelNames.{IsName, HasNames, word_bytes, model_names}
+use Rattle.cca_base.proofs.ModelNames.{IsName, HasNames, word_bytes, model_names}
 use Rattle.trace_text.proofs.RowsOfModels.{HasRowNames, mode_rows, value_rows}
 use Rattle.trace_text.proofs.WordsApart.{Lacks, name_lacks}
 

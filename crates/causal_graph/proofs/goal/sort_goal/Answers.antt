@@ -3,7 +3,7 @@ use Rattle.std.proofs.lemmas.Option.{get_or_from_slice_get}
 use Rattle.cca_base.specs.Cube.{Lacks}
 use Rattle.cca_base.specs.Implicants.{Needs}
 use Rattle.cca_base.specs.declared.cube.Pair.{Pair}
-use Rattle.causal_graph.proofs.SortedGoals.{sorting_none, sorting_yes, sorting_no, sorting_all, sorted_once}
+use Rattle.cca_base.proofs.SortedGoals.{sorting_none, sorting_yes, sorting_no, sorting_all, sorted_once}
 use Rattle.causal_graph.proofs.goal.sort_goal.Goals.{in-Some+in_ok-push, in_default}
 use Rattle.causal_graph.proofs.goal.sort_goal.Goals as goal
 

@@ -1,4 +1,4 @@
-use Rattle.causal_graph.proofs.SortedGoals.{IsSorting}
+use Rattle.cca_base.proofs.SortedGoals.{IsSorting}
 use Rattle.causal_graph.proofs.goal.sort_goal.Given as goal
 
 abbrev pub invariant-loop-i : goal.invariant-loop-i

@@ -3,7 +3,7 @@ use Rattle.std.proofs.lemmas.Bool.{lt-ltb}
 use Rattle.std.proofs.lemmas.List.Folds.{list_any_at}
 use Rattle.clause_form.specs.declared.clause.Literal.{Literal}
 use Rattle.clause_form.specs.Clauses.{is_true}
-use Rattle.clause_form.proofs.ClauseLaws.{within}
+use Rattle.cca_base.proofs.TestedLists.{within}
 use Rattle.clause_form.proofs.subsumption.is_always_met.Goals as goal
 
 pub returns-then-is_within : goal.returns-then-is_within

@@ -3,7 +3,7 @@ use Rattle.std.proofs.lemmas.List.Elements.{All-filter}
 use Rattle.clause_form.specs.declared.clause.Clause.{Clause}
 use Rattle.clause_form.specs.Clauses.{AllOthers, AreBelow, AreOthers, AreValues, all_met, meets, names_one, any_below}
 use Rattle.clause_form.proofs.SomeValue.{any_same, any_and}
-use Rattle.elimination.proofs.OtherSubjects.{all_met_others, all_parted, others_unnamed}
+use Rattle.clause_form.proofs.OtherSubjects.{all_met_others, all_parted, others_unnamed}
 use Rattle.elimination.proofs.removal.without.Goals as goal
 
 pub resolvents-requires-clause-below : goal.resolvents-requires-clause-below

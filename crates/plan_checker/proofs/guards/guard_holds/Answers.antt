@@ -3,7 +3,7 @@ use Rattle.std.proofs.lemmas.Result.{IfOk-weaker}
 use Rattle.cca_base.specs.declared.cube.Pair.{Pair}
 use Rattle.cca_base.specs.Model.{HasMode}
 use Rattle.cca_base.specs.State.{Follows, Holds}
-use Rattle.consistency.proofs.StatePairs.{pairs_have_modes}
+use Rattle.cca_base.proofs.StatePairs.{pairs_have_modes}
 use Rattle.plan_checker.proofs.GuardLaws.{guard_within, follows_holds, holds_follows}
 use Rattle.plan_checker.proofs.guards.guard_holds.Goals as goal
 

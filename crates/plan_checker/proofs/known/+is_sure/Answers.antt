@@ -6,7 +6,7 @@ use Rattle.cca_base.specs.declared.formula.Formula.TheOpen.{Formula-F}
 use Rattle.cca_base.specs.declared.formula.Formula.TheViews.{roll-Formula}
 use denote.Hole.Carrier.{roll}
 use Rattle.cca_base.specs.Formula.{truth, truth_step}
-use Rattle.plan_checker.proofs.SureFormulas.{AllLeft, AnyLeft, part_left, all_goes_on, all_fails, all_ends, any_goes_on, any_holds, any_ends, not_wanted, not_not, sure_other, sure_same, found_same, found_other}
+use Rattle.cca_base.proofs.SureFormulas.{AllLeft, AnyLeft, part_left, all_goes_on, all_fails, all_ends, any_goes_on, any_holds, any_ends, not_wanted, not_not, sure_other, sure_same, found_same, found_other}
 use Rattle.plan_checker.proofs.known.+is_sure.Goals as goal
 
 pub returns-then-is_sure-want : goal.returns-then-is_sure-want

@@ -1,7 +1,7 @@
 use Rattle.std.proofs.Common.{ℕ, List, drop}
 use Rattle.cca_base.specs.Formula.{truth}
 use Rattle.cca_base.specs.State.{Extends}
-use Rattle.plan_checker.proofs.SureFormulas.{AllLeft, AnyLeft}
+use Rattle.cca_base.proofs.SureFormulas.{AllLeft, AnyLeft}
 use Rattle.plan_checker.proofs.known.+is_sure.Given as goal
 
 abbrev pub decreases-is_sure : goal.decreases-is_sure

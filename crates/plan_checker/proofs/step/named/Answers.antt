@@ -1,32 +1,25 @@
-use Rattle.std.proofs.Common.{◌≡◌, ◌+◌, List, [], ◌∷◌, ◌++◌, Contains, take, sym, ap, subst, ◌∙◌, arith}
-use Rattle.std.proofs.lemmas.Bool.{both_ways}
-use Rattle.std.proofs.lemmas.List.{take_more, take_all}
-use Rattle.std.proofs.lemmas.List.Elements.{All-contains}
+use Rattle.std.proofs.Common.{List, Some, ◌≡◌, ◌<◌, ◌∙◌, length, slice_get, refl, sym, ap, subst}
+use Rattle.std.proofs.lemmas.Option.{same_Some, slice_get_within, slice_get-get_or, get_or_from_slice_get}
 use Rattle.cca_base.specs.declared.model.Move.{Move}
-use Rattle.cca_base.specs.Model.{IsMove}
-use Rattle.cca_base.proofs.Found.{found}
-use Rattle.cca_base.proofs.StateLaws.{mode_in_state}
-use Rattle.plan_checker.proofs.NamedMoves.{none_more}
+use Rattle.plan_checker.specs.Steps.{IsNamed}
 use Rattle.plan_checker.proofs.step.named.Goals as goal
 
-pub is_named-requires : goal.is_named-requires
-is_named-requires c =
+pub returns-in_err-number-clause-none : goal.returns-in_err-number-clause-none
+returns-in_err-number-clause-none c e move named =
+    let among = named.of_model in
+    c.in_err-number.ensures.none refl among.0 (move, slice_get-get_or c.args.model.now.moves among.0 move among.1 ∙ ap Some among.2, named.command, named.source)
+
+pub get-requires : goal.get-requires
+get-requires c =
+    let names = c.in_ok-number.ensures.some in
+    subst (λ (xs : List Move). c.in_ok-number.number < length xs) (sym c.moves-moves.ensures.value) (slice_get_within c.args.model.now.moves c.in_ok-number.number names.0 names.1)
+
+pub returns-clause-some : goal.returns-clause-some
+returns-clause-some c =
     let m = c.args.model.now in
-    let x = c.x-item.result in
-    let among : Contains m.moves x = found _ _ c.loop-x.x-index x (c.as_slice-x-items.ensures ∙ c.moves.ensures.value) c.loop-x-test.true c.x-item.is in
-    mode_in_state m c.args.state.now.modes x.component x.source c.requires (All-contains (IsMove m) m.moves x c.moves.ensures.well_formed.moves among).source
-
-pub loop-x-preserved : goal.loop-x-preserved
-loop-x-preserved c =
-    let items = c.as_slice-x-items.result.now in
-    let i = c.loop-x.x-index in
-    let x : Move = c.x-item.result in
-    let grows : take (i + 1) items ≡ take i items ++ x ∷ [] = take_more items i x c.loop-x-test.true ∙ ap (λ (y : Move). take i items ++ y ∷ []) (sym c.x-item.is) in
-    λ move among. none_more c.args.model.now c.args.state.now.modes c.args.command (take i items) x c.loop-x.invariant
-    (λ both. both_ways c.is_named.result c.if-is_named.false (c.is_named.ensures.1 both)) move (subst (λ (l : List Move). Contains l move) grows among)
-
-pub returns-clause-none : goal.returns-clause-none
-returns-clause-none c =
-    let items : c.as_slice-x-items.result.now ≡ c.args.model.now.moves = c.as_slice-x-items.ensures ∙ c.moves.ensures.value in
-    let all : take c.loop-x.x-index c.as_slice-x-items.result.now ≡ c.args.model.now.moves = take_all c.loop-x.x-index c.as_slice-x-items.result.now (omega arith) ∙ items in
-    λ e move h. c.loop-x.invariant move (subst (λ (l : List Move). Contains l move) (sym all) h.of_model) h.command h.source
+    let number = c.in_ok-number.number in
+    let x = c.get.result.now in
+    let names = c.in_ok-number.ensures.some in
+    let at : slice_get m.moves number ≡ Some x = ap (λ (xs : List Move). slice_get xs number) (sym c.moves-moves.ensures.value) ∙ c.get.ensures.value in
+    subst (IsNamed m c.args.state.now.modes c.args.command) (same_Some names.0 x (sym names.1 ∙ at))
+    (record { of_model = (number, slice_get_within m.moves number names.0 names.1, get_or_from_slice_get m.moves number names.0 names.0 names.1); command = names.2; source = names.3 })

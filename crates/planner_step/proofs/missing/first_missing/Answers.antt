@@ -2,7 +2,7 @@ use Rattle.std.proofs.Common.{◌≡◌, ◌∙◌, sym, ap, suc, take, drop, So
 use Rattle.std.proofs.lemmas.List.Elements.{All-more}
 use Rattle.std.proofs.lemmas.Option.{same_Some}
 use Rattle.cca_base.specs.declared.cube.Pair.{Pair}
-use Rattle.reversibility.proofs.Lists.{split_at, all_gone}
+use Rattle.list_laws.proofs.GoneThrough.{split_at, all_gone}
 use Rattle.planner_step.proofs.missing.first_missing.Goals as goal
 
 abbrev none : Pair

@@ -3,7 +3,7 @@ use Rattle.std.proofs.lemmas.Bool.{both_ways}
 use Rattle.std.proofs.lemmas.List.Elements.{All-more}
 use Rattle.cca_base.specs.declared.cube.Pair.{Pair}
 use Rattle.cca_base.specs.Steps.{Reach}
-use Rattle.reversibility.proofs.Lists.{split_at, all_gone}
+use Rattle.list_laws.proofs.GoneThrough.{split_at, all_gone}
 use Rattle.planner_step.proofs.Covered.{reach_from, reach_inside}
 use Rattle.planner_step.proofs.reached.first_unreached.Goals as goal
 

@@ -2,7 +2,7 @@ use Rattle.std.proofs.Common.{◌≡◌, ◌+◌, ℕ}
 use Rattle.reach_laws.specs.Cells.{Finds}
 use Rattle.planner_step.specs.Planning.{cells_of}
 use Rattle.planner_step.specs.Toward.{IsWantedPair}
-use Rattle.planner_step.proofs.Later.{later}
+use Rattle.reach_laws.proofs.Later.{later}
 use Rattle.planner_step.proofs.toward.command_toward.Given as goal
 
 abbrev pub invariant-toward : goal.invariant-toward

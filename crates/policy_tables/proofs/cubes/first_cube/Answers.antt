@@ -4,7 +4,7 @@ use Rattle.std.proofs.lemmas.List.Elements.{All-more}
 use Rattle.cca_base.specs.declared.cube.Pair.{Pair}
 use Rattle.reach_laws.specs.Classes.{AreInside}
 use Rattle.reversibility.specs.ClassParts.{in_row}
-use Rattle.reversibility.proofs.Lists.{all_gone}
+use Rattle.list_laws.proofs.GoneThrough.{all_gone}
 use Rattle.policy_tables.proofs.cubes.first_cube.Goals as goal
 
 pub loop-i-preserved : goal.loop-i-preserved

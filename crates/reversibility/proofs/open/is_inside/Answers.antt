@@ -3,7 +3,7 @@ use Rattle.std.proofs.lemmas.List.Elements.{All-more, All-get_or}
 use Rattle.cca_base.specs.declared.cube.Pair.{Pair}
 use Rattle.cca_base.specs.Sets.{has}
 use Rattle.reversibility.specs.ClassParts.{in_row}
-use Rattle.reversibility.proofs.Lists.{all_gone}
+use Rattle.list_laws.proofs.GoneThrough.{all_gone}
 use Rattle.reversibility.proofs.OpenMoves.{row_at}
 use Rattle.reversibility.proofs.open.is_inside.Goals as goal
 

@@ -4,7 +4,7 @@ use Rattle.std.proofs.lemmas.List.Elements.{All-more, All-contains}
 use Rattle.cca_base.specs.declared.cube.Pair.{Pair}
 use Rattle.reach_laws.specs.Classes.{AreInside}
 use Rattle.reversibility.specs.ClassParts.{in_row}
-use Rattle.reversibility.proofs.Lists.{all_gone}
+use Rattle.list_laws.proofs.GoneThrough.{all_gone}
 use Rattle.reversibility.proofs.open.is_open.Goals as goal
 
 pub loop-cube-preserved : goal.loop-cube-preserved

@@ -1,5 +1,5 @@
 use Rattle.std.proofs.Common.{sym}
-use Rattle.model_syntax.proofs.UnknownCommands.{long_is_none}
+use Rattle.formula_syntax.proofs.UnknownCommands.{long_is_none}
 use Rattle.trace_text.proofs.commands.place_by.Goals as goal
 
 pub returns-then-word-gt-MAX_NAME : goal.returns-then-word-gt-MAX_NAME

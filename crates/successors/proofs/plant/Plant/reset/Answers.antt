@@ -3,8 +3,7 @@ use Rattle.std.proofs.lemmas.List.{length-map, length-set, take_all, take_more_s
 use Rattle.cca_base.specs.PlantModel.{PlantModel}
 use Rattle.cca_base.specs.declared.model.Component.{Component}
 use Rattle.cca_base.specs.State.{IsState, start_modes}
-use Rattle.cca_base.proofs.StartLaws.{start_state}
-use Rattle.successors.proofs.Starts.{starts_more}
+use Rattle.cca_base.proofs.StartLaws.{start_state, starts_more}
 use Rattle.successors.proofs.plant.Plant.reset.Goals as goal
 
 pub loop-at-preserved : goal.loop-at-preserved

@@ -10,7 +10,7 @@ use Rattle.cca_base.specs.Cube.{IsCube, Lacks}
 use Rattle.cca_base.specs.Orders.{AreInOrder, IsSorted}
 use Rattle.cca_base.specs.Relations.{numbers_below, TakesEffectsFirstBy}
 use Rattle.cca_base.specs.declared.cube.Pair.{Pair}
-use Rattle.causal_graph.proofs.PermutationLaws.{same_permutation}
+use Rattle.cca_base.proofs.PermutationLaws.{same_permutation}
 
 -- of one component there is one pair
 one_pair : (pairs : List Pair) (p q : Pair) → IsCube pairs → Contains pairs p → Contains pairs q → p.item ≡ q.item → p ≡ q

@@ -16,7 +16,7 @@ use Rattle.cca_base.specs.declared.model.Variable.{Variable}
 use Rattle.cca_base.specs.PlantModel.{PlantModel}
 use Rattle.cca_base.specs.Model.{with_component, with_variable}
 use Rattle.formula_syntax.specs.Lookups.{subject_of, or_else, NamesFit}
-use Rattle.model_syntax.proofs.FirstPlaces.{position_push}
+use Rattle.formula_syntax.proofs.FirstPlaces.{position_push}
 
 -- a map from names
 abbrev pub Names : Type 0 → Type 0

@@ -4,14 +4,14 @@ use Rattle.std.proofs.lemmas.List.{get_or_default}
 use Rattle.std.proofs.lemmas.List.Elements.{All-contains}
 use Rattle.std.specs.Cmp.Lexicographic.{slice_cmp}
 use Rattle.std.specs.declared.cmp.Ordering.TheVariants.{Less, Equal}
-use Rattle.list_laws.proofs.Orders.{nat_cmp-same}
+use Rattle.std.specs.Cmp.{nat_cmp_is}
 use Rattle.cca_base.specs.declared.cube.Pair.{Pair}
 use Rattle.cca_base.specs.Cube.{cube_cmp, pair_cmp, IsBeforeCube, AreInCubeOrder}
 use Rattle.cca_base.proofs.Members.{all_from, contains_cases, contains_here, contains_there, contains_none}
 use Rattle.cca_base.proofs.Pairwise.{AllPairs-head, AllPairs-tail}
 
 -- the list without the member at k
-abbrev pub without_at : {X : Type 0} → List X → ℕ → List X
+abbrev without_at : {X : Type 0} → List X → ℕ → List X
 without_at [] k = []
 without_at (x ∷ xs) zero = xs
 without_at (x ∷ xs) (suc k) = x ∷ without_at xs k
@@ -40,10 +40,10 @@ no_longer {X} (a ∷ firsts) others d m =
 
 slice_cmp-self : (ps : List Pair) → slice_cmp pair_cmp ps ps ≡ Equal
 slice_cmp-self [] = refl
-slice_cmp-self (p ∷ ps) = rw (nat_cmp-same p.item p.item refl, nat_cmp-same p.value p.value refl, slice_cmp-self ps)
+slice_cmp-self (p ∷ ps) = rw (sym (nat_cmp_is p.item p.item Equal refl), sym (nat_cmp_is p.value p.value Equal refl), slice_cmp-self ps)
 
 cube_cmp-self : (ps : List Pair) → cube_cmp ps ps ≡ Equal
-cube_cmp-self ps = rw (nat_cmp-same (length ps) (length ps) refl, slice_cmp-self ps)
+cube_cmp-self ps = rw (sym (nat_cmp_is (length ps) (length ps) Equal refl), slice_cmp-self ps)
 
 differs : (a b : List Pair) → IsBeforeCube a b → a ≢ b
 differs a b h e = let same : cube_cmp a a ≡ Less = ap (cube_cmp a) e ∙ h in let self = cube_cmp-self a in cc

@@ -1,5 +1,6 @@
 -- What the parts that are left say of the truth of an `and` and of an `or`.
 use Rattle.std.proofs.Common.{◌≡◌, ◌<◌, ◌+◌, ◌&&◌, ◌||◌, ℕ, suc, Bool, true, false, not, IsTrue, List, [], ◌∷◌, length, drop, map, get_or, refl, sym, ap, ◌∙◌, add-one, drop-cons}
+use mathlib.Core.Bool.{and-false, or-true}
 use Rattle.std.proofs.Math.Bool.{beq}
 use Rattle.std.specs.List.{list_all, list_any}
 use Rattle.cca_base.specs.declared.formula.Formula.{Formula}
@@ -22,14 +23,6 @@ pub record AnyLeft (want : Bool) (s w : List ℕ) (left : List Formula) (whole :
   pub same : want ≡ false → some_true s w left ≡ whole
   pub holds : some_true s w left ≡ true → whole ≡ true
 
-and_false : (b : Bool) → (b && false) ≡ false
-and_false true = refl
-and_false false = refl
-
-or_true : (b : Bool) → (b || true) ≡ true
-or_true true = refl
-or_true false = refl
-
 -- the part at a place, and those behind it
 pub part_left : (items : List Formula) (i : ℕ) (x : Formula) → i < length items → x ≡ get_or items i x → drop i items ≡ x ∷ drop (i + 1) items
 part_left items i x within at = rw (add-one) (drop-cons items i x within ∙ ap (λ (y : Formula). y ∷ drop (suc i) items) (sym at))
@@ -38,7 +31,7 @@ module _ (want : Bool) (s w : List ℕ) (x : Formula) (left : List Formula) (who
   pub all_goes_on : AllLeft want s w (x ∷ left) whole → (want ≡ true → truth s w x ≡ true) → AllLeft want s w left whole
   all_goes_on h part = record {
     same = λ e. sym (ap (λ b. b && all_true s w left) (part e)) ∙ h.same e;
-    fails = λ e. h.fails (ap (λ b. truth s w x && b) e ∙ and_false (truth s w x));
+    fails = λ e. h.fails (ap (λ b. truth s w x && b) e ∙ and-false (truth s w x));
   }
 
   pub all_fails : AllLeft want s w (x ∷ left) whole → truth s w x ≡ false → whole ≡ false
@@ -47,7 +40,7 @@ module _ (want : Bool) (s w : List ℕ) (x : Formula) (left : List Formula) (who
   pub any_goes_on : AnyLeft want s w (x ∷ left) whole → (want ≡ false → truth s w x ≡ false) → AnyLeft want s w left whole
   any_goes_on h part = record {
     same = λ e. sym (ap (λ b. b || some_true s w left) (part e)) ∙ h.same e;
-    holds = λ e. h.holds (ap (λ b. truth s w x || b) e ∙ or_true (truth s w x));
+    holds = λ e. h.holds (ap (λ b. truth s w x || b) e ∙ or-true (truth s w x));
   }
 
   pub any_holds : AnyLeft want s w (x ∷ left) whole → truth s w x ≡ true → whole ≡ true

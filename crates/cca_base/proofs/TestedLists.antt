@@ -1,4 +1,4 @@
--- Literals that hold more, and clauses that say less.
+-- Sets within others, and tests of lists that grow by one element.
 use Rattle.std.proofs.Common.{◌≡◌, ℕ, ◌<◌, ◌==◌, ◌||◌, ◌&&◌, Bool, true, List, [], ◌∷◌, ◌++◌, length, All, bit_or, sym, ap, subst, ◌∙◌, arith}
 use Rattle.std.specs.List.{list_all}
 use Rattle.std.proofs.lemmas.Bool.{eqb-true, and_parts, and_from}

@@ -26,7 +26,3 @@ all_before R (z ∷ xs) ys x h =
     All-cons (λ y. R y x) z xs
     (All-contains (R z) (xs ++ x ∷ ys) x (AllPairs-head R z (xs ++ x ∷ ys) h) (Contains-append_right xs (x ∷ ys) x (contains_here x x ys refl)))
     (all_before R xs ys x (AllPairs-tail R z (xs ++ x ∷ ys) h))
-
-pub AllPairs-right : {X : Type 0} (R : X → X → Type 0) (xs ys : List X) → AllPairs R (xs ++ ys) → AllPairs R ys
-AllPairs-right R [] ys h = h
-AllPairs-right R (x ∷ xs) ys h = AllPairs-right R xs ys (AllPairs-tail R x (xs ++ ys) h)

@@ -11,7 +11,7 @@ use Rattle.cca_base.specs.Steps.{Step}
 use Rattle.cca_laws.specs.Laws.{NoneTwice}
 use Rattle.cca_laws.proofs.OneOrder.{none_twice, ordered_same}
 use Rattle.cca_laws.proofs.OnePick.{one_command}
-use Rattle.reach_laws.proofs.Commands.{one_step}
+use Rattle.cca_base.proofs.Commands.{one_step}
 
 module _ (b : CompiledModel) (compiled : IsCompiled b) where
   once : NoneTwice b.order
