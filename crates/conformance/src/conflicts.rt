@@ -2,7 +2,7 @@
 use crate::parts::*;
 use crate::worlds::first_state;
 use cca_base::*;
-use consistency::conflict;
+use consistency::{Worlds, conflict};
 use std::alloc::Global;
 use std::test::*;
 
@@ -44,6 +44,38 @@ fn is_shown(alloc: Global, text: &str, modes: Pairs<'_>, observed: Pairs<'_>) ->
         Some(None) => true,
         _ => false,
     }
+}
+
+/// A minimal clash of the first state of these modes with what is seen; nothing where memory runs out.
+fn clash_of(
+    alloc: Global,
+    model: &Model,
+    modes: Pairs<'_>,
+    observed: Pairs<'_>,
+) -> Option<Option<Cube>> {
+    let state = first_state(alloc, model, modes)?;
+    let observed = seen(alloc, model, observed)?;
+    let worlds = Worlds::of(alloc, model).ok()?;
+    worlds.minimal_clash(alloc, model, &state, &observed).ok()
+}
+
+/// Whether a minimal clash of the first state of these modes with what is seen has these pairs, or there are none and it is shown.
+fn clash(alloc: Global, text: &str, modes: Pairs<'_>, observed: Pairs<'_>, pairs: &[Pair]) -> bool {
+    let Some(model) = model_of(alloc, text) else {
+        return false;
+    };
+    match clash_of(alloc, &model, modes, observed) {
+        Some(Some(cube)) => cube.as_slice() == pairs,
+        Some(None) => pairs.is_empty(),
+        None => false,
+    }
+}
+
+#[test]
+fn the_open_valve_clashes(rt: HostRuntime) {
+    let modes = [(0, 1), (1, 1)];
+    assert!(rt; clash(rt.alloc(), VALVE, &modes, &[(0, 0)], &[pair(1, 1)]));
+    assert!(rt; clash(rt.alloc(), VALVE, &modes, &[(0, 1)], &[]));
 }
 
 #[test]

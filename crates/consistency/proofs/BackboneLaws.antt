@@ -1,5 +1,5 @@
 -- Values that all solutions have, one subject after another.
-use Rattle.std.proofs.Common.{◌≡◌, ◌+◌, ◌<◌, ◌↔◌, ◌++◌, ℕ, true, IsTrue, List, [], ◌∷◌, length, slice_index, All, Contains, inl, inr, sym, ap, subst, ◌∙◌, arith}
+use Rattle.std.proofs.Common.{◌≡◌, ◌≢◌, ◌⊎◌, ◌+◌, ◌<◌, ◌↔◌, ◌++◌, ℕ, true, IsTrue, List, [], ◌∷◌, length, slice_index, All, Contains, inl, inr, sym, ap, subst, ◌∙◌, arith}
 use Rattle.std.proofs.lemmas.Bool.{cases_eq}
 use Rattle.std.proofs.lemmas.List.Elements.{All-nil, All-push, All-weaker, All-contains, Contains-append_cases, Contains-append_left, Contains-append_right}
 use Rattle.std.proofs.lemmas.List.Quantifiers.{all_pairs_push}
@@ -8,7 +8,21 @@ use Rattle.cca_base.specs.Cube.{IsRising}
 use Rattle.cca_base.specs.Sets.{has}
 use Rattle.cca_base.proofs.Members.{contains_cases, contains_here, contains_none}
 use Rattle.clause_form.specs.declared.clause.Clause.{Clause}
-use Rattle.consistency.specs.Search.{IsSolution, AllHave, IsBackbone}
+use Rattle.consistency.specs.declared.subjects.SubjectSet.{SubjectSet}
+use Rattle.consistency.specs.Search.{IsSolution, AllHave, IsBackbone, IsVaried, AreVaried}
+use Rattle.consistency.specs.Subjects.{is_in}
+
+-- what differs from a solution at further subjects shows that these vary
+pub more_varied : (clauses : List Clause) (base : List ℕ) (old new : SubjectSet) (xs ys : List ℕ) → IsSolution clauses base xs → IsSolution clauses base ys → AreVaried clauses base old
+    → ((d : ℕ) → is_in new d ≡ true → (is_in old d ≡ true) ⊎ (slice_index xs d ≢ slice_index ys d)) → AreVaried clauses base new
+more_varied clauses base old new xs ys one other known split d among = elim (split d among) [
+  | inl before ↦ known d before
+  | inr apart ↦ (xs, ys, one, other, apart)
+]
+
+-- no pair of a varied subject is one that all solutions have
+pub varied_not_forced : (clauses : List Clause) (base : List ℕ) (first : ℕ) (p : Pair) → IsVaried clauses base (first + p.item) → AllHave clauses base first p → ⊥
+varied_not_forced clauses base first p (xs, ys, one, other, apart) all = apart (all xs one ∙ sym (all ys other))
 
 module _ (clauses : List Clause) (base : List ℕ) (first vars : ℕ) where
   -- the same of the subjects before one

@@ -12,7 +12,7 @@ use Rattle.consistency.specs.declared.subjects.SubjectSet.{SubjectSet}
 use Rattle.consistency.specs.Cores.{IsCore, pairs_in}
 use Rattle.consistency.specs.Subjects.{is_in}
 use Rattle.consistency.proofs.MinimalConflict.{more_clash}
-use Rattle.consistency.proofs.Trying.{IsTrying, next, trying_dropped, trying_kept}
+use Rattle.cca_base.proofs.Trying.{IsTrying, next, trying_dropped, trying_kept}
 
 module _ (m : PlantModel) (seen : List Pair) where
   -- what has a core clashes

@@ -1,12 +1,12 @@
 -- Solutions where one value of one subject is excluded.
-use Rattle.std.proofs.Common.{◌≡◌, ◌≢◌, ◌==◌, ◌&&◌, ◌<◌, not, ℕ, true, List, length, slice_index, sym, ap, subst, ◌∙◌, inl, inr}
+use Rattle.std.proofs.Common.{◌≡◌, ◌≢◌, ◌==◌, ◌&&◌, ◌<◌, not, ℕ, true, List, Option, Some, None, IfSome, IsNone, length, slice_index, sym, ap, subst, ◌∙◌, inl, inr}
 use Rattle.std.specs.Prelude.{nat_lt}
 use Rattle.std.proofs.lemmas.Bool.{cases_eq, and_parts, and_from, lt-ltb, eq-eqb, ne_eqb, not_from_true, not_from_false, false≢true}
 use Rattle.cca_base.specs.Sets.{has}
 use Rattle.cca_base.specs.declared.limits.TheConstants.{MAX_CHOICES}
 use Rattle.clause_form.specs.declared.clause.Clause.{Clause}
 use Rattle.consistency.specs.Problem.{IsProblem}
-use Rattle.consistency.specs.Search.{IsSolution}
+use Rattle.consistency.specs.Search.{IsSolution, IsSolutionOrNone}
 
 module _ (clauses : List Clause) (base narrower : List ℕ) (subject value : ℕ) (full : length narrower ≡ length base)
     (at : (m : ℕ) → has (slice_index narrower subject) m ≡ (has (slice_index base subject) m && (nat_lt m MAX_CHOICES && not (m == value))))
@@ -18,7 +18,7 @@ module _ (clauses : List Clause) (base narrower : List ℕ) (subject value : ℕ
     | inr ne ↦ ap (λ (s : ℕ). has s v) (sym (others d ne)) ∙ h
   ]
 
-  pub other_solution : (xs : List ℕ) → IsSolution clauses narrower xs → IsSolution clauses base xs × (slice_index xs subject ≢ value)
+  other_solution : (xs : List ℕ) → IsSolution clauses narrower xs → IsSolution clauses base xs × (slice_index xs subject ≢ value)
   other_solution xs h = (
     record { full = h.full ∙ full; within = λ d k. inside d (slice_index xs d) (h.within d (subst (λ n. d < n) (sym full) k)); met = h.met },
     λ same. (
@@ -28,7 +28,7 @@ module _ (clauses : List Clause) (base narrower : List ℕ) (subject value : ℕ
         false≢true (sym (not_from_true (v == value) (eq-eqb v value same)) ∙ last)),
   )
 
-  pub to_other : (xs : List ℕ) → IsSolution clauses base xs → slice_index xs subject ≢ value → IsSolution clauses narrower xs
+  to_other : (xs : List ℕ) → IsSolution clauses base xs → slice_index xs subject ≢ value → IsSolution clauses narrower xs
   to_other xs h ne = record {
     full = h.full ∙ sym full;
     within = λ d k. elim (cases_eq d subject) [
@@ -41,3 +41,15 @@ module _ (clauses : List Clause) (base narrower : List ℕ) (subject value : ℕ
     ];
     met = h.met;
   }
+
+  -- what a search there finds has another value, and where it finds nothing all have this one
+  pub other_some : (o : Option (List ℕ)) → IsSolutionOrNone clauses narrower o → IfSome o (λ xs. IsSolution clauses base xs × (slice_index xs subject ≢ value))
+  other_some None h = record {}
+  other_some (Some xs) h = other_solution xs h
+
+  pub other_none : (o : Option (List ℕ)) → IsSolutionOrNone clauses narrower o → IsNone o → (xs : List ℕ) → IsSolution clauses base xs → slice_index xs subject ≡ value
+  other_none (Some ys) h e xs solution = absurd (cc)
+  other_none None h e xs solution = elim (cases_eq (slice_index xs subject) value) [
+    | inl same ↦ same
+    | inr ne ↦ absurd (h xs (to_other xs solution ne))
+  ]

@@ -8,7 +8,7 @@ use Rattle.cca_base.specs.Shown.{CanShow, Clash}
 use Rattle.cca_base.specs.State.{IsState}
 use Rattle.cca_base.proofs.StateLaws.{same_state}
 use Rattle.consistency.specs.Cores.{IsShowable}
-use Rattle.consistency.proofs.StatePairs.{extends_own}
+use Rattle.cca_base.proofs.StatePairs.{extends_own}
 
 -- where some state shows what is seen there is no clash
 pub showable_fits : (m : PlantModel) (modes seen : List Pair) → IsShowable m seen modes → Clash m seen modes → ⊥

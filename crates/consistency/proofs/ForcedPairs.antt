@@ -19,7 +19,7 @@ use Rattle.consistency.specs.Forced.{AreForced}
 use Rattle.consistency.specs.Search.{IsSolution, AllHave, IsBackbone}
 use Rattle.clause_form.proofs.ModelSizes.{subjects_counted}
 use Rattle.consistency.proofs.Bridge.{parts_fit, fits_solution, at_value}
-use Rattle.consistency.proofs.StatePairs.{extends_own, pairs_have_modes}
+use Rattle.cca_base.proofs.StatePairs.{extends_own, pairs_have_modes}
 
 module _ (m : PlantModel) (s : List ℕ) (c : Clauses) (base : List ℕ) (of : AreClausesOf m None None c) (b : IsBase c.sizes (length m.components) (pairs_of s) [] base) (state : IsState m s) where
   abbrev n : ℕ

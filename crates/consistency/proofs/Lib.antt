@@ -4,16 +4,13 @@ pub mod SearchFrom
 pub mod Bridge
 pub mod Orders
 pub mod Firsts
-pub mod StatePairs
-pub mod Trying
 pub mod Fitting
 pub mod ForcedPairs
 pub mod MinimalConflict
 pub mod CoreOfClash
 pub mod CoreTrying
+pub mod Shrinking
 pub mod BackboneLaws
 pub mod Excluded
 pub mod Answered
-pub mod DeniedClauses
-pub mod JoinedPairs
 pub mod ObservedPairs

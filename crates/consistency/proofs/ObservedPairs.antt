@@ -1,19 +1,16 @@
 -- What is pending, and what the worlds of the plant's state agree on of the mirrored variables, are what a tick observes.
-use Rattle.std.proofs.Common.{Option, Some, IfSome, ◌≡◌, ◌≢◌, ℕ, true, false, List, All, Contains, inl, inr, sym, subst, arith}
+use Rattle.std.proofs.Common.{Option, Some, IfSome, ◌≡◌, ◌≢◌, ℕ, true, false, List, All, Contains, inl, inr, sym, subst}
 use Rattle.std.proofs.lemmas.Bool.{both_ways}
 use Rattle.std.proofs.lemmas.List.Elements.{All-contains}
 use Rattle.cca_base.specs.declared.cube.Pair.{Pair}
 use Rattle.cca_base.specs.PlantModel.{PlantModel}
-use Rattle.cca_base.specs.Cube.{IsCube, IsRising, IsUnion, Lacks}
+use Rattle.cca_base.specs.Cube.{IsUnion, Lacks}
 use Rattle.cca_base.specs.Sets.{has}
 use Rattle.cca_base.specs.State.{HasValue}
 use Rattle.cca_base.proofs.Members.{all_from}
 use Rattle.consistency.specs.Forced.{AreForced}
 use Rattle.consistency.specs.Observed.{IsObserved, IsShown, ShowsNow}
 use Rattle.consistency.specs.declared.mirror.Shown.{Shown}
-
-pub rising_once : (pairs : List Pair) → IsRising pairs → IsCube pairs
-rising_once pairs rising = λ i j d before within same. (let lt = rising i j d before within in omega (arith, lt, same))
 
 -- what the worlds agree on of the mirrored variables names none that is pending
 pub forced_new : (m : PlantModel) (s : List ℕ) (mirrored : ℕ) (pending forced : List Pair) → All (λ p. has mirrored p.item ≡ false) pending → AreForced m s mirrored forced

@@ -186,3 +186,11 @@ AllHave clauses base first p = (xs : List ℕ) → IsSolution clauses base xs �
 pub record IsBackbone (clauses : List Clause) (base : List ℕ) (first vars : ℕ) (pairs : List Pair) : Type 0 where
   pub rising : IsRising pairs
   pub each : (p : Pair) → Contains pairs p ↔ (IsTrue (has vars p.item) × (first + p.item < length base) × AllHave clauses base first p)
+
+-- two solutions differ on the subject, so no value there is in all of them
+abbrev pub IsVaried : List Clause → List ℕ → ℕ → Type 0
+IsVaried clauses base d = (xs : List ℕ) × (ys : List ℕ) × IsSolution clauses base xs × IsSolution clauses base ys × (slice_index xs d ≢ slice_index ys d)
+
+-- each of these subjects is such
+abbrev pub AreVaried : List Clause → List ℕ → SubjectSet → Type 0
+AreVaried clauses base subjects = (d : ℕ) → is_in subjects d ≡ true → IsVaried clauses base d

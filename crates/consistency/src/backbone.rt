@@ -1,25 +1,47 @@
-//! The backbone of a state's worlds: the values that all of them have. Some world gives each candidate. Where
-//! propagation doesn't leave it alone, a search with the value excluded shows whether some other world differs.
+//! The backbone of a state's worlds: the values that all of them have. Some world gives each candidate. Where propagation leaves more
+//! than one value, another world is sought in which the candidate's is excluded, and which differs from the first wherever it can. Two
+//! worlds that differ on a variable show that it isn't forced, so that world settles others too.
 
-ghost use Rattle.std.specs.Prelude.{◌≡◌, ◌+◌, ◌≤◌, ℕ, List, length, slice_index, All, IfOk};
+ghost use Rattle.std.specs.Prelude.{◌≡◌, ◌≤◌, ℕ, List, length, slice_index, All, IfOk};
 ghost use Rattle.cca_base.specs.State.{HasValue, HasWorld, IsState};
+ghost use Rattle.clause_form.specs.declared.clause.Clause.{Clause};
 ghost use Rattle.consistency.specs.Bounds.{HoldSolutions};
 ghost use Rattle.consistency.specs.Forced.{AreForced};
 ghost use Rattle.consistency.specs.Problem.{IsProblem};
-ghost use Rattle.consistency.specs.Search.{IsSolution, IsBackbone};
+ghost use Rattle.consistency.specs.Search.{IsSolution, IsBackbone, AreVaried};
+ghost use Rattle.consistency.specs.declared.subjects.TheConstants.{SET_SUBJECTS};
 ghost use Rattle.consistency.specs.Worlds.{AreWorldsOf};
 
 use crate::base::model_base;
 use crate::bounds::bounds;
 use crate::guess::solution_in;
-use crate::other::is_forced;
+use crate::other::other_solution;
 use crate::pairs::all_pairs;
 use crate::problem::Problem;
+use crate::subjects::{SubjectSet, has_subject, no_subject, with_subject};
 use crate::worlds::Worlds;
 use cca_base::{List, Model, Pair, Seen, State, ValueSet, VarSet};
 use std::alloc::{AllocError, Global};
 
-/// The variables of the set whose value is that of the given solution in every other one.
+/// The subjects, and those at which the two solutions differ.
+fn with_differing(subjects: &SubjectSet, one: &[u8], other: &[u8]) -> SubjectSet
+    requires small { length one.now ≤ SET_SUBJECTS }
+    requires full { length other.now ≡ length one.now }
+    ensures { (clauses : List Clause) (base : List ℕ) → IsSolution clauses base one.now →
+        IsSolution clauses base other.now → AreVaried clauses base subjects.now →
+        AreVaried clauses base result }
+{
+    let mut varied = *subjects;
+    for (at, value) in one.iter().enumerate() {
+        if other[at] != *value {
+            varied = with_subject(&varied, at as u16);
+        }
+    }
+    varied
+}
+
+/// The variables of the set whose value is that of the given solution in every other one. Those at which one that is found differs
+/// needn't be asked for.
 fn backbone(
     alloc: Global,
     problem: &Problem,
@@ -36,12 +58,16 @@ fn backbone(
     ensures { IfOk result (IsBackbone problem.now.clauses base.now components vars) }
 {
     let mut pairs = List::new(alloc);
+    let mut varied = no_subject();
     for item in 0..(values.len() - components) as u16 {
-        if vars.has(item) {
-            let subject = components + item as usize;
-            let value = values[subject];
-            if is_forced(alloc, problem, base, sets, subject, value)? {
-                pairs.push(Pair { item, value })?;
+        let subject = components + item as usize;
+        if vars.has(item) && !has_subject(&varied, subject as u16) {
+            match other_solution(alloc, problem, base, sets, subject, values)? {
+                Some(other) => varied = with_differing(&varied, values, other.as_slice()),
+                None => pairs.push(Pair {
+                    item,
+                    value: values[subject],
+                })?,
             }
         }
     }
@@ -62,14 +88,15 @@ fn first_backbone(
     ensures { IfOk result (IsBackbone problem.now.clauses base.now components vars) }
 {
     let sets = bounds(alloc, problem, base)?;
-    let Some(values) = solution_in(alloc, problem, base, sets.as_slice())? else {
+    let sets = sets.as_slice();
+    let Some(values) = solution_in(alloc, problem, base, sets)? else {
         return Ok(List::new(alloc));
     };
     backbone(
         alloc,
         problem,
         base,
-        sets.as_slice(),
+        sets,
         components,
         values.as_slice(),
         vars,

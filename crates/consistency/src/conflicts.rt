@@ -21,7 +21,7 @@ use std::alloc::{AllocError, Global};
 
 /// The subjects that are to blame that no state which extends the modes has a world that agrees with what is seen. None
 /// comes where some state has one.
-fn core_of(
+pub fn core_of(
     alloc: Global,
     model: &Model,
     worlds: &Worlds,
@@ -43,7 +43,7 @@ fn core_of(
 }
 
 /// The same of the modes that were kept with those that are still to be tried.
-fn core_left(
+pub fn core_left(
     alloc: Global,
     model: &Model,
     worlds: &Worlds,

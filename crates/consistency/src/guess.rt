@@ -26,34 +26,55 @@ fn least(set: ValueSet) -> Option<u8>
     None
 }
 
-/// Gives the subject its least value, and narrows the sets.
+/// The least value of the set behind this one, or this one where there is none.
+fn next(set: ValueSet, first: u8) -> u8
+    requires { first < MAX_CHOICES }
+    ensures { result < MAX_CHOICES }
+{
+    for value in first + 1..MAX_CHOICES as u8 {
+        if set.has(value) {
+            return value;
+        }
+    }
+    first
+}
+
+/// Gives the subject its least value, or the one behind it where the least is to be avoided, and narrows the sets.
 fn pick(
     problem: &Problem,
     sets: &mut [ValueSet],
     changed: &mut Vec<u16>,
     subject: u16,
+    avoided: Option<&u8>,
 ) -> Result<Option<u8>, AllocError>
     requires below { AllBelow (length sets.old) problem.now.clauses }
     requires subject { subject < length sets.old }
     ensures { length sets.new ≡ length sets.old }
 {
-    let Some(value) = least(sets[subject as usize]) else {
+    let set = sets[subject as usize];
+    let Some(first) = least(set) else {
         return Ok(None);
     };
-    let alone = ValueSet::empty().with(value);
-    if sets[subject as usize] != alone {
-        sets[subject as usize] = alone;
-        changed.push(subject)?;
-        settle(problem, sets, changed)?;
+    if set == ValueSet::empty().with(first) {
+        return Ok(Some(first));
     }
+    let value = match avoided {
+        Some(avoided) if *avoided == first => next(set, first),
+        _ => first,
+    };
+    sets[subject as usize] = ValueSet::empty().with(value);
+    changed.push(subject)?;
+    settle(problem, sets, changed)?;
     Ok(Some(value))
 }
 
-/// A value for each subject, the least that is left after the choices before. None comes where nothing is left.
+/// A value for each subject of those that are left after the choices before, other than the one to be avoided where it can be.
+/// None comes where nothing is left.
 fn picked(
     alloc: Global,
     problem: &Problem,
     sets: &mut [ValueSet],
+    avoided: &[u8],
 ) -> Result<Option<List<u8>>, AllocError>
     requires below { AllBelow (length sets.old) problem.now.clauses }
     requires small { length sets.old < 65536 }
@@ -62,7 +83,8 @@ fn picked(
     let mut changed = Vec::new(alloc);
     let mut values = Vec::with_capacity(alloc, sets.len())?;
     for subject in 0..sets.len() as u16 {
-        match pick(problem, sets, &mut changed, subject)? {
+        let other = avoided.get(subject as usize);
+        match pick(problem, sets, &mut changed, subject, other)? {
             Some(value) => values.push(value)?,
             None => return Ok(None),
         }
@@ -70,18 +92,19 @@ fn picked(
     Ok(Some(List::of(values)))
 }
 
-/// The solution that takes least values of these sets, where it is one. The sets are narrowed by it.
+/// What takes least values of these sets, other than those to be avoided, where it is a solution. The sets are narrowed by it.
 fn guess(
     alloc: Global,
     problem: &Problem,
     base: &[ValueSet],
     sets: &mut [ValueSet],
+    avoided: &[u8],
 ) -> Result<Option<List<u8>>, AllocError>
     requires proper { IsProblem problem.now.clauses base.now }
     requires full { length sets.old ≡ length base.now }
     ensures { IfOk result (λ o. IfSome o (IsSolution problem.now.clauses base.now)) }
 {
-    let Some(values) = picked(alloc, problem, sets)? else {
+    let Some(values) = picked(alloc, problem, sets, avoided)? else {
         return Ok(None);
     };
     if is_solution(problem, base, values.as_slice()) {
@@ -100,7 +123,7 @@ pub fn solution_or_clash(
     ensures { IfOk result (IsSolutionOrClash problem.now.clauses base.now) }
 {
     let mut sets = bounds(alloc, problem, base)?;
-    match guess(alloc, problem, base, &mut sets)? {
+    match guess(alloc, problem, base, &mut sets, &[])? {
         Some(solution) => Ok(SearchResult::Found(solution)),
         None => solve(alloc, problem, base),
     }
@@ -118,22 +141,30 @@ pub fn solution_in(
     ensures { IfOk result (IsSolutionOrNone problem.now.clauses base.now) }
 {
     let mut left = Vec::from_slice(alloc, sets)?;
-    let guessed = guess(alloc, problem, base, &mut left)?;
+    let guessed = guess(alloc, problem, base, &mut left, &[])?;
     if guessed.is_some() {
         return Ok(guessed);
     }
     first_solution(alloc, problem, base)
 }
 
-/// Some solution. None comes exactly where there is none.
-pub fn any_solution(
+/// Some solution, sought first in the sets as one that takes another value than this at each subject where one is left. None comes
+/// exactly where there is none.
+pub fn solution_apart(
     alloc: Global,
     problem: &Problem,
     base: &[ValueSet],
+    sets: &[ValueSet],
+    values: &[u8],
 ) -> Result<Option<List<u8>>, AllocError>
-    requires { IsProblem problem.now.clauses base.now }
+    requires proper { IsProblem problem.now.clauses base.now }
+    requires full { length sets.now ≡ length base.now }
     ensures { IfOk result (IsSolutionOrNone problem.now.clauses base.now) }
 {
-    let sets = bounds(alloc, problem, base)?;
-    solution_in(alloc, problem, base, sets.as_slice())
+    let mut left = Vec::from_slice(alloc, sets)?;
+    let guessed = guess(alloc, problem, base, &mut left, values)?;
+    if guessed.is_some() {
+        return Ok(guessed);
+    }
+    solution_in(alloc, problem, base, sets)
 }

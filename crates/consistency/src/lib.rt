@@ -12,6 +12,7 @@ mod domain;
 mod found;
 mod guess;
 mod laws;
+mod minimal;
 mod mirror;
 mod observed;
 mod other;

@@ -1,15 +1,18 @@
-//! Whether some solution has another value at a subject.
+//! A solution with another value at a subject.
 
-ghost use Rattle.std.specs.Prelude.{◌≡◌, ◌≢◌, ◌==◌, ◌&&◌, ◌<◌, ℕ, List, not, true, false, nat_lt, length, slice_index, IfOk};
+ghost use Rattle.std.specs.Prelude.{◌≡◌, ◌≢◌, ◌==◌, ◌&&◌, ◌<◌, ◌≤◌, ℕ, List, not, nat_lt, length, slice_index, IfOk, IfSome, IsNone};
 ghost use Rattle.cca_base.specs.declared.limits.TheConstants.{MAX_CHOICES};
 ghost use Rattle.cca_base.specs.Sets.{has};
+ghost use Rattle.clause_form.specs.Clauses.{AllBelow};
 ghost use Rattle.consistency.specs.Problem.{IsProblem};
 ghost use Rattle.consistency.specs.Bounds.{HoldSolutions};
 ghost use Rattle.consistency.specs.Search.{IsSolution};
+ghost use Rattle.consistency.specs.declared.subjects.TheConstants.{SET_SUBJECTS};
 
-use crate::guess::any_solution;
+use crate::bounds::settle;
+use crate::guess::solution_apart;
 use crate::problem::Problem;
-use cca_base::{MAX_CHOICES, ValueSet};
+use cca_base::{List, MAX_CHOICES, ValueSet};
 use std::alloc::{AllocError, Global};
 
 /// All small numbers but one.
@@ -45,53 +48,52 @@ fn excluded(
     Ok(narrower)
 }
 
-/// Whether some solution has another value at the subject: a search with the value excluded.
-fn has_other(
+/// What propagation leaves of the sets, one of which has lost one value.
+fn settled(
     alloc: Global,
     problem: &Problem,
-    base: &[ValueSet],
+    sets: &[ValueSet],
     subject: usize,
     value: u8,
-) -> Result<bool, AllocError>
-    requires proper { IsProblem problem.now.clauses base.now }
-    requires subject { subject < length base.now }
-    ensures yes { IfOk result (λ b.
-        b ≡ true → (xs : List ℕ) × IsSolution problem.now.clauses base.now xs
-        × (slice_index xs subject ≢ value)) }
-    ensures no { IfOk result (λ b.
-        b ≡ false → (xs : List ℕ) → IsSolution problem.now.clauses base.now xs →
-        slice_index xs subject ≡ value) }
+) -> Result<Vec<ValueSet>, AllocError>
+    requires below { AllBelow (length sets.now) problem.now.clauses }
+    requires subject { subject < length sets.now }
+    requires small { length sets.now ≤ SET_SUBJECTS }
+    ensures { IfOk result (λ r. length r.items ≡ length sets.now) }
 {
-    let narrower = excluded(alloc, base, subject, value)?;
-    match any_solution(alloc, problem, narrower.as_slice())? {
-        Some(_) => Ok(true),
-        None => Ok(false),
-    }
+    let mut left = excluded(alloc, sets, subject, value)?;
+    let mut changed = Vec::new(alloc);
+    changed.push(subject as u16)?;
+    settle(problem, &mut left, &mut changed)?;
+    Ok(left)
 }
 
-/// Whether every solution has the value at the subject: propagation leaves no other, or no search finds one.
-pub fn is_forced(
+/// Some solution with another value at the subject than this one has, sought apart from it in the sets. None comes exactly where
+/// all solutions have this one's value there: propagation leaves no other, or no search finds one.
+pub fn other_solution(
     alloc: Global,
     problem: &Problem,
     base: &[ValueSet],
     sets: &[ValueSet],
     subject: usize,
-    value: u8,
-) -> Result<bool, AllocError>
+    values: &[u8],
+) -> Result<Option<List<u8>>, AllocError>
     requires proper { IsProblem problem.now.clauses base.now }
     requires bounds { HoldSolutions problem.now.clauses base.now sets.now }
     requires subject { subject < length base.now }
-    requires small { value < MAX_CHOICES }
-    ensures yes { IfOk result (λ b.
-        b ≡ true → (xs : List ℕ) → IsSolution problem.now.clauses base.now xs →
-        slice_index xs subject ≡ value) }
-    ensures no { IfOk result (λ b.
-        b ≡ false → (xs : List ℕ) × IsSolution problem.now.clauses base.now xs
-        × (slice_index xs subject ≢ value)) }
+    requires values { IsSolution problem.now.clauses base.now values.now }
+    ensures some { IfOk result (λ o. IfSome o (λ xs.
+        IsSolution problem.now.clauses base.now xs
+        × (slice_index xs subject ≢ slice_index values.now subject))) }
+    ensures none { IfOk result (λ o.
+        IsNone o → (xs : List ℕ) → IsSolution problem.now.clauses base.now xs →
+        slice_index xs subject ≡ slice_index values.now subject) }
 {
+    let value = values[subject];
     if sets[subject] == ValueSet::empty().with(value) {
-        return Ok(true);
+        return Ok(None);
     }
-    let other = has_other(alloc, problem, base, subject, value)?;
-    Ok(!other)
+    let narrower = excluded(alloc, base, subject, value)?;
+    let left = settled(alloc, problem, sets, subject, value)?;
+    solution_apart(alloc, problem, narrower.as_slice(), left.as_slice(), values)
 }

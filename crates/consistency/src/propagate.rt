@@ -85,7 +85,8 @@ fn assume(
 }
 
 /// Assumes the sets of the subjects, from the last one to the first, and narrows the domains after each. So a clash blames
-/// late components where it can, and those are the pairs of a state that a conflict keeps.
+/// late components where it can, and those are the pairs of a state that a conflict keeps. It stops where a subject has no value
+/// left, for the reasons of that one alone.
 pub fn assume_all(
     alloc: Global,
     problem: &Problem,
@@ -106,6 +107,9 @@ pub fn assume_all(
     }
     for subject in (0..base.len() as u16).rev() {
         assume(base, domains, &mut changed, subject)?;
+        if domains[subject as usize].values.is_empty() {
+            return Ok(Some(domains[subject as usize].reason));
+        }
         if let Some(because) = propagate(problem, domains, &mut changed)? {
             return Ok(Some(because));
         }

@@ -99,7 +99,7 @@ fn whole_domains(alloc: Global, subjects: usize) -> Result<Vec<Domain>, AllocErr
     ensures values { IfOk result (λ r.
         (d v : ℕ) → d < subjects → has (values_at r.items d) v ≡ nat_lt v MAX_CHOICES) }
 {
-    let mut domains = Vec::new(alloc);
+    let mut domains = Vec::with_capacity(alloc, subjects)?;
     for _ in 0..subjects {
         domains.push(Domain {
             values: ValueSet::full(MAX_CHOICES as u8),

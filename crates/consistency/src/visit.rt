@@ -62,9 +62,8 @@ pub fn propagate_clause(literals: &[Literal], domains: &mut [Domain]) -> Visit
     let Some(place) = last_literal(literals, domains) else {
         return Visit::Same;
     };
-    let because = reasons(literals, domains, place);
     if place == literals.len() {
-        return Visit::Clash(because);
+        return Visit::Clash(reasons(literals, domains, place));
     }
     let literal = literals[place];
     let subject = literal.subject as usize;
@@ -73,6 +72,7 @@ pub fn propagate_clause(literals: &[Literal], domains: &mut [Domain]) -> Visit
     if values == before.values {
         return Visit::Same;
     }
+    let because = reasons(literals, domains, place);
     let reason = union(&before.reason, &because);
     domains[subject] = Domain { values, reason };
     Visit::Narrowed(literal.subject)

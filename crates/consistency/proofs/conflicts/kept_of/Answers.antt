@@ -4,7 +4,7 @@ use Rattle.cca_base.specs.declared.cube.Pair.{Pair}
 use Rattle.cca_base.specs.Cube.{IsCube}
 use Rattle.cca_base.specs.Model.{HasMode}
 use Rattle.consistency.specs.Cores.{IsCore, IsShowable}
-use Rattle.consistency.proofs.Trying.{trying_others, trying_lacks}
+use Rattle.cca_base.proofs.Trying.{trying_others, trying_lacks}
 use Rattle.consistency.proofs.CoreTrying.{outside_dropped, inside_dropped, inside_kept}
 use Rattle.consistency.proofs.Fitting.{showable_fits, read_here, rest_of}
 use Rattle.consistency.proofs.conflicts.kept_of.Goals as goal

@@ -4,7 +4,7 @@ use Rattle.clause_form.specs.declared.clause.Clauses.{Clauses}
 use Rattle.clause_form.specs.declared.clause.Clause.{Clause}
 use Rattle.clause_form.specs.Formulas.{AreClausesOf}
 use Rattle.consistency.specs.Problem.{clauses_in}
-use Rattle.consistency.proofs.DeniedClauses.{denied_beside_rules}
+use Rattle.clause_form.proofs.DeniedClauses.{denied_beside_rules}
 use Rattle.consistency.proofs.denied.denied_problem.Goals as goal
 
 pub returns : goal.returns

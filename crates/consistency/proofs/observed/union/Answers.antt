@@ -3,7 +3,7 @@ use Rattle.std.specs.List.Sorted.{IsPermutation, IsNonDecreasingBy}
 use Rattle.std.proofs.lemmas.List.Sorted.{IsNonDecreasingBy-from_sort_by_key}
 use Rattle.cca_base.specs.declared.cube.Pair.{Pair}
 use Rattle.cca_base.specs.Cube.{IsUnion}
-use Rattle.consistency.proofs.JoinedPairs.{sorted_union}
+use Rattle.cca_base.proofs.JoinedPairs.{sorted_union}
 use Rattle.consistency.proofs.observed.union.Goals as goal
 
 pub returns : goal.returns

@@ -4,7 +4,7 @@ use Rattle.std.proofs.lemmas.Option.{get_or_from_slice_get}
 use Rattle.cca_base.specs.declared.cube.Pair.{Pair}
 use Rattle.cca_base.specs.Cube.{Lacks}
 use Rattle.cca_base.specs.Repairs.{pairs_of}
-use Rattle.consistency.proofs.StatePairs.{lacks_next, pairs_grow}
+use Rattle.cca_base.proofs.StatePairs.{lacks_next, pairs_grow}
 use Rattle.consistency.proofs.pairs.all_pairs.Goals as goal
 
 pub push-requires : goal.push-requires

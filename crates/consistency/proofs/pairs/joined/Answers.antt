@@ -2,7 +2,7 @@ use Rattle.std.proofs.Common.{get_or, subst, sym}
 use Rattle.std.proofs.lemmas.List.{get_or_default}
 use Rattle.cca_base.specs.declared.cube.Pair.{Pair}
 use Rattle.cca_base.specs.Cube.{Lacks}
-use Rattle.consistency.proofs.Trying.{lacks_at}
+use Rattle.cca_base.proofs.Trying.{lacks_at}
 use Rattle.consistency.proofs.pairs.joined.Goals as goal
 
 pub push-requires : goal.push-requires

@@ -6,7 +6,7 @@ use Rattle.consistency.proofs.visit.propagate_clause.Goals as goal
 
 pub returns-then-place-literals-clause-clash : goal.returns-then-place-literals-clause-clash
 returns-then-place-literals-clause-clash c prefix xs met knows agrees =
-    let one = only_one _ _ _ _ prefix xs c.requires c.in-Some.ensures.others c.reasons-because.ensures met knows agrees in
+    let one = only_one _ _ _ _ prefix xs c.requires c.in-Some.ensures.others c.reasons.ensures met knows agrees in
     let less = one.0 in
     absurd (omega arith)
 

@@ -2,7 +2,7 @@ use Rattle.std.proofs.Common.{true, is_some, refl, ap}
 use Rattle.std.proofs.lemmas.Bool.{both_ways}
 use Rattle.cca_base.specs.Repairs.{pairs_of}
 use Rattle.consistency.proofs.CoreTrying.{core_clash}
-use Rattle.consistency.proofs.StatePairs.{pairs_have_modes}
+use Rattle.cca_base.proofs.StatePairs.{pairs_have_modes}
 use Rattle.consistency.proofs.Fitting.{own_shows, own_clash}
 use Rattle.consistency.proofs.worlds.Worlds.conflict.Goals as goal
 

@@ -5,7 +5,7 @@ use Rattle.consistency.specs.Base.{IsBase}
 use Rattle.consistency.specs.Problem.{clauses_in}
 use Rattle.consistency.specs.Search.{IsSolution, IsBackbone}
 use Rattle.consistency.proofs.ForcedPairs.{no_solution, backbone_forced, forced_values}
-use Rattle.consistency.proofs.StatePairs.{pairs_have_modes}
+use Rattle.cca_base.proofs.StatePairs.{pairs_have_modes}
 use Rattle.consistency.proofs.worlds.Worlds.forced.Goals as goal
 
 pub model_base-requires-clause-modes : goal.model_base-requires-clause-modes

@@ -5,7 +5,8 @@ use Rattle.cca_base.specs.declared.state.Seen.{Seen}
 use Rattle.cca_base.specs.Cube.{IsUnion}
 use Rattle.cca_base.specs.State.{HasValue}
 use Rattle.consistency.specs.Observed.{IsObserved}
-use Rattle.consistency.proofs.ObservedPairs.{rising_once, forced_new, observed, observed_values, shown_now}
+use Rattle.cca_base.proofs.CubeLaws.{rising_once}
+use Rattle.consistency.proofs.ObservedPairs.{forced_new, observed, observed_values, shown_now}
 use Rattle.consistency.proofs.worlds.Worlds.observed_by.Goals as goal
 
 pub union-requires : goal.union-requires

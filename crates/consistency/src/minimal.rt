@@ -1,0 +1,89 @@
+//! A minimal clash of a state, by deletion over a core. Each pair of the core is left out once: it is kept where some state that
+//! extends the others has a world that agrees, and else only the pairs of their core go on.
+
+ghost use Rattle.std.specs.Prelude.{◌≡◌, ◌↔◌, ℕ, List, All, IfOk, IfSome, IsNone};
+ghost use Rattle.cca_base.specs.Cube.{IsCube, IsPart};
+ghost use Rattle.cca_base.specs.Model.{HasMode};
+ghost use Rattle.cca_base.specs.Repairs.{pairs_of};
+ghost use Rattle.cca_base.specs.Shown.{CanShow, Clash};
+ghost use Rattle.cca_base.specs.State.{HasValue, IsState};
+ghost use Rattle.consistency.specs.Conflict.{IsMinimalClash};
+ghost use Rattle.consistency.specs.Cores.{pairs_in};
+ghost use Rattle.consistency.specs.Worlds.{AreWorldsOf};
+
+use crate::conflicts::{core_left, core_of};
+use crate::pairs::all_pairs;
+use crate::subjects::{SubjectSet, has_subject};
+use crate::worlds::Worlds;
+use cca_base::{Cube, List, Model, Pair, Seen, State};
+use std::alloc::{AllocError, Global};
+
+/// The pairs that are of these subjects.
+fn pairs_in(alloc: Global, subjects: &SubjectSet, pairs: &[Pair]) -> Result<List<Pair>, AllocError>
+    ensures { IfOk result (λ r. r ≡ pairs_in subjects.now pairs.now) }
+{
+    let mut among = List::new(alloc);
+    for pair in pairs {
+        if has_subject(subjects, pair.item) {
+            among.push(*pair)?;
+        }
+    }
+    Ok(among)
+}
+
+/// A minimal part of the pairs that clashes.
+fn minimal_part(
+    alloc: Global,
+    model: &Model,
+    worlds: &Worlds,
+    pairs: List<Pair>,
+    seen: &Seen,
+) -> Result<Cube, AllocError>
+    requires of { AreWorldsOf model.now worlds.now }
+    requires cube { IsCube pairs }
+    requires modes { All (λ p. HasMode model.now p.item p.value) pairs }
+    requires seen { All (λ p. HasValue model.now p.item p.value) seen.now.pairs }
+    requires clash { Clash model.now seen.now.pairs pairs }
+    ensures { IfOk result (λ c. (s : List ℕ) → IsPart pairs (pairs_of s) →
+        IsMinimalClash model.now s seen.now.pairs c) }
+{
+    let mut kept = Cube::new(alloc);
+    let mut left = pairs;
+    'leaving: while let Some(pair) = left.pop() {
+        match core_left(alloc, model, worlds, &kept, left.as_slice(), seen)? {
+            Some(core) => left = pairs_in(alloc, &core, left.as_slice())?,
+            None => kept.push(pair)?,
+        }
+    }
+    Ok(kept)
+}
+
+impl Worlds {
+    /// Why no world of the state agrees with what is seen: a part of its pairs that no state with such a world extends, while
+    /// some such state extends what is left without any one of them. None comes exactly where the state has a world that
+    /// agrees. The error is out of memory.
+    pub fn minimal_clash(
+        &self,
+        alloc: Global,
+        model: &Model,
+        state: &State,
+        seen: &Seen,
+    ) -> Result<Option<Cube>, AllocError>
+        requires of { AreWorldsOf model.now self.now }
+        requires state { IsState model.now state.now.modes }
+        requires seen { All (λ p. HasValue model.now p.item p.value) seen.now.pairs }
+        ensures some { IfOk result (λ o.
+            IfSome o (IsMinimalClash model.now state.now.modes seen.now.pairs)) }
+        ensures none { IfOk result (λ o.
+            IsNone o ↔ CanShow model.now state.now.modes seen.now.pairs) }
+    {
+        let pairs = all_pairs(alloc, model, state)?;
+        match core_of(alloc, model, self, &pairs, seen)? {
+            Some(core) => {
+                let among = pairs_in(alloc, &core, pairs.as_slice())?;
+                Ok(Some(minimal_part(alloc, model, self, among, seen)?))
+            }
+            None => Ok(None),
+        }
+    }
+}
