@@ -12,15 +12,24 @@ use reversibility::Classes;
 use std::alloc::{AllocError, Global};
 use std::rc::Rc;
 
-/// Tables for a state. The error is out of memory.
-fn tables_of(alloc: Global, compiled: &Rc<Compiled>, state: &State) -> Result<Tables, AllocError>
-    requires { IsState compiled.now.value.model state.now.modes }
+/// Tables for a state, which share what they can with those that there are. The error is out of memory.
+fn tables_of(
+    alloc: Global,
+    compiled: &Rc<Compiled>,
+    tables: &Option<Tables>,
+    state: &State,
+) -> Result<Tables, AllocError>
+    requires tables { IfSome tables.now (AreTablesOf compiled.now.value) }
+    requires state { IsState compiled.now.value.model state.now.modes }
     ensures of { IfOk result (AreTablesOf compiled.now.value) }
     ensures base { IfOk result (λ t. base_of t ≡ state.now.modes) }
     ensures covers { IfOk result (λ t. CoversState t.classes state.now.modes) }
 {
     let classes = Classes::of(alloc, compiled, state)?;
-    Tables::of(alloc, classes)
+    match tables {
+        Some(old) => old.renewed(alloc, classes),
+        None => Tables::of(alloc, classes),
+    }
 }
 
 /// Whether the tables cover the state.
@@ -51,7 +60,7 @@ pub(crate) fn take(
     {
         return Ok(());
     }
-    let new = tables_of(alloc, compiled, state)?;
+    let new = tables_of(alloc, compiled, tables, state)?;
     *tables = Some(new);
     Ok(())
 }

@@ -1,13 +1,15 @@
 -- What tables are filled with.
-use Rattle.std.proofs.Common.{◌≡◌, ◌≢◌, ◌<◌, ◌+◌, ◌*◌, ℕ, true, List, [], ◌∷◌, ◌++◌, length, get_or, take, slice_get, slice_index, Some, sym, ap, subst, ◌∙◌, inl, inr, arith, length-append}
+use Rattle.std.proofs.Common.{◌≡◌, ◌≢◌, ◌<◌, ◌≤◌, ◌+◌, ◌*◌, ℕ, true, List, [], ◌∷◌, ◌++◌, length, get_or, take, slice_get, slice_index, Some, sym, ap, subst, ◌∙◌, inl, inr, arith, length-append}
 use Rattle.std.proofs.lemmas.Bool.{cases_lt}
 use Rattle.std.proofs.lemmas.List.{get_or-take, length-take-le, get_or_default, get_or_append_left, get_or_push}
-use Rattle.std.proofs.lemmas.Nat.{same_from_place, mul-add-lt}
+use Rattle.std.proofs.lemmas.Nat.{same_from_place, mul-add-lt, mul-le}
 use Rattle.cca_base.specs.declared.cube.Pair.{Pair}
 use Rattle.cca_base.specs.declared.model.Component.{Component}
 use Rattle.cca_base.specs.PlantModel.{PlantModel}
 use Rattle.cca_base.specs.Cube.{IsCube, Lacks}
-use Rattle.cca_base.specs.Model.{HasMode, mode_counts}
+use Rattle.cca_base.specs.declared.limits.TheConstants.{MAX_CHOICES}
+use Rattle.cca_base.specs.Model.{WellFormed, HasMode, mode_counts}
+use Rattle.cca_base.proofs.NextModes.{few_modes}
 use Rattle.cca_base.proofs.Within.{mode_within}
 use Rattle.reach_laws.specs.declared.cell.Cell.{Cell}
 use Rattle.reach_laws.specs.declared.cell.Cell.TheVariants as cell
@@ -17,6 +19,7 @@ use Rattle.reach_laws.proofs.Order.{repair_rules}
 use Rattle.reach_laws.proofs.Sound.{covered_joined}
 use Rattle.reversibility.specs.ClassParts.{ClassParts, IsClasses, in_row}
 use Rattle.reversibility.proofs.Standing.{mode_count}
+use Rattle.policy_tables.specs.declared.table.TheConstants.{MAX_CELLS}
 use Rattle.policy_tables.specs.Filling.{IsRightCell, MayStand, AreRightTo, AreRightRows, AreRightCells, AreFilledTo}
 
 -- ---- cubes in order
@@ -93,3 +96,11 @@ filled_all p rows n all h =
       policy = λ c from to has_from has_to stands. (right c from to has_from has_to).policy stands;
       outside = λ c from to has_from has_to none. (right c from to has_from has_to).outside none;
     }
+
+-- there is room for the cell of two modes
+pub room_for : (m : PlantModel) → WellFormed m → (c from to modes : ℕ) → HasMode m c from → to < modes → modes ≡ slice_index (mode_counts m) c → from * slice_index (mode_counts m) c + to < MAX_CELLS
+room_for m w c from to modes has_from below counted =
+    let few : slice_index (mode_counts m) c ≤ MAX_CHOICES = few_modes m w c (mode_within m c from has_from) in
+    let count : ℕ = slice_index (mode_counts m) c in
+    let here : from * count + to < count * count = mul-add-lt from count to count has_from (subst (λ n. to < n) counted below) in
+    omega (arith, here, mul-le count count MAX_CHOICES MAX_CHOICES few few)

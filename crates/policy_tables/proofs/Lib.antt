@@ -1,6 +1,10 @@
-pub mod Places
+pub mod CellKinds
 pub mod Approach
+pub mod Halving
 pub mod FirstCube
+pub mod ShortCubes
 pub mod Leavers
 pub mod Filled
+pub mod Agreement
+pub mod Kept
 pub mod Choices

@@ -1,5 +1,5 @@
 -- How far it is from mode to mode, and which moves come nearer.
-use Rattle.std.specs.Prelude.{◌≡◌, ◌<◌, ℕ, true, List, length, slice_get, slice_index, Some}
+use Rattle.std.specs.Prelude.{◌≡◌, ◌<◌, ◌≤◌, ℕ, true, List, length, slice_get, slice_index, Some}
 use Rattle.cca_base.specs.declared.model.Move.{Move}
 use Rattle.cca_base.specs.PlantModel.{PlantModel}
 use Rattle.reach_laws.specs.Classes.{Test, IsOpen}
@@ -15,6 +15,18 @@ pub record IsFirstLevel (levels : List (List ℕ)) (from to k : ℕ) : Type 0 wh
 -- no level has it
 abbrev pub IsNoLevel : List (List ℕ) → ℕ → ℕ → Type 0
 IsNoLevel levels from to = (k : ℕ) (level : List ℕ) → slice_get levels k ≡ Some level → in_row level from to ≡ true → ⊥
+
+-- where a level leads from the one mode to the other, all later levels do
+abbrev pub AreRising : List (List ℕ) → ℕ → ℕ → Type 0
+AreRising levels from to = (j k : ℕ) (level later : List ℕ) → j ≤ k → slice_get levels j ≡ Some level → slice_get levels k ≡ Some later
+    → in_row level from to ≡ true → in_row later from to ≡ true
+
+-- no level before the one place leads there, and the level at the other does, if there is one
+pub record IsBetween (levels : List (List ℕ)) (from to low high : ℕ) : Type 0 where
+  pub order : low ≤ high
+  pub within : high ≤ length levels
+  pub before : (j : ℕ) (other : List ℕ) → j < low → slice_get levels j ≡ Some other → in_row other from to ≡ true → ⊥
+  pub after : (level : List ℕ) → slice_get levels high ≡ Some level → in_row level from to ≡ true
 
 -- from the target of the move at the place the level leads to the mode
 abbrev pub NearAt : PlantModel → List ℕ → List ℕ → ℕ → ℕ → Type 0

@@ -31,8 +31,11 @@ fn effects_first(alloc: Global, compiled: &Compiled, cube: &Cube) -> Result<Cube
     requires { All (λ p. p.item < length compiled.now.model.components) cube.now }
     ensures { IfOk result (IsSorted compiled.now.order cube.now) }
 {
-    let pairs = List::of(Vec::from_slice(alloc, cube.as_slice())?);
     let _order = compiled.order();
+    if cube.len() < 2 {
+        return cube.copy(alloc);
+    }
+    let pairs = List::of(Vec::from_slice(alloc, cube.as_slice())?);
     let goal = sort_goal(alloc, compiled, &pairs)?;
     let mut sorted = Cube::new(alloc);
     for pair in goal.pairs.as_slice() {

@@ -10,7 +10,7 @@ ghost use Rattle.reversibility.specs.Paths.{ArePaths};
 
 use crate::leaving::{Leaving, leaving_of};
 use crate::near::{distance, first_near};
-use cca_base::List;
+use crate::table::Table;
 use reach_laws::Cell;
 use reversibility::{Classes, Paths, paths_of};
 use std::alloc::{AllocError, Global};
@@ -62,7 +62,7 @@ fn fill_row(
     classes: &Classes,
     paths: &Paths,
     leaving: &Leaving,
-    cells: &mut List<Cell>,
+    cells: &mut Table,
 ) -> Result<(), AllocError>
     requires within { leaving.now.component < length classes.now.compiled.model.components }
     requires from { HasMode classes.now.compiled.model leaving.now.component leaving.now.mode }
@@ -86,9 +86,10 @@ fn skip_row(
     classes: &Classes,
     component: u16,
     from: u8,
-    cells: &mut List<Cell>,
+    cells: &mut Table,
 ) -> Result<(), AllocError>
     requires within { component < length classes.now.compiled.model.components }
+    requires from { HasMode classes.now.compiled.model component from }
     requires stands { MayStand classes.now component from → ⊥ }
     requires rows { AreRightRows classes.now component from cells.old }
     ensures { OnOk result (AreRightRows classes.now component (from + 1) cells.new) }
@@ -105,7 +106,7 @@ pub(crate) fn cells_of(
     alloc: Global,
     classes: &Classes,
     component: u16,
-) -> Result<List<Cell>, AllocError>
+) -> Result<Table, AllocError>
     requires { component < length classes.now.compiled.model.components }
     ensures { IfOk result (AreRightCells classes.now component) }
 {
@@ -117,7 +118,7 @@ pub(crate) fn cells_of(
         .get(component as usize)
         .modes
         .len();
-    let mut cells = List::new(alloc);
+    let mut cells = Table::new(alloc)?;
     for from in 0..modes {
         if classes.stands(component, from as u8) {
             let leaving = leaving_of(alloc, classes, &paths, component, from as u8)?;

@@ -3,8 +3,10 @@
 
 mod cubes;
 mod filling;
+mod keeping;
 mod leaving;
 mod near;
+mod table;
 mod tables;
 
 pub use reach_laws::Cell;

@@ -1,21 +1,30 @@
 //! The way to a mode by breadth-first levels: how far it is, and the first move that comes one nearer.
 
 ghost use Rattle.std.specs.Prelude.{◌≡◌, ◌<◌, ℕ, List, MatchOption, length, slice_get, Some};
-ghost use Rattle.policy_tables.specs.Distances.{IsFirstLevel, IsNoLevel, NearAt, IsFirstPlace};
+ghost use Rattle.policy_tables.specs.Distances.{AreRising, IsFirstLevel, IsNoLevel, NearAt, IsFirstPlace};
 ghost use Rattle.reversibility.specs.Levels.{AreMovesWithin};
 
 use cca_base::{List, Model, ValueSet};
 
-/// The first level at which the one mode leads to the other.
+/// The first level at which the one mode leads to the other, found by halving.
 pub(crate) fn distance(levels: &List<List<ValueSet>>, from: u8, to: u8) -> Option<usize>
-    requires { (k : ℕ) (level : List ℕ) → slice_get levels.now k ≡ Some level →
+    requires within { (k : ℕ) (level : List ℕ) → slice_get levels.now k ≡ Some level →
         from < length level }
+    requires rising { AreRising levels.now from to }
     ensures { MatchOption result (IsNoLevel levels.now from to) (IsFirstLevel levels.now from to) }
 {
-    for left in 0..levels.len() {
-        if levels.get(left).get(from as usize).has(to) {
-            return Some(left);
+    let mut low = 0;
+    let mut high = levels.len();
+    'halving: while low < high {
+        let middle = low + (high - low) / 2;
+        if levels.get(middle).get(from as usize).has(to) {
+            high = middle;
+        } else {
+            low = middle + 1;
         }
+    }
+    if low < levels.len() {
+        return Some(low);
     }
     None
 }

@@ -14,6 +14,7 @@ use Rattle.policy_tables.specs.Distances.{NearAt, IsFirstLevel, IsFirstPlace, Is
 use Rattle.policy_tables.specs.Leaving.{IsCubeOf, AreLeaving}
 use Rattle.policy_tables.proofs.Approach.{no_level, level_shortest, apart_some, some_leads}
 use Rattle.policy_tables.proofs.Filled.{joined_here}
+use Rattle.policy_tables.proofs.Halving.{levels_rise}
 use Rattle.policy_tables.proofs.Leavers.{leaving_within, near_place, first_near, step_is}
 use Rattle.policy_tables.proofs.filling.cell.Goals as goal
 
@@ -138,3 +139,8 @@ returns c =
           (step_is p.compiled w member d from c.args.to (c.in-Some.left - 1) near_by.1 level is number
           (subst (IsFirstNear m member level d from c.args.to) number_is near) c.get-2.result.now move_at c.in_ok-copy.field-0 cube),
     )
+
+pub distance-requires-clause-rising : goal.distance-requires-clause-rising
+distance-requires-clause-rising c =
+    let p : ClassParts = c.args.classes.now in
+    levels_rise p.compiled.model (in_row p.rows) c.args.leaving.now.component c.args.paths.now.levels c.requires.paths.levels c.args.leaving.now.mode c.args.to c.requires.from

@@ -1,6 +1,9 @@
-use Rattle.std.proofs.Common.{◌≡◌, ◌<◌, ℕ, true, List, slice_get, Some}
-use Rattle.reversibility.specs.ClassParts.{in_row}
+use Rattle.std.proofs.Common.{◌-◌}
+use Rattle.policy_tables.specs.Distances.{IsBetween}
 use Rattle.policy_tables.proofs.near.distance.Given as goal
 
-abbrev pub invariant-loop-left : goal.invariant-loop-left
-invariant-loop-left l = (j : ℕ) (other : List ℕ) → j < l.left → slice_get l.levels j ≡ Some other → in_row other l.from l.to ≡ true → ⊥
+abbrev pub invariant-halving : goal.invariant-halving
+invariant-halving l = IsBetween l.levels l.from l.to l.low l.high
+
+abbrev pub decreases-halving : goal.decreases-halving
+decreases-halving l = l.high - l.low
