@@ -2,7 +2,7 @@
 use Rattle.std.proofs.Common.{◌≡◌, ◌⊎◌, inl, inr, ℕ, zero, suc, ◌+◌, ◌-◌, ◌*◌, ◌<◌, ◌≤◌, List, [], ◌∷◌, length, map, take, drop, get_or, set, All, Contains, refl, sym, ap, subst, ◌∙◌, add-zero, arith}
 use native.Mathlib.Nat.{mul-add, zero-mul, one-mul, suc-mul}
 use Rattle.std.specs.List.{AllZip, sum_by, slice_range}
-use Rattle.std.proofs.lemmas.List.{get_or_default, get_or-map, drop-take, drop-drop, take-take, get_or-take, get_or-drop, map-set, length-take, length-drop, length-map}
+use Rattle.std.proofs.lemmas.List.{get_or_default, get_or-map, drop-take, drop-drop, take-take, get_or-take, get_or-drop, map-set, length-take, length-take-le, length-drop, length-map}
 use Rattle.std.proofs.lemmas.List.Sums.{sum_by-le, sum_by-set}
 use Rattle.std.proofs.lemmas.List.Elements.{All-nil, All-cons, All-head, All-tail}
 use Rattle.std.proofs.lemmas.Slice.Zip.{AllZip-long}
@@ -97,7 +97,7 @@ picks-split (row ∷ b) (y ∷ picks) (suc i) h k = elim (picks-split b picks i 
 pub span-is : (rows : List (List Choice)) (spans : List Span) (i : ℕ) (s : Span) → AllZip IsSpan rows spans → i < length rows → s ≡ get_or spans i s → IsSpan (get_or rows i []) s
 span-is rows spans i s h k e = subst (IsSpan (get_or rows i [])) (sym e) (span-at rows spans i s h k)
 
-row-is : (rows : List (List Choice)) (spans : List Span) (i : ℕ) (s : Span) → AllZip IsSpan rows spans → i < length rows → s ≡ get_or spans i s
+pub row-is : (rows : List (List Choice)) (spans : List Span) (i : ℕ) (s : Span) → AllZip IsSpan rows spans → i < length rows → s ≡ get_or spans i s
     → row_at (box rows spans) i ≡ slice_range (get_or rows i []) s.from s.to
 row-is rows spans i s h k e = box-at rows spans i s (spans-long rows spans h) k ∙ ap (λ (x : Span). slice_range (get_or rows i []) x.from x.to) (sym e)
 
@@ -192,6 +192,13 @@ onward-parts rows cost modes spans i s x y p k e more is_x is_y =
       },
       omega arith,
     )
+
+-- how many choices a component has
+pub row_long : (rows : List (List Choice)) (spans : List Span) (i : ℕ) (s : Span) → AllZip IsSpan rows spans → i < length rows → s ≡ get_or spans i s
+    → length (row_at (box rows spans) i) ≡ s.to - s.from
+row_long rows spans i s h k e =
+    let within = (span-is rows spans i s h k e).within in
+    ap length (row-is rows spans i s h k e) ∙ length-take-le (s.to - s.from) (drop s.from (get_or rows i [])) (omega (arith, length-drop s.from (get_or rows i [])))
 
 -- a component that has one choice alone
 pub one_choice : (rows : List (List Choice)) (spans : List Span) (i : ℕ) (s : Span) → AllZip IsSpan rows spans → i < length rows → s ≡ get_or spans i s → s.from + 1 ≡ s.to

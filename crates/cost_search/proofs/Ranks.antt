@@ -22,23 +22,23 @@ use Rattle.cost_search.specs.SearchParts.{box, heads, head_of, nothing, IsSpan}
 use Rattle.cost_search.specs.Queue.{modes_of, cost_of}
 use Rattle.cost_search.proofs.Boxes.{head_of-range}
 
-nat_less : (x y : ℕ) → nat_cmp x y ≡ Less → x < y
+pub nat_less : (x y : ℕ) → nat_cmp x y ≡ Less → x < y
 nat_less x y e = grind (arith, nat_tests)
 
-less_nat : (x y : ℕ) → x < y → nat_cmp x y ≡ Less
+pub less_nat : (x y : ℕ) → x < y → nat_cmp x y ≡ Less
 less_nat x y h = grind (arith, nat_tests)
 
 -- ---- two orders, the one after the other
 
-then_cases : (a b : Ordering) → ordering_then a b ≡ Less → (a ≡ Less) ⊎ ((a ≡ Equal) × (b ≡ Less))
+pub then_cases : (a b : Ordering) → ordering_then a b ≡ Less → (a ≡ Less) ⊎ ((a ≡ Equal) × (b ≡ Less))
 then_cases Less b e = inl refl
 then_cases Equal b e = inr (refl, e)
 then_cases Greater b e = absurd (cc)
 
-then_first : (a b : Ordering) → a ≡ Less → ordering_then a b ≡ Less
+pub then_first : (a b : Ordering) → a ≡ Less → ordering_then a b ≡ Less
 then_first a b e = ap (λ o. ordering_then o b) e
 
-then_second : (a b : Ordering) → a ≡ Equal → b ≡ Less → ordering_then a b ≡ Less
+pub then_second : (a b : Ordering) → a ≡ Equal → b ≡ Less → ordering_then a b ≡ Less
 then_second a b e f = ap (λ o. ordering_then o b) e ∙ f
 
 same_list : (xs ys : List ℕ) → slice_cmp nat_cmp xs ys ≡ Equal → xs ≡ ys
@@ -52,10 +52,10 @@ same_list (x ∷ xs) (y ∷ ys) e =
 
 -- ---- costs and modes together
 
-before_by_cost : (a b : ℕ) (s t : List ℕ) → a < b → IsBefore a s b t
+pub before_by_cost : (a b : ℕ) (s t : List ℕ) → a < b → IsBefore a s b t
 before_by_cost a b s t h = then_first (nat_cmp a b) (slice_cmp nat_cmp s t) (less_nat a b h)
 
-before_by_modes : (a b : ℕ) (s t : List ℕ) → a ≡ b → IsEarlier s t → IsBefore a s b t
+pub before_by_modes : (a b : ℕ) (s t : List ℕ) → a ≡ b → IsEarlier s t → IsBefore a s b t
 before_by_modes a b s t e h = then_second (nat_cmp a b) (slice_cmp nat_cmp s t) (nat_cmp-same a b e) h
 
 before_cases : (a b : ℕ) (s t : List ℕ) → IsBefore a s b t → (a < b) ⊎ ((a ≡ b) × IsEarlier s t)

@@ -14,6 +14,7 @@ use Rattle.cca_base.proofs.Members.{contains_none}
 use Rattle.cca_base.specs.declared.choice.Choice.{Choice}
 use Rattle.cost_search.specs.declared.part.Span.{Span}
 use Rattle.cost_search.specs.SearchParts.{nothing, box, head_of, heads, IsSpan, AreSpans}
+use Rattle.cost_search.proofs.Spending.{zip_push}
 
 -- the first choices of a row have as many modes, so if each is below a number there are no more
 pub few_choices : (most : ℕ) (row : List Choice) (i : ℕ) → AllPairs (λ x y. x.mode ≢ y.mode) row → All (λ x. x.mode < most) (take i row) → i ≤ length row → i ≤ most
@@ -33,12 +34,6 @@ pub record AreWhole (rows : List (List Choice)) (cost : ℕ) (modes : List ℕ) 
   pub fits : AreSpans rows cost modes spans
   pub whole : box rows spans ≡ rows
 
-spans-push : (rows : List (List Choice)) (spans : List Span) (row : List Choice) (s : Span) → AllZip IsSpan rows spans → IsSpan row s → AllZip IsSpan (rows ++ row ∷ []) (spans ++ s ∷ [])
-spans-push [] [] row s h k = (k, tt)
-spans-push [] (x ∷ spans) row s h k = absurd h
-spans-push (r ∷ rows) [] row s h k = absurd h
-spans-push (r ∷ rows) (x ∷ spans) row s h k = (h.0, spans-push rows spans row s h.1 k)
-
 box-push : (rows : List (List Choice)) (spans : List Span) (row : List Choice) (s : Span) → AllZip IsSpan rows spans
     → box (rows ++ row ∷ []) (spans ++ s ∷ []) ≡ box rows spans ++ slice_range row s.from s.to ∷ []
 box-push [] [] row s h = refl
@@ -56,7 +51,7 @@ whole_more rows cost modes spans row x s w some first from to =
     ap heads boxed ∙ map_push head_of (box rows spans) row ∙ ap (λ (z : Choice). heads (box rows spans) ++ z ∷ []) head in
     record {
       fits = record {
-        each = spans-push rows spans row s w.fits.each (record { some = omega arith; within = omega arith });
+        each = zip_push IsSpan rows spans row s w.fits.each (record { some = omega arith; within = omega arith });
         starts = ap (λ (m : List ℕ). m ++ x.mode ∷ []) w.fits.starts ∙ sym (map_push (λ (z : Choice). z.mode) (heads (box rows spans)) x) ∙ ap (map (λ (z : Choice). z.mode)) (sym all_heads);
         costs = ap (λ n. n + x.cost) w.fits.costs ∙ sym (sum_by_push (λ (z : Choice). z.cost) (heads (box rows spans)) x) ∙ ap (sum_by (λ (z : Choice). z.cost)) (sym all_heads);
       };

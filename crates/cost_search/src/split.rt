@@ -11,7 +11,7 @@ use std::alloc::{AllocError, Global};
 use std::collections::BinaryHeap;
 
 /// The span of the component.
-fn span_of(rows: &[List<Choice>], part: &Part, at: usize) -> Span
+pub fn span_of(rows: &[List<Choice>], part: &Part, at: usize) -> Span
     requires part { IsPart rows.now part.now }
     requires at { at < length rows.now }
     ensures item { result ≡ slice_index_or part.now.spans at result }
@@ -21,7 +21,7 @@ fn span_of(rows: &[List<Choice>], part: &Part, at: usize) -> Span
 }
 
 /// The states of the part in which the component does not have its first choice, if there are some.
-fn onward(
+pub fn onward(
     alloc: Global,
     rows: &[List<Choice>],
     part: &Part,
@@ -59,7 +59,7 @@ fn onward(
 }
 
 /// Leaves the component its first choice alone.
-fn narrow(rows: &[List<Choice>], part: &mut Part, at: usize)
+pub fn narrow(rows: &[List<Choice>], part: &mut Part, at: usize)
     requires part { IsPart rows.now part.old }
     requires at { at < length rows.now }
     ensures part { IsPart rows.now part.new }

@@ -34,7 +34,7 @@ fn count_of(row: &[Choice]) -> u16
 }
 
 /// The part of all states. None comes exactly where some row has no choice.
-fn whole(alloc: Global, rows: &[List<Choice>]) -> Result<Option<Part>, AllocError>
+pub fn whole_part(alloc: Global, rows: &[List<Choice>]) -> Result<Option<Part>, AllocError>
     requires { AreRows rows.now }
     ensures part { IfOk result (λ o. IfSome o (IsPart rows.now)) }
     ensures all { IfOk result (λ o. IfSome o (λ p. box_of rows.now p ≡ rows.now)) }
@@ -66,7 +66,7 @@ pub fn all_states(alloc: Global, rows: &[List<Choice>]) -> Result<BinaryHeap<Par
         IsIn rows.now (heap_items h) picks) }
 {
     let mut parts = BinaryHeap::new(alloc);
-    let Some(part) = whole(alloc, rows)? else {
+    let Some(part) = whole_part(alloc, rows)? else {
         return Ok(parts);
     };
     parts.push(part)?;

@@ -9,7 +9,7 @@ use Rattle.cca_base.specs.PlantModel.{PlantModel}
 use Rattle.cca_base.specs.Model.{HasMode, CommandsFit}
 use Rattle.cca_base.specs.State.{IsState}
 use Rattle.cca_base.specs.Successors.{ChangeCosts, Costs}
-use Rattle.cca_base.specs.Estimates.{Consistent, Estimate, IsEarlier}
+use Rattle.cca_base.specs.Estimates.{Consistent, Estimate}
 use Rattle.cca_base.specs.Estimates as estimates
 use Rattle.cca_base.specs.declared.choice.Choice.{Choice}
 use Rattle.cca_base.proofs.NominalLaws.{one_nominal}

@@ -1,5 +1,5 @@
 //! The estimate of a tick. The nominal state is the only one that costs nothing, so it is asked for first; where it doesn't
-//! explain what is seen, the search begins with its conflict cut.
+//! explain what is seen, its conflict is the first cut.
 
 ghost use Rattle.std.specs.Prelude.{IfOk, All};
 ghost use Rattle.cca_base.specs.State.{HasValue, IsState};
@@ -9,9 +9,8 @@ ghost use Rattle.mode_estimator.specs.Estimated.{IsEstimate};
 
 use crate::answer::Estimate;
 use crate::first::first_shown;
-use cca_base::{Compiled, Seen, State};
+use cca_base::{Compiled, List, Seen, State};
 use consistency::Worlds;
-use cost_search::Search;
 use std::alloc::{AllocError, Global};
 use successors::{choices, obey};
 
@@ -49,16 +48,16 @@ pub fn estimate_by(
 {
     let model = compiled.model();
     let nominal = nominal_state(alloc, compiled, state, command)?;
-    let Some(conflict) = worlds.conflict(alloc, model, &nominal, seen)? else {
+    let Some(conflict) = worlds.minimal_clash(alloc, model, &nominal, seen)? else {
         return Ok(Estimate::Found {
             state: nominal,
             cost: 0,
         });
     };
     let rows = choices(alloc, compiled, state, command)?;
-    let mut states = Search::of(alloc, rows)?;
-    states.cut(conflict)?;
-    first_shown(alloc, model, worlds, states, seen)
+    let mut cuts = List::new(alloc);
+    cuts.push(conflict)?;
+    first_shown(alloc, model, worlds, rows, cuts, seen)
 }
 
 /// The same for one tick alone.

@@ -3,8 +3,11 @@
 #![tactic(auto)]
 
 mod answer;
+mod find;
 mod first;
 mod least;
+mod lower;
+mod turn;
 
 pub use answer::Estimate;
 pub use least::{estimate, estimate_by};

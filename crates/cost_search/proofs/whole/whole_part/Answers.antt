@@ -5,7 +5,7 @@ use Rattle.cca_base.specs.declared.choice.Choice.{Choice}
 use Rattle.cost_search.specs.declared.part.Span.{Span}
 use Rattle.cca_base.specs.Choices.{IsRow}
 use Rattle.cost_search.proofs.Wholes.{whole_more, no_choice}
-use Rattle.cost_search.proofs.whole.whole.Goals as goal
+use Rattle.cost_search.proofs.whole.whole_part.Goals as goal
 
 pub count_of-to-requires : goal.count_of-to-requires
 count_of-to-requires c = subst IsRow (sym (c.as_slice.ensures ∙ c.row-item.is)) (c.requires.each c.loop-row.row-index c.row-item.result c.loop-row-test.true)

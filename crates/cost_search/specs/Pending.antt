@@ -1,0 +1,25 @@
+-- The parts that a search has still to settle, as a stack.
+use Rattle.std.specs.Prelude.{◌⊎◌, ℕ, ◌*◌, ◌-◌, ◌<◌, ◌≤◌, List, [], ◌∷◌, ◌++◌, All, Contains}
+use Rattle.std.specs.List.{AllZip, sum_by}
+use Rattle.cca_base.specs.declared.choice.Choice.{Choice}
+use Rattle.cost_search.specs.declared.part.Part.{Part}
+use Rattle.cost_search.specs.SearchParts.{IsIn, IsPart, box_of, size}
+use Rattle.cost_search.specs.Queue.{cost_of}
+
+-- each wanted state of the rows costs the limit at least
+abbrev pub IsSettled : (List Choice → Type 0) → List (List Choice) → ℕ → Type 0
+IsSettled Want rows limit = (picks : List Choice) → AllZip Contains rows picks → Want picks → limit ≤ cost_of picks
+
+-- each wanted state that costs less than the limit is in a part
+abbrev pub IsPending : (List Choice → Type 0) → List (List Choice) → ℕ → List Part → Type 0
+IsPending Want rows limit parts = (picks : List Choice) → AllZip Contains rows picks → Want picks → cost_of picks < limit → IsIn rows parts picks
+
+-- what falls at each turn: a part counts as the pieces and splits into which it can fall
+abbrev pub weights : List (List Choice) → List Part → ℕ
+weights rows parts = sum_by (λ p. 2 * size (box_of rows p) - 1) parts
+
+-- the halves of a part stand on the others: no state is lost, and the weights fall
+pub record IsHalved (rows : List (List Choice)) (part : Part) (old new : List Part) : Type 0 where
+  pub each : All (IsPart rows) new
+  pub covers : (picks : List Choice) → AllZip Contains (box_of rows part) picks ⊎ IsIn rows old picks → IsIn rows new picks
+  pub fewer : weights rows new < weights rows (old ++ part ∷ [])

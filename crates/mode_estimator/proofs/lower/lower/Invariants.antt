@@ -1,0 +1,11 @@
+use Rattle.cost_search.specs.Lowered.{IsLowered}
+use Rattle.mode_estimator.specs.First.{AreClashes}
+use Rattle.mode_estimator.proofs.KeptStates.{Costing, IsFixed}
+use Rattle.mode_estimator.proofs.lower.lower.Given as goal
+
+abbrev pub invariant-loop-c : goal.invariant-loop-c
+invariant-loop-c l = record {
+  fixed : IsFixed l.fn.rows l.c l.state.modes l.rows;
+  lowered : IsLowered (Costing l.model l.fn.rows l.seen.pairs l.cost) l.c l.state.modes;
+  cuts : AreClashes l.model l.seen.pairs l.cuts;
+}
