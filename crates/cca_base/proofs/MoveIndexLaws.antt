@@ -13,7 +13,7 @@ use Rattle.cca_base.specs.declared.model.Component.{Component}
 use Rattle.cca_base.specs.declared.model.Move.{Move}
 use Rattle.cca_base.specs.PlantModel.{PlantModel}
 use Rattle.cca_base.specs.Model.{WellFormed, IsMove, with_move, mode_counts, HasMode, is_broken, is_repair_of, is_used, IsNext}
-use Rattle.cca_base.specs.MoveIndex.{HasKey, HasCommand, Names, AreRowsBy, IsNextOrNone, AreNexts, IsIndex, SameRows, HasComponentMore, HasCommandMore, HasMoveMore, with_next_at}
+use Rattle.cca_base.specs.MoveIndex.{HasKey, IsMoveBy, IsMoveNamed, AreRowsBy, IsNextOrNone, AreNexts, IsIndex, SameRows, HasComponentMore, HasCommandMore, HasMoveMore, with_next_at}
 use Rattle.cca_base.specs.Relations.{AreExactly}
 use Rattle.cca_base.proofs.Growth.{slice_get_front, slice_get_cases, slice_get_last}
 use Rattle.cca_base.proofs.Within.{mode_within}
@@ -149,6 +149,10 @@ module _ {X : Type 0} where
   last_taken xs x =
       let shorter : length (xs ++ x ∷ []) - 1 ≡ length xs = omega (arith, length_push xs x) in
       ap (λ n. take n (xs ++ x ∷ [])) shorter ∙ take-append_seam xs (x ∷ [])
+
+  -- what was pushed and taken back again
+  pub popped : (xs : List X) (x : X) (more less : List X) → less ≡ take (length more - 1) more → more ≡ xs ++ x ∷ [] → less ≡ xs
+  popped xs x more less took pushed = took ∙ ap (λ (ys : List X). take (length ys - 1) ys) pushed ∙ last_taken xs x
 
   -- the rows without the last number of one, which was put there
   pub taken_again : (rows : List (List X)) (k : ℕ) (x : X) → k < length rows → let more : List (List X) = set rows k (get_or rows k [] ++ x ∷ []) in
@@ -286,6 +290,14 @@ module _ (cs : List Component) (ks : List (List ℕ)) (moves : List Move) (x y :
         | inr plain ↦ subst (AreNexts (moves ++ move ∷ [])) (sym (cond-false move.repair grown x.next.items plain)) (nexts_stay moves move x.next.items plain h.next)
       ]
 
+-- a model that is as it was has an index with the same rows
+pub same_model : (m n : PlantModel) (x y : MoveIndex) → n ≡ m → SameRows x y → WellFormed m × IsIndex m.components m.commands m.moves x
+    → WellFormed n × IsIndex n.components n.commands n.moves y
+same_model m n x y same rows (well, index) = (
+  subst WellFormed (sym same) well,
+  subst (λ (o : PlantModel). IsIndex o.components o.commands o.moves y) (sym same) (rows_same m.components m.commands m.moves x y index rows),
+)
+
 -- ---- a move of the model has its rows
 
 pub record HasRows (x : MoveIndex) (move : Move) : Type 0 where
@@ -328,15 +340,15 @@ used_within m well command used =
     omega (arith, move.command, eqb-true found.1.command command found.4)
 
 -- its row begins with one of its moves
-pub first_in_row : (moves : List Move) (command : ℕ) (row : List ℕ) → is_used moves command ≡ true → AreExactly (HasCommand moves command) row
-    → (0 < length row) × HasCommand moves command (slice_index row 0)
+pub first_in_row : (moves : List Move) (command : ℕ) (row : List ℕ) → is_used moves command ≡ true → AreExactly (IsMoveBy moves command) row
+    → (0 < length row) × IsMoveBy moves command (slice_index row 0)
 first_in_row moves command row used h =
     let found = Any-from_list_any (λ move. move.command == command) moves used in
     let there : Contains row found.0 = (h.each found.0).1 (found.1, slice_get-get_or moves found.0 found.1 found.2 ∙ ap Some found.3, eqb-true found.1.command command found.4) in
     let some : 0 < length row = omega (arith, there.1) in
     (some, (h.each (slice_index row 0)).0 (Contains-get_or row 0 0 some))
 
-module _ (moves : List Move) (command : ℕ) (row : List ℕ) (h : AreExactly (HasCommand moves command) row) where
+module _ (moves : List Move) (command : ℕ) (row : List ℕ) (h : AreExactly (IsMoveBy moves command) row) where
   -- at each place of its row stands the number of a move
   pub in_row : (n : ℕ) → n < length row → slice_index row n < length moves
   in_row n within = let move = (h.each (slice_index row n)).0 (Contains-get_or row n 0 within) in slice_get_within moves (slice_index row n) move.0 move.1
@@ -348,7 +360,7 @@ module _ (moves : List Move) (command : ℕ) (row : List ℕ) (h : AreExactly (H
       ap (λ d. d.command) (same_Some x move.0 (sym is ∙ move.1)) ∙ move.2
 
   -- what no number of the row names is named by none
-  pub none_named : (s : List ℕ) → ((k : ℕ) → k < length row → Names moves s command (slice_index row k) → ⊥) → (i : ℕ) → Names moves s command i → ⊥
+  pub none_named : (s : List ℕ) → ((k : ℕ) → k < length row → IsMoveNamed moves s command (slice_index row k) → ⊥) → (i : ℕ) → IsMoveNamed moves s command i → ⊥
   none_named s none i names =
       let there = (h.each i).1 (names.0, names.1, names.2) in
-      none there.0 there.1 (subst (Names moves s command) (sym (get_or_from_slice_get row there.0 i 0 (slice_get-get_or row there.0 i there.1 ∙ ap Some there.2))) names)
+      none there.0 there.1 (subst (IsMoveNamed moves s command) (sym (get_or_from_slice_get row there.0 i 0 (slice_get-get_or row there.0 i there.1 ∙ ap Some there.2))) names)

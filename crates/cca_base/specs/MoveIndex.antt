@@ -15,12 +15,12 @@ abbrev pub IsMoveOf : List Move → ℕ → ℕ → Type 0
 IsMoveOf moves c i = HasKey (λ move. move.component) moves c i
 
 -- the move with this number has the command
-abbrev pub HasCommand : List Move → ℕ → ℕ → Type 0
-HasCommand moves command i = HasKey (λ move. move.command) moves command i
+abbrev pub IsMoveBy : List Move → ℕ → ℕ → Type 0
+IsMoveBy moves command i = HasKey (λ move. move.command) moves command i
 
 -- the command names the move with this number: its component stands in the state in the mode that the move leaves
-abbrev pub Names : List Move → List ℕ → ℕ → ℕ → Type 0
-Names moves s command i = (move : Move) × (slice_get moves i ≡ Some move) × (move.command ≡ command) × (slice_get s move.component ≡ Some move.source)
+abbrev pub IsMoveNamed : List Move → List ℕ → ℕ → ℕ → Type 0
+IsMoveNamed moves s command i = (move : Move) × (slice_get moves i ≡ Some move) × (move.command ≡ command) × (slice_get s move.component ≡ Some move.source)
 
 -- the row of each key has exactly the numbers of its moves, rising
 abbrev pub AreRowsBy : (Move → ℕ) → List Move → List (List ℕ) → Type 0

@@ -2,7 +2,7 @@
 
 ghost use Rattle.std.specs.Prelude.{◌≡◌, ◌↔◌, ℕ, [], ◌∷◌, ◌++◌, ◌-◌, ◌<◌, false, length, Contains, IfSome, IsNone, OnOk, OnErr, IsTrue};
 ghost use Rattle.cca_base.specs.Model.{WellFormed, IsVersion, IsNext, IsMended, IsInChain, is_broken, is_used, empty_model, in_second, with_component, with_variable, with_rule, with_command, without_last_command, with_move, with_failure};
-ghost use Rattle.cca_base.specs.MoveIndex.{IsMoveOf, HasCommand, Names};
+ghost use Rattle.cca_base.specs.MoveIndex.{IsMoveOf, IsMoveBy, IsMoveNamed};
 ghost use Rattle.cca_base.specs.Relations.{AreExactly};
 ghost use Rattle.cca_base.specs.Repairs.{Mending};
 ghost use Rattle.cca_base.specs.State.{IsState};
@@ -394,7 +394,7 @@ impl Model {
     /// The numbers of the command's moves, rising.
     pub fn moves_by(&self, command: u16) -> &[u16]
         requires { command < length self.now.commands }
-        ensures { AreExactly (HasCommand self.now.moves command) result.now }
+        ensures { AreExactly (IsMoveBy self.now.moves command) result.now }
     {
         self.index.moves_by(command as usize)
     }
@@ -402,8 +402,8 @@ impl Model {
     /// The number of the move that the command names in the state. None comes exactly where it names none.
     pub fn named(&self, state: &State, command: u16) -> Option<u16>
         requires { IsState self.now state.now.modes }
-        ensures some { IfSome result (Names self.now.moves state.now.modes command) }
-        ensures none { IsNone result → (i : ℕ) → Names self.now.moves state.now.modes command i → ⊥ }
+        ensures some { IfSome result (IsMoveNamed self.now.moves state.now.modes command) }
+        ensures none { IsNone result → (i : ℕ) → IsMoveNamed self.now.moves state.now.modes command i → ⊥ }
     {
         if command as usize >= self.commands().len() {
             return None;

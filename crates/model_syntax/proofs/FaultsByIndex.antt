@@ -8,7 +8,7 @@ use Rattle.std.proofs.lemmas.List.Folds.{list_any-from_Any, Any-from_list_any}
 use Rattle.cca_base.specs.declared.model.Move.{Move}
 use Rattle.cca_base.specs.PlantModel.{PlantModel}
 use Rattle.cca_base.specs.Model.{WellFormed, IsMove, IsNext, is_broken, is_repair_of}
-use Rattle.cca_base.specs.MoveIndex.{HasCommand}
+use Rattle.cca_base.specs.MoveIndex.{IsMoveBy}
 use Rattle.cca_base.specs.Relations.{AreExactly}
 use Rattle.cca_base.proofs.NextModes.{repair_parts}
 use Rattle.model_syntax.specs.Codes.{is_ambiguous, mends_elsewhere}
@@ -29,7 +29,7 @@ new_is_clear m well x new = none_passes (λ y. y.command == x.command && clashes
     let parts = and_parts (y.command == x.command) (clashes x y) h in
     omega (arith, new, (All-contains (IsMove m) m.moves y well.moves among).command, eqb-true y.command x.command parts.0))
 
-module _ (moves : List Move) (x : Move) (row : List ℕ) (h : AreExactly (HasCommand moves x.command) row) where
+module _ (moves : List Move) (x : Move) (row : List ℕ) (h : AreExactly (IsMoveBy moves x.command) row) where
   -- a move of the command's row that clashes
   pub one_clashes : (n : ℕ) (y : Move) → n < length row → slice_get moves (slice_index row n) ≡ Some y → clashes x y ≡ true → is_ambiguous moves x ≡ true
   one_clashes n y within at clash =

@@ -7,7 +7,7 @@ use Rattle.cca_base.specs.declared.model.Move.{Move}
 use Rattle.cca_base.specs.Accepted.{CompiledModel, IsCompiled}
 use Rattle.cca_base.specs.State.{IsState, Holds}
 use Rattle.cca_base.specs.PlantModel.{PlantModel}
-use Rattle.cca_base.specs.MoveIndex.{Names}
+use Rattle.cca_base.specs.MoveIndex.{IsMoveNamed}
 use Rattle.cca_base.specs.Successors.{IsCommanded}
 use Rattle.cca_base.proofs.Commands.{one_named}
 use Rattle.successors.specs.Nominal.{SomeStands, NoneSent}
@@ -24,7 +24,7 @@ stands_holds b h s state at move cubes of_model of_ways source =
 pub among_at : (moves : List Move) (at : ℕ) (move : Move) → slice_get moves at ≡ Some move → Contains moves move
 among_at moves at move e = (at, slice_get_within moves at move e, get_or_from_slice_get moves at move move e)
 
-module _ (b : CompiledModel) (h : IsCompiled b) (s : List ℕ) (state : IsState b.model s) (k i : ℕ) (names : Names b.model.moves s k i) where
+module _ (b : CompiledModel) (h : IsCompiled b) (s : List ℕ) (state : IsState b.model s) (k i : ℕ) (names : IsMoveNamed b.model.moves s k i) where
   -- the move that the command names is commanded where one of its cubes stands
   pub commanded_at : (cubes : List (List Pair)) → slice_get b.ways i ≡ Some cubes → SomeStands s cubes → IsCommanded b.model s (Some k) names.0
   commanded_at cubes of_ways stands = record {
@@ -42,7 +42,7 @@ module _ (b : CompiledModel) (h : IsCompiled b) (s : List ℕ) (state : IsState 
       none ((stands_holds b h s state i names.0 cubes names.1 of_ways names.3).1 (subst (λ (x : Move). Holds b.model s x.guard) same sent.guard))
 
 -- a command that names no move moves nothing
-pub unnamed : (m : PlantModel) (s : List ℕ) (k : ℕ) → ((i : ℕ) → Names m.moves s k i → ⊥) → NoneSent m s (Some k)
+pub unnamed : (m : PlantModel) (s : List ℕ) (k : ℕ) → ((i : ℕ) → IsMoveNamed m.moves s k i → ⊥) → NoneSent m s (Some k)
 unnamed m s k none move sent =
     let among = sent.of_model in
     none among.0 (move, slice_get-get_or m.moves among.0 move among.1 ∙ ap Some among.2, sym (same_Some k move.command sent.command), sent.source)

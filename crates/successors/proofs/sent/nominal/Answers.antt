@@ -6,7 +6,7 @@ use Rattle.cca_base.specs.declared.cube.Pair.{Pair}
 use Rattle.cca_base.specs.declared.model.Move.{Move}
 use Rattle.cca_base.specs.PlantModel.{PlantModel}
 use Rattle.cca_base.specs.Model.{IsMove, HasMode}
-use Rattle.cca_base.specs.MoveIndex.{Names}
+use Rattle.cca_base.specs.MoveIndex.{IsMoveNamed}
 use Rattle.cca_base.specs.Successors.{IsCommanded}
 use Rattle.successors.specs.Nominal.{NoneSent}
 use Rattle.successors.proofs.Sending.{among_at, commanded_at, none_commanded, unnamed}
@@ -18,7 +18,7 @@ returns-in_err-number-clause-none c e =
     let s = c.args.state.now.modes in
     let k = c.in_ok-command.field-0 in
     subst (NoneSent m s) (sym c.in_ok-command.was)
-    (unnamed m s k (subst (λ (x : PlantModel). (i : ℕ) → Names x.moves s k i → ⊥) c.model-model.ensures.value (c.in_err-number.ensures.none refl)))
+    (unnamed m s k (subst (λ (x : PlantModel). (i : ℕ) → IsMoveNamed x.moves s k i → ⊥) c.model-model.ensures.value (c.in_err-number.ensures.none refl)))
 
 pub get-ways-requires : goal.get-ways-requires
 get-ways-requires c =
@@ -27,7 +27,7 @@ get-ways-requires c =
     let s = c.args.state.now.modes in
     let k = c.in_ok-command.field-0 in
     let number = c.in_ok-number.number in
-    let names : Names m.moves s k number = subst (λ (x : PlantModel). Names x.moves s k number) c.model-model.ensures.value c.in_ok-number.ensures.some in
+    let names : IsMoveNamed m.moves s k number = subst (λ (x : PlantModel). IsMoveNamed x.moves s k number) c.model-model.ensures.value c.in_ok-number.ensures.some in
     omega (arith, slice_get_within m.moves number names.0 names.1, c.model-model.ensures.compiled.ways_full, ap length c.ways.ensures.value)
 
 pub returns-then-not-some_stands-clause-none : goal.returns-then-not-some_stands-clause-none
@@ -37,7 +37,7 @@ returns-then-not-some_stands-clause-none c e =
     let s = c.args.state.now.modes in
     let k = c.in_ok-command.field-0 in
     let number = c.in_ok-number.number in
-    let names : Names m.moves s k number = subst (λ (x : PlantModel). Names x.moves s k number) c.model-model.ensures.value c.in_ok-number.ensures.some in
+    let names : IsMoveNamed m.moves s k number = subst (λ (x : PlantModel). IsMoveNamed x.moves s k number) c.model-model.ensures.value c.in_ok-number.ensures.some in
     let of_ways : slice_get b.ways number ≡ Some c.get-ways.result.now = subst (λ (l : List (List (List Pair))). slice_get l number ≡ Some c.get-ways.result.now) c.ways.ensures.value c.get-ways.ensures.value in
     let stands = rw (c.as_slice.ensures, c.as_slice-2.ensures) at c.some_stands.ensures in
     subst (NoneSent m s) (sym c.in_ok-command.was)
@@ -50,7 +50,7 @@ get-step-requires c =
     let s = c.args.state.now.modes in
     let k = c.in_ok-command.field-0 in
     let number = c.in_ok-number.number in
-    let names : Names m.moves s k number = subst (λ (x : PlantModel). Names x.moves s k number) c.model-model.ensures.value c.in_ok-number.ensures.some in
+    let names : IsMoveNamed m.moves s k number = subst (λ (x : PlantModel). IsMoveNamed x.moves s k number) c.model-model.ensures.value c.in_ok-number.ensures.some in
     let same : c.moves.result.now ≡ m.moves = c.moves.ensures.value ∙ ap (λ (x : PlantModel). x.moves) c.model-model.ensures.value in
     omega (arith, slice_get_within m.moves number names.0 names.1, ap length same)
 
@@ -61,7 +61,7 @@ returns-clause-some c =
     let s = c.args.state.now.modes in
     let k = c.in_ok-command.field-0 in
     let number = c.in_ok-number.number in
-    let names : Names m.moves s k number = subst (λ (x : PlantModel). Names x.moves s k number) c.model-model.ensures.value c.in_ok-number.ensures.some in
+    let names : IsMoveNamed m.moves s k number = subst (λ (x : PlantModel). IsMoveNamed x.moves s k number) c.model-model.ensures.value c.in_ok-number.ensures.some in
     let same : c.moves.result.now ≡ m.moves = c.moves.ensures.value ∙ ap (λ (x : PlantModel). x.moves) c.model-model.ensures.value in
     let of_ways : slice_get b.ways number ≡ Some c.get-ways.result.now = subst (λ (l : List (List (List Pair))). slice_get l number ≡ Some c.get-ways.result.now) c.ways.ensures.value c.get-ways.ensures.value in
     let step : names.0 ≡ c.get-step.result.now = same_Some names.0 c.get-step.result.now (sym names.1 ∙ subst (λ (l : List Move). slice_get l number ≡ Some c.get-step.result.now) same c.get-step.ensures.value) in
@@ -80,7 +80,7 @@ returns-clause-mode c =
     let s = c.args.state.now.modes in
     let k = c.in_ok-command.field-0 in
     let number = c.in_ok-number.number in
-    let names : Names m.moves s k number = subst (λ (x : PlantModel). Names x.moves s k number) c.model-model.ensures.value c.in_ok-number.ensures.some in
+    let names : IsMoveNamed m.moves s k number = subst (λ (x : PlantModel). IsMoveNamed x.moves s k number) c.model-model.ensures.value c.in_ok-number.ensures.some in
     let same : c.moves.result.now ≡ m.moves = c.moves.ensures.value ∙ ap (λ (x : PlantModel). x.moves) c.model-model.ensures.value in
     let step : names.0 ≡ c.get-step.result.now = same_Some names.0 c.get-step.result.now (sym names.1 ∙ subst (λ (l : List Move). slice_get l number ≡ Some c.get-step.result.now) same c.get-step.ensures.value) in
     subst (λ (x : Move). HasMode m x.component x.target) step

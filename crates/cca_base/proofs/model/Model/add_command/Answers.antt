@@ -1,8 +1,8 @@
-use Rattle.std.proofs.Common.{List, ℕ, ◌≡◌, ◌-◌, length, take, sym, ap, subst, ◌∙◌}
+use Rattle.std.proofs.Common.{List, ℕ, sym, ap, subst}
 use Rattle.cca_base.specs.PlantModel.{PlantModel, plant_model}
 use Rattle.cca_base.specs.Model.{WellFormed, with_command}
 use Rattle.cca_base.specs.MoveIndex.{IsIndex}
-use Rattle.cca_base.proofs.MoveIndexLaws.{last_taken, rows_same, command_more}
+use Rattle.cca_base.proofs.MoveIndexLaws.{popped, same_model, command_more}
 use Rattle.cca_base.proofs.model.Model.add_command.Goals as goal
 
 pub invariant_of-self-in-Ok : goal.invariant_of-self-in-Ok
@@ -19,9 +19,5 @@ pub invariant_of-self-in-Err : goal.invariant_of-self-in-Err
 invariant_of-self-in-Err c =
     let inside = c.self.inside in
     let m : PlantModel = plant_model inside.version inside.components inside.variables inside.rules inside.commands inside.moves inside.failures in
-    let back : c.take_back.new.self ≡ m.commands =
-    c.take_back.ensures ∙ ap (λ (xs : List (List ℕ)). take (length xs - 1) xs) c.in_ok-push.ensures.ok ∙ last_taken m.commands c.args.x in (
-      subst (λ (xs : List (List ℕ)). WellFormed (record m { commands = xs })) (sym back) c.self.invariant.0,
-      subst (λ (xs : List (List ℕ)). IsIndex m.components xs m.moves c.add_command.new.self) (sym back)
-          (rows_same m.components m.commands m.moves inside.index c.add_command.new.self c.self.invariant.1 c.in-Err.ensures.err),
-    )
+    let back = popped m.commands c.args.x c.push.new.self c.take_back.new.self c.take_back.ensures c.in_ok-push.ensures.ok in
+    same_model m (record m { commands = c.take_back.new.self }) inside.index c.add_command.new.self (ap (λ xs. record m { commands = xs }) back) c.in-Err.ensures.err c.self.invariant
