@@ -7,46 +7,7 @@ use Rattle.std.proofs.lemmas.List.Quantifiers.{all_pairs_push}
 use Rattle.cca_base.specs.Relations.{AreExactly}
 use Rattle.reversibility.specs.Levels.{IsAmong}
 
--- those of the kind that come before n
-abbrev pub AreBefore : (ℕ → Type 0) → ℕ → List ℕ → Type 0
-AreBefore P n = AreExactly (λ i. (i < n) × P i)
-
 module _ (P : ℕ → Type 0) where
-  pub before_no : (n : ℕ) (xs : List ℕ) → AreBefore P n xs → (P n → ⊥) → AreBefore P (n + 1) xs
-  before_no n xs h other = record {
-    rising = h.rising;
-    each = λ i. (
-      (λ among. let is = (h.each i).0 among in (omega (arith, is.0), is.1)),
-      (λ is. elim (cases_order i n) [
-        | inl e ↦ absurd (other (subst P e is.1))
-        | inr (inl lt) ↦ (h.each i).1 (lt, is.1)
-        | inr (inr gt) ↦ absurd (omega (arith, gt, is.0))
-      ]),
-    );
-  }
-
-  pub before_yes : (n : ℕ) (xs : List ℕ) → AreBefore P n xs → P n → AreBefore P (n + 1) (xs ++ n ∷ [])
-  before_yes n xs h here = record {
-    rising = all_pairs_push (λ u v. u < v) xs n h.rising (λ k d within. ((h.each (get_or xs k d)).0 (k, within, get_or_default xs k (get_or xs k d) d within)).0);
-    each = λ i. (
-      (λ among. elim (Contains-push_cases xs n i among) [
-        | inl before ↦ let is = (h.each i).0 before in (omega (arith, is.0), is.1)
-        | inr e ↦ subst (λ k. (k < n + 1) × P k) e (omega arith, here)
-      ]),
-      (λ is. elim (cases_order i n) [
-        | inl e ↦ subst (Contains (xs ++ n ∷ [])) (sym e) (Contains-push xs n)
-        | inr (inl lt) ↦ Contains-append_left xs (n ∷ []) i ((h.each i).1 (lt, is.1))
-        | inr (inr gt) ↦ absurd (omega (arith, gt, is.0))
-      ]),
-    );
-  }
-
-  pub before_all : (n : ℕ) (xs : List ℕ) → ((i : ℕ) → P i → i < n) → AreBefore P n xs → AreExactly P xs
-  before_all n xs past h = record {
-    rising = h.rising;
-    each = λ i. ((λ among. ((h.each i).0 among).1), (λ is. (h.each i).1 (past i is, is)));
-  }
-
   module _ (xs : List ℕ) (h : AreExactly P xs) where
     pub exactly_here : (k : ℕ) → k < length xs → P (slice_index xs k)
     exactly_here k within = (h.each (slice_index xs k)).0 (k, within, get_or_default xs k (slice_index xs k) 0 within)
@@ -107,3 +68,10 @@ module _ (Q : ℕ → Type 0) (xs : List ℕ) (rising : AllPairs (λ u v. u < v)
       ]),
     );
   }
+
+-- where the first places have all of the kind, they are exactly those of the kind
+pub all_among : (Q : ℕ → Type 0) (xs : List ℕ) (k : ℕ) (ys : List ℕ) → AreExactly (λ i. IsAmong xs k i × Q i) ys → ((i : ℕ) → Q i → IsAmong xs k i) → AreExactly Q ys
+all_among Q xs k ys h all = record {
+  rising = h.rising;
+  each = λ i. ((λ there. ((h.each i).0 there).1), (λ is. (h.each i).1 (all i is, is)));
+}

@@ -2,12 +2,14 @@
 use Rattle.std.proofs.Common.{◌≡◌, ◌<◌, ℕ, List, length, slice_get, slice_index, get_or, Some, All, sym, ap, subst, ◌∙◌}
 use Rattle.std.proofs.lemmas.Option.{slice_get_within, slice_get-get_or, same_Some}
 use Rattle.std.proofs.lemmas.List.{get_or_default}
-use Rattle.std.proofs.lemmas.List.Elements.{All-contains}
+use Rattle.std.proofs.lemmas.List.Elements.{All-contains, Contains-get_or}
 use Rattle.cca_base.specs.declared.cube.Pair.{Pair}
 use Rattle.cca_base.specs.declared.model.Move.{Move}
 use Rattle.cca_base.specs.PlantModel.{PlantModel}
 use Rattle.cca_base.specs.Accepted.{CompiledModel, IsCompiled, AreWays}
 use Rattle.cca_base.specs.Implicants.{PrimeImplicant}
+use Rattle.cca_base.specs.MoveIndex.{IsMoveOf}
+use Rattle.cca_base.specs.Relations.{AreExactly}
 use Rattle.cca_base.specs.Model.{WellFormed, IsMove, HasMode, mode_counts}
 use Rattle.cca_base.proofs.Members.{all_from}
 use Rattle.cca_base.proofs.Within.{mode_within}
@@ -36,11 +38,25 @@ module _ (b : CompiledModel) (is : IsCompiled b) (member : Test) (i : ℕ) (move
       let has_mode : HasMode b.model p.item p.value = All-contains (λ q. HasMode b.model q.item q.value) cube p prime.modes inside in
       subst (λ k. p.item < k) (sym full) (mode_within b.model p.item p.value has_mode)))
 
-module _ (m : PlantModel) (w : WellFormed m) (member : Test) (c : ℕ) where
-  -- a number past the moves names none
-  pub number_within : (i : ℕ) → IsOpenNumber m member c i → i < length m.moves
-  number_within i is = slice_get_within m.moves i is.move is.move_at
+-- the numbers at the places of a row of the component's moves
+module _ (m : PlantModel) (c : ℕ) (row : List ℕ) (h : AreExactly (IsMoveOf m.moves c) row) (place : ℕ) (within : place < length row) where
+  named : IsMoveOf m.moves c (slice_index row place)
+  named = (h.each (slice_index row place)).0 (Contains-get_or row place 0 within)
 
+  pub number_in : slice_index row place < length m.moves
+  number_in = slice_get_within m.moves (slice_index row place) named.0 named.1
+
+  pub move_at : (move : Move) × (slice_get m.moves (slice_index row place) ≡ Some move)
+  move_at = (named.0, named.1)
+
+  pub move_of : (move : Move) → slice_get m.moves (slice_index row place) ≡ Some move → move.component ≡ c
+  move_of move at = ap (λ (z : Move). z.component) (same_Some move named.0 (sym at ∙ named.1)) ∙ named.2
+
+-- a move of the component stands at a place of the row
+pub place_of : (m : PlantModel) (c : ℕ) (row : List ℕ) → AreExactly (IsMoveOf m.moves c) row → (i : ℕ) (move : Move) → slice_get m.moves i ≡ Some move → move.component ≡ c → (place : ℕ) × (place < length row) × (slice_index row place ≡ i)
+place_of m c row h i move at own = exactly_place (IsMoveOf m.moves c) row h i (move, at, own)
+
+module _ (m : PlantModel) (w : WellFormed m) (member : Test) (c : ℕ) where
   -- the number names the move, and that is of the component and open
   pub number_yes : (i : ℕ) (move : Move) → slice_get m.moves i ≡ Some move → move.component ≡ c → IsOpen m member move → IsOpenNumber m member c i
   number_yes i move at own open_move = record { move = move; move_at = at; own = own; open_move = open_move }

@@ -27,10 +27,6 @@ pub record IsOpenNumber (m : PlantModel) (member : Test) (c i : ℕ) : Type 0 wh
 abbrev pub AreOpenMoves : PlantModel → Test → ℕ → List ℕ → Type 0
 AreOpenMoves m member c = AreExactly (IsOpenNumber m member c)
 
--- exactly those of them that come before a number
-abbrev pub AreOpenBefore : PlantModel → Test → ℕ → ℕ → List ℕ → Type 0
-AreOpenBefore m member c n = AreExactly (λ i. (i < n) × IsOpenNumber m member c i)
-
 -- the number stands at one of the first places
 abbrev pub IsAmong : List ℕ → ℕ → ℕ → Type 0
 IsAmong xs n i = (place : ℕ) × (place < n) × (slice_index xs place ≡ i)

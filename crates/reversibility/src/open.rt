@@ -37,15 +37,15 @@ fn is_open(cubes: &[Cube], rows: &[ValueSet]) -> bool
 
 /// Whether an open move of the component leaves the mode.
 fn leaves(compiled: &Compiled, rows: &[ValueSet], component: u16, mode: u8) -> bool
-    requires { length rows.now ≡ length compiled.now.model.components }
+    requires component { component < length compiled.now.model.components }
+    requires full { length rows.now ≡ length compiled.now.model.components }
     ensures { IsTrue result ↔ LeavesMode compiled.now.model (in_row rows.now) component mode }
 {
-    let moves = compiled.model().moves();
-    for i in 0..moves.len() {
-        let m = moves.get(i);
-        if (m.component == component && m.source == mode)
-            && is_open(compiled.ways().get(i).as_slice(), rows)
-        {
+    let model = compiled.model();
+    let moves = model.moves();
+    for number in model.moves_of(component) {
+        let i = *number as usize;
+        if moves.get(i).source == mode && is_open(compiled.ways().get(i).as_slice(), rows) {
             return true;
         }
     }
@@ -59,7 +59,8 @@ pub(crate) fn open_chain(
     component: u16,
     mode: u8,
 ) -> ValueSet
-    requires { length rows.now ≡ length compiled.now.model.components }
+    requires component { component < length compiled.now.model.components }
+    requires full { length rows.now ≡ length compiled.now.model.components }
     ensures { IsOpenChain compiled.now.model (in_row rows.now) component mode result }
 {
     let model = compiled.model();
@@ -88,14 +89,16 @@ pub(crate) fn open_moves(
     rows: &[ValueSet],
     component: u16,
 ) -> Result<List<u16>, AllocError>
-    requires { length rows.now ≡ length compiled.now.model.components }
+    requires component { component < length compiled.now.model.components }
+    requires full { length rows.now ≡ length compiled.now.model.components }
     ensures { IfOk result (AreOpenMoves compiled.now.model (in_row rows.now) component) }
 {
-    let moves = compiled.model().moves();
+    let model = compiled.model();
+    let _moves = model.moves();
     let mut numbers = List::new(alloc);
-    for i in 0..moves.len() {
-        if moves.get(i).component == component && is_open(compiled.ways().get(i).as_slice(), rows) {
-            numbers.push(i as u16)?;
+    for number in model.moves_of(component) {
+        if is_open(compiled.ways().get(*number as usize).as_slice(), rows) {
+            numbers.push(*number)?;
         }
     }
     Ok(numbers)

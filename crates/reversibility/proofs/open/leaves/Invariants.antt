@@ -1,11 +1,13 @@
-use Rattle.std.proofs.Common.{◌<◌, ℕ}
-use Rattle.reversibility.specs.ClassParts.{in_row}
+use Rattle.std.proofs.Common.{◌≡◌, ◌<◌, ℕ, slice_get, slice_index, Some}
 use Rattle.cca_base.specs.declared.model.Move.{Move}
-use Rattle.std.proofs.Common.{◌≡◌, slice_get, Some}
+use Rattle.cca_base.specs.MoveIndex.{IsMoveOf}
+use Rattle.cca_base.specs.Relations.{AreExactly}
 use Rattle.reach_laws.specs.Classes.{IsOpen}
+use Rattle.reversibility.specs.ClassParts.{in_row}
 use Rattle.reversibility.proofs.open.leaves.Given as goal
 
--- none of the first moves is an open one of the component that leaves the mode
-abbrev pub invariant-loop-i : goal.invariant-loop-i
-invariant-loop-i l = (j : ℕ) (move : Move) → j < l.i → slice_get l.compiled.model.moves j ≡ Some move → move.component ≡ l.component → move.source ≡ l.mode
-    → IsOpen l.compiled.model (in_row l.rows) move → ⊥
+-- the row is the component's, and none of the moves at its first places is an open one that leaves the mode
+abbrev pub invariant-loop-number : goal.invariant-loop-number
+invariant-loop-number l = AreExactly (IsMoveOf l.compiled.model.moves l.component) l.number-items
+    × ((n : ℕ) (move : Move) → n < l.number-index → slice_get l.compiled.model.moves (slice_index l.number-items n) ≡ Some move → move.source ≡ l.mode
+    → IsOpen l.compiled.model (in_row l.rows) move → ⊥)

@@ -1,6 +1,10 @@
-use Rattle.reversibility.specs.Levels.{AreOpenBefore}
+use Rattle.cca_base.specs.MoveIndex.{IsMoveOf}
+use Rattle.cca_base.specs.Relations.{AreExactly}
 use Rattle.reversibility.specs.ClassParts.{in_row}
+use Rattle.reversibility.specs.Levels.{IsAmong, IsOpenNumber}
 use Rattle.reversibility.proofs.open.open_moves.Given as goal
 
-abbrev pub invariant-loop-i : goal.invariant-loop-i
-invariant-loop-i l = AreOpenBefore l.compiled.model (in_row l.rows) l.component l.i l.numbers
+-- the row is the component's, and exactly the open ones of the numbers at its first places are noted
+abbrev pub invariant-loop-number : goal.invariant-loop-number
+invariant-loop-number l = AreExactly (IsMoveOf l.compiled.model.moves l.component) l.number-items
+    × AreExactly (λ i. IsAmong l.number-items l.number-index i × IsOpenNumber l.compiled.model (in_row l.rows) l.component i) l.numbers
