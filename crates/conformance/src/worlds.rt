@@ -6,7 +6,7 @@ ghost use Rattle.cca_base.specs.State.{HasWorld, IsState};
 use crate::parts::*;
 use cca_base::*;
 use clause_form::{Clauses, clauses_of};
-use consistency::{Found, find_counter, find_world};
+use consistency::{Found, Worlds, find_counter, find_world};
 use std::alloc::Global;
 use std::test::*;
 
@@ -46,6 +46,20 @@ fn counter_of(
     let modes = modes_of(alloc, model, modes)?;
     let formula = is(model, subject, value)?;
     find_counter(alloc, model, &modes, &formula).ok()
+}
+
+/// Whether the subject has the value in all worlds of all states of these modes; nothing where memory runs out.
+fn follows_from(
+    alloc: Global,
+    model: &Model,
+    modes: Pairs<'_>,
+    subject: Subject,
+    value: u8,
+) -> Option<bool> {
+    let modes = modes_of(alloc, model, modes)?;
+    let formula = is(model, subject, value)?;
+    let worlds = Worlds::of(alloc, model).ok()?;
+    worlds.follows(alloc, model, &modes, &formula).ok()
 }
 
 /// The numbers of a state's modes and of a world's values.
@@ -121,7 +135,8 @@ fn worlds_of_the_valve(rt: HostRuntime) {
     assert!(rt; has_worlds(rt.alloc(), VALVE, &rows));
 }
 
-/// Whether the first state of these modes in which the subject has another value, with a world, is the answer.
+/// Whether the first state of these modes in which the subject has another value, with a world, is the answer, and the value follows
+/// exactly where there is none.
 fn has_counter(
     alloc: Global,
     modes: Pairs<'_>,
@@ -130,7 +145,10 @@ fn has_counter(
     answer: Option<Answer<'_>>,
 ) -> bool {
     match model_of(alloc, VALVE) {
-        Some(model) => is_answer(counter_of(alloc, &model, modes, subject, value), answer),
+        Some(model) => {
+            follows_from(alloc, &model, modes, subject, value) == Some(answer.is_none())
+                && is_answer(counter_of(alloc, &model, modes, subject, value), answer)
+        }
         None => false,
     }
 }

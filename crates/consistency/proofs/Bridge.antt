@@ -121,6 +121,10 @@ module _ (m : PlantModel) where
         omega (arith, less, at_value s w v e, count)),
   )
 
+  -- a world's values are values of the variables
+  pub world_values : (s w : List ℕ) → IsWorld m s w → AreValues (value_counts m) w
+  world_values s w h = record { full = h.full ∙ sym counted_values; values = λ v k. h.values v (subst (λ j. v < j) counted_values k) }
+
 module _ (m : PlantModel) (modes seen : List Pair) (denied : Option Formula) (c : Clauses) (base : List ℕ)
     (of : AreClausesOf m None denied c) (b : IsBase c.sizes (length m.components) modes seen base)
     (modes_in : All (λ p. HasMode m p.item p.value) modes) (seen_in : All (λ p. HasValue m p.item p.value) seen)
@@ -203,11 +207,8 @@ module _ (m : PlantModel) (modes seen : List Pair) (denied : Option Formula) (c 
       (λ p k e. ap (slice_index xs) (sym e) ∙ (at_value m s w p.item full ∙ value_at w p.item p.value k))
       seen h
 
-  world_values : IsWorld m s w → AreValues (value_counts m) w
-  world_values h = record { full = h.full ∙ sym (counted_values m); values = λ v k. h.values v (subst (λ j. v < j) (counted_values m) k) }
-
   all_values : IsState m s → IsWorld m s w → AreValues c.sizes xs
-  all_values state world = subst (λ sizes. AreValues sizes xs) (sym of.sizes) (both_values (mode_counts m) (value_counts m) s w (state_values m s state) (world_values world))
+  all_values state world = subst (λ sizes. AreValues sizes xs) (sym of.sizes) (both_values (mode_counts m) (value_counts m) s w (state_values m s state) (world_values m s w world))
 
   -- values with which the rules are true meet the clauses
   pub world_met : IsState m s → IsWorld m s w → is_denied s w denied ≡ true → AreMet c.clauses (length base) xs
@@ -221,7 +222,7 @@ module _ (m : PlantModel) (modes seen : List Pair) (denied : Option Formula) (c 
             let less = values.values d k' in
             omega (arith, most, less));
         met = AllPass-from_list_all (meets xs) c.clauses
-            (asked (state_values m s state) (world_values world) ∙ and_from _ _ (list_all-from_AllPass (truth s w) m.rules world.rules) denies);
+            (asked (state_values m s state) (world_values m s w world) ∙ and_from _ _ (list_all-from_AllPass (truth s w) m.rules world.rules) denies);
       }
 
   -- a value that all pairs allow is in the set

@@ -3,6 +3,7 @@ pub mod Narrow
 pub mod SearchFrom
 pub mod Bridge
 pub mod Orders
+pub mod FollowsLaws
 pub mod Firsts
 pub mod Fitting
 pub mod ForcedPairs

@@ -12,7 +12,7 @@ use clause_form::{Clause, Literal};
 use std::alloc::{AllocError, Global};
 
 /// The place of the one literal that can be true, or the length where none can. None comes where several can.
-fn only_open(literals: &[Literal], sets: &[ValueSet]) -> Option<usize>
+pub fn only_open(literals: &[Literal], sets: &[ValueSet]) -> Option<usize>
     requires { AreBelow (length sets.now) literals.now }
     ensures place { IfSome result (λ k. k ≤ length literals.now) }
     ensures others { IfSome result (λ k. OthersOut literals.now sets.now k) }

@@ -1,0 +1,42 @@
+//! Whether a formula follows from modes. Propagation answers most questions; else a counterexample is looked for.
+
+ghost use Rattle.std.specs.Prelude.{◌↔◌, length, All, IfOk, IsTrue};
+ghost use Rattle.cca_base.specs.Formula.{is_within};
+ghost use Rattle.cca_base.specs.Model.{HasMode};
+ghost use Rattle.cca_base.specs.State.{Follows};
+ghost use Rattle.consistency.specs.Worlds.{AreWorldsOf};
+
+use crate::base::model_base;
+use crate::settled::is_settled;
+use crate::worlds::Worlds;
+use cca_base::{Cube, Formula, Model};
+use clause_form::denied_clauses;
+use std::alloc::{AllocError, Global};
+
+impl Worlds {
+    /// Whether the formula is true in every world of every state that extends the modes. The error is out of memory.
+    pub fn follows(
+        &self,
+        alloc: Global,
+        model: &Model,
+        modes: &Cube,
+        formula: &Formula,
+    ) -> Result<bool, AllocError>
+        requires of { AreWorldsOf model.now self.now }
+        requires modes { All (λ p. HasMode model.now p.item p.value) modes.now }
+        requires formula { IsTrue (is_within (length model.now.components)
+            (length model.now.variables) formula.now) }
+        ensures { IfOk result (λ b. IsTrue b ↔ Follows model.now modes.now formula.now) }
+    {
+        let denied = denied_clauses(alloc, model, formula)?;
+        let base = model_base(alloc, model, &self.rules, modes.as_slice(), &[])?;
+        let denied = denied.clauses.as_slice();
+        if is_settled(alloc, &self.rules, base.as_slice(), denied)? {
+            return Ok(true);
+        }
+        match self.find_counter(alloc, model, modes, formula)? {
+            Some(_counter) => Ok(false),
+            None => Ok(true),
+        }
+    }
+}
