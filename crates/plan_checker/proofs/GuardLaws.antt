@@ -1,5 +1,5 @@
 -- A guard follows from the pairs that a move may lean on in whatever order they stand, and holds in a state where it follows from the state's pairs.
-use Rattle.std.proofs.Common.{◌≡◌, ◌⊎◌, ◌↔◌, ◌<◌, ◌≤◌, ◌+◌, ℕ, Bool, true, false, not, List, [], ◌∷◌, ◌++◌, length, slice_get, Some, All, Contains, IsTrue, refl, sym, ap, subst, ◌∙◌, inl, inr, arith}
+use Rattle.std.proofs.Common.{◌≡◌, ◌↔◌, ◌<◌, ◌≤◌, ◌+◌, ℕ, Bool, true, not, List, [], ◌∷◌, ◌++◌, length, slice_get, Some, All, Contains, IsTrue, refl, sym, ap, subst, ◌∙◌, inl, inr, arith}
 use Rattle.std.proofs.lemmas.Bool.{both_ways, cases_eq, not-true, not_from_false}
 use Rattle.std.proofs.lemmas.List.{length-map}
 use Rattle.std.proofs.lemmas.List.Elements.{All-contains, Contains-append_left, Contains-push, Contains-push_cases}
@@ -19,7 +19,7 @@ use Rattle.cca_base.proofs.Members.{all_from, contains_cases, contains_here, con
 use Rattle.cca_base.proofs.StateLaws.{same_state}
 use Rattle.cca_base.proofs.Within.{fits_within}
 use Rattle.cca_base.proofs.StatePairs.{extends_own}
-use Rattle.plan_checker.specs.Steps.{AreSupport}
+use Rattle.plan_checker.specs.Steps.{AreSupport, IsLeanedOn, HasSupport}
 
 -- a move's guard speaks only of what the model has
 pub guard_within : (m : PlantModel) → WellFormed m → (move : Move) → Contains m.moves move → IsTrue (is_within (length m.components) (length m.variables) move.guard)
@@ -32,25 +32,24 @@ guard_within m good move among =
 pub follows_along : (m : PlantModel) (a b : List Pair) (f : Formula) → ((t : List ℕ) → Extends t b → Extends t a) → Follows m a f → Follows m b f
 follows_along m a b f along follows t state extends = follows t state (along t extends)
 
-module _ (m : PlantModel) (s : List ℕ) (move : Move) (pairs : List Pair) (at : slice_get s move.component ≡ Some move.source) (are : AreSupport m s move.component pairs) where
-  own_value : (p : Pair) → p.item ≡ move.component → slice_get s p.item ≡ Some p.value → move.source ≡ p.value
-  own_value p own stands = same_Some move.source p.value (sym at ∙ ap (slice_get s) (sym own) ∙ stands)
+-- a state that holds what the move may lean on has these pairs
+pub has_support : (m : PlantModel) (s : List ℕ) (move : Move) → slice_get s move.component ≡ Some move.source → (t : List ℕ) → Extends t (support m s move) → HasSupport m s move.component t
+has_support m s move at t extends p stands leaned =
+    let Has : Pair → Type 0 = λ q. slice_get t q.item ≡ Some q.value in
+    elim (leaned) [
+      | inl own ↦
+          let here : Has (source_pair move) = All-contains Has (support m s move) (source_pair move) extends (contains_here (source_pair move) (source_pair move) (sound_pairs m s) refl) in
+          ap (slice_get t) own ∙ here ∙ ap Some (same_Some move.source p.value (sym at ∙ ap (slice_get s) (sym own) ∙ stands))
+      | inr whole ↦
+          All-contains Has (support m s move) p extends (contains_there (source_pair move) p (sound_pairs m s)
+          (to_filter (λ q. not (is_broken m.moves q.item q.value)) (pairs_of s) p (not_from_false (is_broken m.moves p.item p.value) whole) (in_pairs s p stands)))
+    ]
 
+module _ (m : PlantModel) (s : List ℕ) (move : Move) (pairs : List Pair) (at : slice_get s move.component ≡ Some move.source) (are : AreSupport m s move.component pairs) where
   -- a state that holds what the move may lean on holds these pairs
   pub from_support : (t : List ℕ) → Extends t (support m s move) → Extends t pairs
   from_support t extends =
-      let Has : Pair → Type 0 = λ p. slice_get t p.item ≡ Some p.value in
-      let test : Pair → Bool = λ p. not (is_broken m.moves p.item p.value) in
-      all_from Has pairs (λ p among.
-      let h = (are p).0 among in
-      elim (h.1) [
-        | inl own ↦
-            let here : Has (source_pair move) = All-contains Has (support m s move) (source_pair move) extends (contains_here (source_pair move) (source_pair move) (sound_pairs m s) refl) in
-            ap (slice_get t) own ∙ here ∙ ap Some (own_value p own h.0)
-        | inr whole ↦
-            All-contains Has (support m s move) p extends (contains_there (source_pair move) p (sound_pairs m s)
-            (to_filter test (pairs_of s) p (not_from_false (is_broken m.moves p.item p.value) whole) (in_pairs s p h.0)))
-      ])
+      all_from (λ p. slice_get t p.item ≡ Some p.value) pairs (λ p among. let h = (are p).0 among in has_support m s move at t extends p h.0 h.1)
 
   -- and the other way round
   pub to_support : (t : List ℕ) → Extends t pairs → Extends t (support m s move)
@@ -81,10 +80,6 @@ pub support_modes : (m : PlantModel) (s : List ℕ) (c : ℕ) (pairs : List Pair
 support_modes m s c pairs state are = all_from (λ p. HasMode m p.item p.value) pairs (λ p among. stands_mode m s p state ((are p).0 among).0)
 
 -- ---- the pairs that a move may lean on, one component after the other
-
--- the component's mode may be leaned on
-abbrev pub IsLeanedOn : PlantModel → ℕ → Pair → Type 0
-IsLeanedOn m own p = (p.item ≡ own) ⊎ (is_broken m.moves p.item p.value ≡ false)
 
 -- exactly the pairs of the first components that may be leaned on
 abbrev pub AreSupportTo : PlantModel → List ℕ → ℕ → ℕ → List Pair → Type 0

@@ -24,6 +24,14 @@ NoStep m s k = (next : List ℕ) → Step m s k next → ⊥
 abbrev pub NoRun : PlantModel → List ℕ → List ℕ → Type 0
 NoRun m s ks = (last : List ℕ) → Run m s ks last → ⊥
 
--- exactly the state's pairs that a move of the component may lean on: its own, and those whose modes are not broken
+-- a move of the component may lean on the pair: it is the component's own, or its mode is not broken
+abbrev pub IsLeanedOn : PlantModel → ℕ → Pair → Type 0
+IsLeanedOn m own p = (p.item ≡ own) ⊎ (is_broken m.moves p.item p.value ≡ false)
+
+-- exactly the state's pairs that a move of the component may lean on
 abbrev pub AreSupport : PlantModel → List ℕ → ℕ → List Pair → Type 0
-AreSupport m s own pairs = (p : Pair) → Contains pairs p ↔ ((slice_get s p.item ≡ Some p.value) × ((p.item ≡ own) ⊎ (is_broken m.moves p.item p.value ≡ false)))
+AreSupport m s own pairs = (p : Pair) → Contains pairs p ↔ ((slice_get s p.item ≡ Some p.value) × IsLeanedOn m own p)
+
+-- the other state has the state's pairs that a move of the component may lean on
+abbrev pub HasSupport : PlantModel → List ℕ → ℕ → List ℕ → Type 0
+HasSupport m s own t = (p : Pair) → slice_get s p.item ≡ Some p.value → IsLeanedOn m own p → slice_get t p.item ≡ Some p.value

@@ -3,6 +3,7 @@
 ghost use Rattle.std.specs.Prelude.{◌≡◌, IfOk, OnOk, OnErr};
 ghost use Rattle.cca_base.specs.State.{HasWorlds};
 ghost use Rattle.cca_base.specs.Trace.{start, MayCome, Changes};
+ghost use Rattle.consistency.specs.Worlds.{AreWorldsOf};
 ghost use Rattle.trace_laws.specs.Events.{AsGiven, IsTick};
 ghost use Rattle.plan_checker.specs.Checked.{TakesAtYes, OnYes, ShowsSuccessor, ShowsReply, ShowsSafety};
 ghost use Rattle.plan_checker.specs.Reasons.{printed, IsVerdict};
@@ -14,6 +15,7 @@ use crate::taken::take;
 use crate::tick::Tick;
 use crate::verdict::Verdict;
 use cca_base::{Event, Model, Route, Seen, TickReport, VarSet, World};
+use consistency::Worlds;
 use std::alloc::{AllocError, Global};
 use trace_laws::Standing;
 
@@ -85,7 +87,50 @@ impl Checker {
         self.standing.ticks
     }
 
-    /// The verdict on a printed tick: `Yes` exactly where all tests pass, and else `No` with the least reason whose test fails.
+    /// The verdict on a printed tick by the clauses of the model's rules, which are made once for many ticks: `Yes` exactly where all tests pass, and else `No` with the least reason whose test fails.
+    /// The error is out of memory.
+    pub fn check_tick_by(
+        &mut self,
+        model: &Model,
+        worlds: &Worlds,
+        report: &TickReport,
+        world: Option<&World>,
+        route: Option<&Route>,
+    ) -> Result<Verdict, AllocError>
+        requires of { AreWorldsOf model.now worlds.now }
+        requires all { HasWorlds model.now }
+        requires fits { FitsModel model.now self.old }
+        ensures verdict { IfOk result (IsVerdict model.now self.old
+            (printed report.now world.entry route.entry)) }
+        ensures takes { IfOk result (λ verdict.
+            TakesAtYes model.now self.old report.now.shown verdict self.new) }
+        ensures fits { FitsModel model.now self.new }
+        ensures err { OnErr result (self.new ≡ self.old) }
+
+        // What a yes shows, by rules and guards alone.
+        ensures successor { IfOk result (λ verdict.
+            OnYes verdict (ShowsSuccessor model.now self.old
+            (printed report.now world.entry route.entry))) }
+        ensures reply { IfOk result (λ verdict.
+            OnYes verdict (ShowsReply self.old (printed report.now world.entry route.entry))) }
+        ensures safety { IfOk result (λ verdict.
+            OnYes verdict (ShowsSafety model.now self.old
+            (printed report.now world.entry route.entry))) }
+    {
+        let rules = rules_of(self.alloc, model, worlds);
+        let tick = Tick {
+            report,
+            world,
+            route,
+        };
+        let verdict = judge(&rules, &self.standing, &tick)?;
+        if verdict == Verdict::Yes {
+            take(&rules, &mut self.standing, report)?;
+        }
+        Ok(verdict)
+    }
+
+    /// The same for one tick alone: `Yes` exactly where all tests pass, and else `No` with the least reason whose test fails.
     /// The error is out of memory.
     pub fn check_tick(
         &mut self,
@@ -113,16 +158,7 @@ impl Checker {
             OnYes verdict (ShowsSafety model.now self.old
             (printed report.now world.entry route.entry))) }
     {
-        let rules = rules_of(self.alloc, model)?;
-        let tick = Tick {
-            report,
-            world,
-            route,
-        };
-        let verdict = judge(&rules, &self.standing, &tick)?;
-        if verdict == Verdict::Yes {
-            take(&rules, &mut self.standing, report)?;
-        }
-        Ok(verdict)
+        let worlds = Worlds::of(self.alloc, model)?;
+        self.check_tick_by(model, &worlds, report, world, route)
     }
 }

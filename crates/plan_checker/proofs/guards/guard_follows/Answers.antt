@@ -1,10 +1,16 @@
-use Rattle.std.proofs.Common.{◌↔◌, Bool, IsTrue, List}
+use Rattle.std.proofs.Common.{◌↔◌, Bool, IsTrue, List, refl}
 use Rattle.std.proofs.lemmas.Result.{IfOk-weaker}
 use Rattle.cca_base.specs.declared.cube.Pair.{Pair}
 use Rattle.cca_base.specs.State.{Follows}
 use Rattle.cca_base.specs.Steps.{support}
-use Rattle.plan_checker.proofs.GuardLaws.{guard_within, follows_along, from_support, to_support, support_modes}
+use Rattle.plan_checker.proofs.GuardLaws.{guard_within, follows_along, from_support, has_support, to_support, support_modes}
 use Rattle.plan_checker.proofs.guards.guard_follows.Goals as goal
+
+pub returns-then-is_sure : goal.returns-then-is_sure
+returns-then-is_sure c = (
+  (λ _ t state extends w world. c.is_sure.ensures c.if-is_sure.true t w (has_support c.args.rules.now.model.now c.args.state.now.modes c.args.step.now c.requires.named.source t extends)),
+  (λ _. refl),
+)
 
 pub follows-requires-clause-modes : goal.follows-requires-clause-modes
 follows-requires-clause-modes c =

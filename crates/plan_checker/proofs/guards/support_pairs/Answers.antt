@@ -3,14 +3,14 @@ use Rattle.std.proofs.lemmas.Bool.{both_ways, cases_Bool}
 use Rattle.cca_base.specs.PlantModel.{PlantModel}
 use Rattle.cca_base.specs.Model.{is_broken}
 use Rattle.plan_checker.proofs.GuardLaws.{AreSupportTo, support_more, support_same, support_whole}
-use Rattle.plan_checker.proofs.guards.support_of.Goals.{then-is_leaned_on+in_ok-push, else-is_leaned_on}
-use Rattle.plan_checker.proofs.guards.support_of.Goals as goal
+use Rattle.plan_checker.proofs.guards.support_pairs.Goals.{then-is_leaned_on+in_ok-push, else-is_leaned_on}
+use Rattle.plan_checker.proofs.guards.support_pairs.Goals as goal
 
 pub loop-item-preserved : goal.loop-item-preserved
 loop-item-preserved c =
-    let m : PlantModel = c.args.model.now in
-    let s : List ℕ = c.args.state.now.modes in
-    let own : ℕ = c.args.component in
+    let m : PlantModel = c.args.known.now.model.now in
+    let s : List ℕ = c.args.known.now.state.now.modes in
+    let own : ℕ = c.args.known.now.own in
     let i : ℕ = c.loop-item.item in
     let mode : ℕ = c.get-value.result.now in
     elim c.if-is_leaned_on.branch [
@@ -29,6 +29,6 @@ loop-item-preserved c =
 
 pub returns : goal.returns
 returns c =
-    let full : length c.args.state.now.modes ≡ length c.args.model.now.components = c.requires.full in
-    support_whole c.args.model.now c.args.state.now.modes c.args.component c.loop-item.item c.loop-item.pairs
+    let full : length c.args.known.now.state.now.modes ≡ length c.args.known.now.model.now.components = c.requires.full in
+    support_whole c.args.known.now.model.now c.args.known.now.state.now.modes c.args.known.now.own c.loop-item.item c.loop-item.pairs
     (omega (arith, full, c.loop-item-test.false, c.len-item-end.ensures, ap length c.components.ensures.value)) c.loop-item.invariant
