@@ -10,6 +10,7 @@ use Rattle.cca_base.specs.Cube.{IsRising}
 use Rattle.cca_base.specs.State.{HasWorlds}
 use Rattle.cca_base.specs.PlantModel.{PlantModel}
 use Rattle.cca_base.specs.Trace.{MayCome, ExecutiveState}
+use Rattle.consistency.specs.Worlds.{AreWorldsOf}
 use Rattle.line_machine.specs.declared.machine.End.TheVariants as ends
 use Rattle.line_machine.specs.declared.machine.Said.{Said}
 use Rattle.plan_checker.specs.Standing.{FitsModel}
@@ -66,9 +67,15 @@ pub record KeepsTrace (m : PlantModel) (x : TraceSoFar) : Type 0 where
   pub fits : FitsModel m x.state
   pub come : MayComeBehind m x.state x.behind
 
--- every state has a world, the checker fits the model, and its next tick may be judged, behind which these events come
+-- the clauses are those of the model's rules, the checker fits the model, and the later events may come
+pub record KeepsCheck (m : PlantModel) (t : TraceCheck) : Type 0 where
+  pub clauses : AreWorldsOf m t.worlds
+  pub trace : KeepsTrace m (trace_of t)
+
+-- every state has a world, the clauses are those of the rules, the checker fits the model, and its next tick may be judged, behind which these events come
 pub record MayJudge (m : PlantModel) (t : TraceCheck) (events : List Event) : Type 0 where
   pub worlds : HasWorlds m
+  pub clauses : AreWorldsOf m t.worlds
   pub fits : FitsModel m t.checker
   pub moved : t.behind ≡ None
   pub come : MayComeInTurn m [] t.checker.mirrored events
@@ -76,7 +83,7 @@ pub record MayJudge (m : PlantModel) (t : TraceCheck) (events : List Event) : Ty
 -- what is kept in each part
 abbrev pub KeepsPart : PlantModel → Part → Type 0
 KeepsPart m (parts.Script s) = KeepsScript m (script_of s)
-KeepsPart m (parts.Trace t) = KeepsTrace m (trace_of t)
+KeepsPart m (parts.Trace t) = KeepsCheck m t
 
 -- ---- what code answers
 

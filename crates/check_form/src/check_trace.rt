@@ -5,16 +5,18 @@ ghost use Rattle.std.specs.Option.{option_map};
 ghost use Rattle.cca_base.specs.Accepted.{IsCompiled};
 ghost use Rattle.cca_base.specs.State.{HasWorlds};
 ghost use Rattle.cca_base.specs.Trace.{start};
+ghost use Rattle.consistency.specs.Worlds.{AreWorldsOf};
 ghost use Rattle.line_machine.specs.Next.{next_of};
 ghost use Rattle.plan_checker.specs.Standing.{FitsModel};
 ghost use Rattle.check_form.specs.CheckMachine.{TraceCloses};
-ghost use Rattle.check_form.specs.CheckStages.{KeepsTrace, MayComeBehind, MayComeInTurn, MayJudge, SaysOf, trace_of, waiting};
+ghost use Rattle.check_form.specs.CheckStages.{KeepsCheck, MayComeBehind, MayComeInTurn, MayJudge, SaysOf, trace_of, waiting};
 ghost use Rattle.check_form.specs.CheckTrace.{ByLines, ComesTo, SaysLine, TraceLeads, before_tick};
 ghost use Rattle.check_form.specs.TickLines.{Whole, printed_of};
 
 use crate::tick_lines::{PrintedTick, TickLines, TickSoFar, next_lines};
 use crate::verdicts::{checked_line, no_line, rejected};
 use cca_base::{Event, Model};
+use consistency::Worlds;
 use line_machine::{End, Said};
 use model_form::nothing;
 use plan_checker::reasons::LINE;
@@ -27,6 +29,8 @@ use trace_text::{LineFault, TraceLine, read_line};
 /// A checker that waits for the lines of the next tick.
 #[derive(Drop)]
 pub struct TraceCheck {
+    /// The clauses of the model's rules, for all ticks.
+    pub worlds: Worlds,
     /// It has made the events before the next tick.
     pub checker: Checker,
     /// The events behind that tick, if one comes.
@@ -80,11 +84,13 @@ impl TraceCheck {
         requires come { MayComeInTurn model.now [] 0 events.items }
         ensures comes { IfOk result (λ t.
             ComesTo model.now (start model.now 0) events.items (trace_of t)) }
-        ensures keeps { IfOk result (λ t. KeepsTrace model.now (trace_of t)) }
+        ensures keeps { IfOk result (KeepsCheck model.now) }
     {
+        let worlds = Worlds::of(alloc, model)?;
         let mut checker = Checker::open(alloc, model)?;
         let behind = advance(&mut checker, model, events)?;
         Ok(TraceCheck {
+            worlds,
             checker,
             behind,
             lines: TickSoFar::Nothing,
@@ -93,13 +99,14 @@ impl TraceCheck {
 
     /// Goes on to the next tick.
     fn go_on(&mut self, model: &Model, events: VecDeque<Event>) -> Result<(), AllocError>
+        requires clauses { AreWorldsOf model.now self.old.worlds }
         requires fits { FitsModel model.now self.old.checker }
         requires moved { self.old.behind ≡ None }
         requires come { MayComeInTurn model.now self.old.checker.pending self.old.checker.mirrored
             events.items }
         ensures comes { OnOk result (ComesTo model.now self.old.checker events.items
             (trace_of self.new)) }
-        ensures keeps { KeepsTrace model.now (trace_of self.new) }
+        ensures keeps { KeepsCheck model.now self.new }
     {
         self.behind = advance(&mut self.checker, model, events)?;
         self.lines = TickSoFar::Nothing;
@@ -118,11 +125,12 @@ impl TraceCheck {
         ensures says { IfOk result (λ said.
             SaysOf (ByLines (Whole (printed_of tick.now)) model.now (waiting self.old events.items)
             events.items) (waiting self.old events.items) (trace_of self.new) said) }
-        ensures keeps { KeepsTrace model.now (trace_of self.new) }
+        ensures keeps { KeepsCheck model.now self.new }
     {
         let ticks = self.checker.ticks();
-        let verdict = self.checker.check_tick(
+        let verdict = self.checker.check_tick_by(
             model,
+            &self.worlds,
             &tick.report,
             tick.world.as_ref(),
             tick.route.as_ref(),
@@ -148,7 +156,7 @@ impl TraceCheck {
         ensures says { IfOk result (λ said.
             SaysOf (TraceLeads model.now (waiting self.old events.items) line.now)
             (waiting self.old events.items) (trace_of self.new) said) }
-        ensures keeps { KeepsTrace model.now (trace_of self.new) }
+        ensures keeps { KeepsCheck model.now self.new }
     {
         let ticks = self.checker.ticks();
         let Some(value) = read(alloc, model, line)? else {
@@ -169,11 +177,11 @@ impl TraceCheck {
     /// Takes a line of the trace.
     pub fn line(&mut self, alloc: Global, model: &Model, line: &[u8]) -> Result<Said, AllocError>
         requires worlds { HasWorlds model.now }
-        requires keeps { KeepsTrace model.now (trace_of self.old) }
+        requires keeps { KeepsCheck model.now self.old }
         ensures says { IfOk result (λ said.
             SaysOf (TraceLeads model.now (trace_of self.old) line.now) (trace_of self.old)
             (trace_of self.new) said) }
-        ensures keeps { KeepsTrace model.now (trace_of self.new) }
+        ensures keeps { KeepsCheck model.now self.new }
     {
         match mem::replace(&mut self.behind, None) {
             Some(events) => self.tick_line(alloc, model, line, events),

@@ -8,7 +8,7 @@ use Rattle.check_form.proofs.check_trace.TraceCheck.judge.Goals as goal
 pub returns-in_ok-go_on-in-Yes-clause-says : goal.returns-in_ok-go_on-in-Yes-clause-says
 returns-in_ok-go_on-in-Yes-clause-says c =
     let next = trace_of c.go_on.new.self in
-    let by = yes_leads c.args.model.now (waiting c.args.self.now c.args.events.items) c.args.tick.now _ _ c.as_ref.ensures.value c.as_ref-2.ensures.value c.in_ok-verdict.verdict c.check_tick.new.self c.args.events.items next c.in-Yes.is
+    let by = yes_leads c.args.model.now (waiting c.args.self.now c.args.events.items) c.args.tick.now _ _ c.as_ref.ensures.value c.as_ref-2.ensures.value c.in_ok-verdict.verdict c.check_tick_by.new.self c.args.events.items next c.in-Yes.is
     c.in_ok-verdict.ensures.verdict c.in_ok-verdict.ensures.successor c.in_ok-verdict.ensures.takes c.in_ok-go_on-in-Yes.ensures.comes in
     (Follows next, by, (c.nothing.ensures.end, c.nothing.ensures.text, refl))
 
