@@ -3,7 +3,7 @@ use Rattle.std.proofs.Common.{◌≡◌, ℕ, Bool, true, ◌+◌, ◌<◌, List
 use Rattle.std.specs.Prelude.{nat_eq, nat_lt}
 use Rattle.std.specs.List.{AllZip}
 use Rattle.std.proofs.lemmas.Bool.{eq-eqb, eqb-true, lt-ltb, ltb-true}
-use Rattle.std.proofs.lemmas.List.{get_or-map, get_or-set_same, get_or-take, length-map, length-set, take-take, take_more, set-set}
+use Rattle.std.proofs.lemmas.List.{get_or_default, get_or-map, get_or-set_same, get_or-take, length-map, length-set, take-take, take_more, set-set}
 use Rattle.std.proofs.lemmas.Slice.Zip.{AllZip-long}
 use Rattle.cca_base.specs.declared.cube.Pair.{Pair}
 use Rattle.cca_base.specs.PlantModel.{PlantModel}
@@ -54,35 +54,40 @@ module _ (rows : List (List Choice)) (c : ℕ) (test : ℕ → Bool) (within : c
 
 -- ---- lower modes
 
+-- what is kept of a row that was put in, where the lower modes are
+pub rows_below : (old : List (List Choice)) (c : ℕ) (row : List Choice) (mode : ℕ) (lower : List Choice) (rows : List (List Choice)) → c < length old → lower ≡ filter (λ x. nat_lt x.mode mode) row
+    → rows ≡ set old c lower → rows ≡ kept_at (set old c row) c (λ x. nat_lt x.mode mode)
+rows_below old c row mode lower rows within below put = put ∙ ap (set old c) below ∙ sym (rows_kept old c row (λ x. nat_lt x.mode mode) within)
+
 -- states of the rows with the lower modes alone
 pub lower_least : (m : PlantModel) (rows : List (List Choice)) (seen : List Pair) (cost c mode : ℕ) → c < length rows → NoneBelow m rows seen cost
     → NoneBelow m (kept_at rows c (λ x. nat_lt x.mode mode)) seen cost
 lower_least m rows seen cost c mode within least t more shown =
     least t more (record { chosen = (kept_gives rows c (λ n. nat_lt n mode) within t more shown.chosen).0; shows = shown.shows })
 
-pub lower_none : (m : PlantModel) (rows : List (List Choice)) (seen : List Pair) (cost c mode : ℕ) (s : List ℕ) → c < length rows → mode ≡ get_or s c 0
-    → NoneBelow m (kept_at rows c (λ x. nat_lt x.mode mode)) seen (cost + 1) → NoneLower m rows seen cost c s
-lower_none m rows seen cost c mode s within e none t low =
-    let shows = low.shows in
-    let less = low.lower in
-    let passes : nat_lt (get_or t c 0) mode ≡ true = lt-ltb (get_or t c 0) mode (omega arith) in
-    absurd (omega (arith, none t cost (record { chosen = kept_takes rows c (λ n. nat_lt n mode) within t cost shows.chosen passes; shows = shows.shows })))
+-- what a search of them says of a least-cost state with this mode at the component
+module _ (m : PlantModel) (rows : List (List Choice)) (seen : List Pair) (cost c mode : ℕ) (s : List ℕ) (within : c < length rows) (h : IsLeastShown m rows seen s cost)
+    (is : mode ≡ get_or s c mode) where
+  mode_is : mode ≡ get_or s c 0
+  mode_is = is ∙ get_or_default s c mode 0 (omega (arith, picked_long rows s cost h.shows.chosen, within))
 
-pub lower_empty : (m : PlantModel) (rows : List (List Choice)) (seen : List Pair) (cost c mode : ℕ) (s : List ℕ) → c < length rows → mode ≡ get_or s c 0
-    → length (filter (λ (x : Choice). nat_lt x.mode mode) (row_at rows c)) ≡ 0 → NoneLower m rows seen cost c s
-lower_empty m rows seen cost c mode s within e none t low =
-    let shows = low.shows in
-    let less = low.lower in
-    let passes : nat_lt (get_or t c 0) mode ≡ true = lt-ltb (get_or t c 0) mode (omega arith) in
-    none_kept rows c (λ n. nat_lt n mode) within t cost none (kept_takes rows c (λ n. nat_lt n mode) within t cost shows.chosen passes)
+  below : (t : List ℕ) → IsLower m rows seen cost c s t → IsPicked (kept_at rows c (λ x. nat_lt x.mode mode)) t cost
+  below t low =
+      let less = low.lower in
+      kept_takes rows c (λ n. nat_lt n mode) within t cost low.shows.chosen (lt-ltb (get_or t c 0) mode (omega (arith, less, mode_is)))
 
-pub lower_found : (m : PlantModel) (rows : List (List Choice)) (seen : List Pair) (cost c mode : ℕ) (s t : List ℕ) (more : ℕ) → c < length rows → mode ≡ get_or s c 0
-    → NoneBelow m rows seen cost → IsLeastShown m (kept_at rows c (λ x. nat_lt x.mode mode)) seen t more → more < cost + 1 → IsLower m rows seen cost c s t
-lower_found m rows seen cost c mode s t more within e least found less =
-    let gives = kept_gives rows c (λ n. nat_lt n mode) within t more found.shows.chosen in
-    let there : Shows m rows seen t more = record { chosen = gives.0; shows = found.shows.shows } in
-    let same : more ≡ cost = omega (arith, least t more there) in
-    record { shows = subst (Shows m rows seen t) same there; lower = omega (arith, ltb-true (get_or t c 0) mode gives.1) }
+  pub lower_none : NoneBelow m (kept_at rows c (λ x. nat_lt x.mode mode)) seen (cost + 1) → NoneLower m rows seen cost c s
+  lower_none none t low = absurd (omega (arith, none t cost (record { chosen = below t low; shows = low.shows.shows })))
+
+  pub lower_empty : length (filter (λ (x : Choice). nat_lt x.mode mode) (row_at rows c)) ≡ 0 → NoneLower m rows seen cost c s
+  lower_empty none t low = none_kept rows c (λ n. nat_lt n mode) within t cost none (below t low)
+
+  pub lower_found : (t : List ℕ) (more : ℕ) → IsLeastShown m (kept_at rows c (λ x. nat_lt x.mode mode)) seen t more → more < cost + 1 → IsLower m rows seen cost c s t
+  lower_found t more found less =
+      let gives = kept_gives rows c (λ n. nat_lt n mode) within t more found.shows.chosen in
+      let there : Shows m rows seen t more = record { chosen = gives.0; shows = found.shows.shows } in
+      let same : more ≡ cost = omega (arith, h.least t more there) in
+      record { shows = subst (Shows m rows seen t) same there; lower = omega (arith, mode_is, ltb-true (get_or t c 0) mode gives.1) }
 
 -- ---- components that are fixed one after the other
 

@@ -19,12 +19,12 @@ use Rattle.cost_search.specs.Pending.{IsHalved, IsSettled}
 use Rattle.cost_search.specs.Queue.{cost_of, modes_of}
 use Rattle.cost_search.proofs.Charged.{uncut_at}
 use Rattle.cost_search.proofs.Ranks.{heads_chosen, heads_upto, upto_cost}
-use Rattle.cost_search.proofs.Stacks.{contains_last, pending_drops, pending_splits, weights-fall}
+use Rattle.cost_search.proofs.Stacks.{contains_last, pending_drops, pending_ends, pending_splits, weights-fall}
 use Rattle.mode_estimator.specs.declared.turn.Best.{Best}
 use Rattle.mode_estimator.specs.First.{AreClashes, AreStates, IsLeastShown, NoneBelow}
 use Rattle.mode_estimator.specs.declared.turn.Verdict.{Verdict}
 use Rattle.mode_estimator.specs.declared.turn.Verdict.TheVariants.{Settled, Splits, First}
-use Rattle.mode_estimator.specs.Turns.{IsJudged, IsKnown, IsTurned, Wants}
+use Rattle.mode_estimator.specs.Turns.{IsJudged, IsKnown, IsSearched, IsTurned, Wants}
 
 wanted_uncut : (m : PlantModel) (seen : List Pair) (cuts : List (List Pair)) (s : List ℕ) → AreClashes m seen cuts → IsState m s → CanShow m s seen → IsUncut cuts s
 wanted_uncut m seen cuts s clashes state shows = All-weaker (Clash m seen) (λ cube. Extends s cube → ⊥) (λ cube clash holds. clash s state holds shows) cuts clashes
@@ -88,22 +88,36 @@ turned_first m rows seen p parts best are each is shows less = record {
 
 -- ---- the end of a search
 
-pub none_below : (m : PlantModel) (rows : List (List Choice)) (seen : List Pair) (limit : ℕ) → AreStates m rows → IsSettled (Wants m seen) rows limit → NoneBelow m rows seen limit
+none_below : (m : PlantModel) (rows : List (List Choice)) (seen : List Pair) (limit : ℕ) → AreStates m rows → IsSettled (Wants m seen) rows limit → NoneBelow m rows seen limit
 none_below m rows seen limit states settled s cost shown =
     let state : IsState m (modes_of shown.chosen.picks) = subst (IsState m) shown.chosen.modes (states s cost shown.chosen) in
     let shows : CanShow m (modes_of shown.chosen.picks) seen = subst (λ t. CanShow m t seen) shown.chosen.modes shown.shows in
     let total : cost ≡ cost_of shown.chosen.picks = shown.chosen.total in
     omega (arith, total, settled shown.chosen.picks shown.chosen.each (state, shows))
 
--- what is found at the end is a least-cost state
-pub known_least : (m : PlantModel) (rows : List (List Choice)) (seen : List Pair) (start : ℕ) (found : Option Costed) (limit : ℕ) → IsKnown m rows seen start found limit → NoneBelow m rows seen limit
-    → IfSome found (λ x. IsLeastShown m rows seen x.state.modes x.cost) × IfSome found (λ x. x.cost < start) × (IsNone found → NoneBelow m rows seen start)
+-- what is found is a least-cost state, and cheaper than where the search began; where none is found, there is none so cheap
+abbrev pub IsFound : PlantModel → List (List Choice) → List Pair → ℕ → Option Costed → Type 0
+IsFound m rows seen start found =
+    IfSome found (λ x. IsLeastShown m rows seen x.state.modes x.cost) × IfSome found (λ x. x.cost < start) × (IsNone found → NoneBelow m rows seen start)
+
+known_least : (m : PlantModel) (rows : List (List Choice)) (seen : List Pair) (start : ℕ) (found : Option Costed) (limit : ℕ) → IsKnown m rows seen start found limit → NoneBelow m rows seen limit
+    → IsFound m rows seen start found
 known_least m rows seen start None limit known none = (tt, tt, λ e. subst (NoneBelow m rows seen) known none)
 known_least m rows seen start (Some x) limit known none = (
   record { shows = known.0; least = λ s cost shown. omega (arith, known.1, none s cost shown) },
   omega (arith, known.1, known.2),
   λ e. absurd (cc),
 )
+
+-- what is found where no state costs less than the floor
+pub floor_found : (m : PlantModel) (rows : List (List Choice)) (seen : List Pair) (start floor : ℕ) (parts : List Part) (best : Best) → NoneBelow m rows seen floor → best.limit ≤ floor
+    → IsSearched m rows seen start parts best → IsFound m rows seen start best.found
+floor_found m rows seen start floor parts best none reached s = known_least m rows seen start best.found best.limit s.known (λ t cost shown. omega (arith, reached, none t cost shown))
+
+-- what is found where no part is left
+pub last_found : (m : PlantModel) (rows : List (List Choice)) (seen : List Pair) (start : ℕ) (best : Best) → AreStates m rows → IsSearched m rows seen start [] best → IsFound m rows seen start best.found
+last_found m rows seen start best states s =
+    known_least m rows seen start best.found best.limit s.known (none_below m rows seen best.limit states (pending_ends (Wants m seen) rows best.limit s.pending))
 
 -- ---- a state that was asked for
 

@@ -2,48 +2,32 @@
 
 ghost use Rattle.std.specs.Prelude.{IfOk, All};
 ghost use Rattle.cca_base.specs.Choices.{AreRows};
-ghost use Rattle.cca_base.specs.State.{HasValue};
-ghost use Rattle.consistency.specs.Worlds.{AreWorldsOf};
 ghost use Rattle.mode_estimator.specs.First.{AreClashes, AreStates, IsFirstShown};
 
 use crate::answer::Estimate;
 use crate::find::find;
 use crate::lower::lower;
-use cca_base::{Choices, Cube, List, Model, Seen};
-use consistency::Worlds;
+use crate::query::Query;
+use cca_base::{Choices, Cube, List};
 use std::alloc::{AllocError, Global};
 
 /// The first of the states that may be chosen and that have a world agreeing with what is seen. The error is out of memory.
-pub fn first_shown(
-    alloc: Global,
-    model: &Model,
-    worlds: &Worlds,
+pub(crate) fn first_shown(
+    query: &Query,
     choices: Choices,
     mut cuts: List<Cube>,
-    seen: &Seen,
 ) -> Result<Estimate, AllocError>
-    requires worlds { AreWorldsOf model.now worlds.now }
-    requires seen { All (λ p. HasValue model.now p.item p.value) seen.now.pairs }
     requires rows { AreRows choices.rows }
-    requires states { AreStates model.now choices.rows }
-    requires cuts { AreClashes model.now seen.now.pairs cuts }
-    ensures { IfOk result (IsFirstShown model.now choices.rows seen.now.pairs) }
+    requires states { AreStates query.now.model.now choices.rows }
+    requires cuts { AreClashes query.now.model.now query.now.seen.now.pairs cuts }
+    ensures { IfOk result (IsFirstShown query.now.model.now choices.rows query.now.seen.now.pairs) }
 {
     let rows = choices.rows;
-    let found = find(
-        alloc,
-        model,
-        worlds,
-        rows.as_slice(),
-        &mut cuts,
-        seen,
-        0,
-        u64::MAX,
-    )?;
+    let found = find(query, rows.as_slice(), &mut cuts, 0, u64::MAX)?;
     let Some(least) = found else {
         return Ok(Estimate::Unexplained);
     };
-    let first = lower(alloc, model, worlds, rows, &mut cuts, seen, least)?;
+    let first = lower(query, rows, &mut cuts, least)?;
     Ok(Estimate::Found {
         state: first.state,
         cost: first.cost,

@@ -3,33 +3,16 @@
 
 ghost use Rattle.std.specs.Prelude.{IfOk, All};
 ghost use Rattle.cca_base.specs.State.{HasValue, IsState};
-ghost use Rattle.cca_base.specs.Successors.{Nominal};
 ghost use Rattle.consistency.specs.Worlds.{AreWorldsOf};
 ghost use Rattle.mode_estimator.specs.Estimated.{IsEstimate};
 
 use crate::answer::Estimate;
 use crate::first::first_shown;
+use crate::query::Query;
 use cca_base::{Compiled, List, Seen, State};
 use consistency::Worlds;
 use std::alloc::{AllocError, Global};
 use successors::{choices, obey};
-
-/// Where the command leads the state, which costs nothing. The error is out of memory.
-fn nominal_state(
-    alloc: Global,
-    compiled: &Compiled,
-    state: &State,
-    command: Option<u16>,
-) -> Result<State, AllocError>
-    requires { IsState compiled.now.model state.now.modes }
-    ensures nominal { IfOk result (λ s.
-        Nominal compiled.now.model state.now.modes command s.modes) }
-    ensures state { IfOk result (λ s. IsState compiled.now.model s.modes) }
-{
-    let mut next = state.copy(alloc)?;
-    obey(compiled, &mut next, command);
-    Ok(next)
-}
 
 /// The state of least cost that has a world agreeing with what is seen, the first in mode order among equals, by the
 /// clauses of the model's rules, which are made once for many ticks. The error is out of memory.
@@ -47,7 +30,8 @@ pub fn estimate_by(
     ensures { IfOk result (IsEstimate compiled.now.model state.now.modes command seen.now.pairs) }
 {
     let model = compiled.model();
-    let nominal = nominal_state(alloc, compiled, state, command)?;
+    let mut nominal = state.copy(alloc)?;
+    obey(compiled, &mut nominal, command);
     let Some(conflict) = worlds.minimal_clash(alloc, model, &nominal, seen)? else {
         return Ok(Estimate::Found {
             state: nominal,
@@ -57,7 +41,13 @@ pub fn estimate_by(
     let rows = choices(alloc, compiled, state, command)?;
     let mut cuts = List::new(alloc);
     cuts.push(conflict)?;
-    first_shown(alloc, model, worlds, rows, cuts, seen)
+    let query = Query {
+        alloc,
+        model,
+        worlds,
+        seen,
+    };
+    first_shown(&query, rows, cuts)
 }
 
 /// The same for one tick alone.

@@ -7,6 +7,7 @@ mod find;
 mod first;
 mod least;
 mod lower;
+mod query;
 mod turn;
 
 pub use answer::Estimate;

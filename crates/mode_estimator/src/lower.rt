@@ -3,14 +3,12 @@
 
 ghost use Rattle.std.specs.Prelude.{◌≡◌, ◌<◌, length, All, IfOk, IfSome, IsNone, filter, nat_eq, nat_lt, slice_index, slice_set};
 ghost use Rattle.cca_base.specs.Choices.{AreRows};
-ghost use Rattle.cca_base.specs.State.{HasValue};
-ghost use Rattle.consistency.specs.Worlds.{AreWorldsOf};
 ghost use Rattle.mode_estimator.specs.First.{AreClashes, AreStates, IsLeastShown};
 ghost use Rattle.mode_estimator.specs.LeastModes.{IsLower, NoneLower, IsLowestAt, IsFirstOfCost, fixed_at};
 
 use crate::find::find;
-use cca_base::{Choice, Cube, List, Model, Seen, State};
-use consistency::Worlds;
+use crate::query::Query;
+use cca_base::{Choice, Cube, List, State};
 use cost_search::Costed;
 use std::alloc::{AllocError, Global};
 
@@ -42,49 +40,35 @@ fn modes_at(alloc: Global, row: &[Choice], mode: u8) -> Result<List<Choice>, All
 
 /// A state of the same least cost with a lower mode at the component, where the component may choose from the row.
 fn lower_state(
-    alloc: Global,
-    model: &Model,
-    worlds: &Worlds,
+    query: &Query,
     rows: &mut List<List<Choice>>,
     row: &[Choice],
     cuts: &mut List<Cube>,
-    seen: &Seen,
     state: &State,
     cost: u64,
     c: usize,
 ) -> Result<Option<State>, AllocError>
-    requires worlds { AreWorldsOf model.now worlds.now }
-    requires seen { All (λ p. HasValue model.now p.item p.value) seen.now.pairs }
     requires rows { AreRows (slice_set rows.old c row.now) }
-    requires states { AreStates model.now (slice_set rows.old c row.now) }
-    requires cuts { AreClashes model.now seen.now.pairs cuts.old }
-    requires least { IsLeastShown model.now (slice_set rows.old c row.now) seen.now.pairs
-        state.now.modes cost }
+    requires states { AreStates query.now.model.now (slice_set rows.old c row.now) }
+    requires cuts { AreClashes query.now.model.now query.now.seen.now.pairs cuts.old }
+    requires least { IsLeastShown query.now.model.now (slice_set rows.old c row.now)
+        query.now.seen.now.pairs state.now.modes cost }
     requires within { c < length rows.old }
     ensures some { IfOk result (λ o. IfSome o (λ t.
-        IsLower model.now (slice_set rows.old c row.now) seen.now.pairs cost c
+        IsLower query.now.model.now (slice_set rows.old c row.now) query.now.seen.now.pairs cost c
         state.now.modes t.modes)) }
     ensures none { IfOk result (λ o. IsNone o →
-        NoneLower model.now (slice_set rows.old c row.now) seen.now.pairs cost c
+        NoneLower query.now.model.now (slice_set rows.old c row.now) query.now.seen.now.pairs cost c
         state.now.modes) }
     ensures rows { slice_set rows.new c row.now ≡ slice_set rows.old c row.now }
-    ensures cuts { AreClashes model.now seen.now.pairs cuts.new }
+    ensures cuts { AreClashes query.now.model.now query.now.seen.now.pairs cuts.new }
 {
-    let lower = modes_below(alloc, row, *state.modes.get(c))?;
+    let lower = modes_below(query.alloc, row, *state.modes.get(c))?;
     if lower.len() == 0 {
         return Ok(None);
     }
     rows.set(c, lower);
-    match find(
-        alloc,
-        model,
-        worlds,
-        rows.as_slice(),
-        cuts,
-        seen,
-        cost,
-        cost + 1,
-    )? {
+    match find(query, rows.as_slice(), cuts, cost, cost + 1)? {
         None => Ok(None),
         Some(costed) => Ok(Some(costed.state)),
     }
@@ -92,66 +76,56 @@ fn lower_state(
 
 /// A state of the same least cost with the least mode at the component, which alone is kept in the component's row.
 fn lower_at(
-    alloc: Global,
-    model: &Model,
-    worlds: &Worlds,
+    query: &Query,
     rows: &mut List<List<Choice>>,
     cuts: &mut List<Cube>,
-    seen: &Seen,
     state: State,
     cost: u64,
     c: usize,
 ) -> Result<State, AllocError>
-    requires worlds { AreWorldsOf model.now worlds.now }
-    requires seen { All (λ p. HasValue model.now p.item p.value) seen.now.pairs }
     requires rows { AreRows rows.old }
-    requires states { AreStates model.now rows.old }
-    requires cuts { AreClashes model.now seen.now.pairs cuts.old }
-    requires least { IsLeastShown model.now rows.old seen.now.pairs state.modes cost }
+    requires states { AreStates query.now.model.now rows.old }
+    requires cuts { AreClashes query.now.model.now query.now.seen.now.pairs cuts.old }
+    requires least { IsLeastShown query.now.model.now rows.old query.now.seen.now.pairs state.modes
+        cost }
     requires within { c < length rows.old }
     ensures lowest { IfOk result (λ s.
-        IsLowestAt model.now rows.old seen.now.pairs cost c s.modes) }
+        IsLowestAt query.now.model.now rows.old query.now.seen.now.pairs cost c s.modes) }
     ensures rows { IfOk result (λ s. rows.new ≡ fixed_at rows.old c (slice_index s.modes c)) }
-    ensures cuts { AreClashes model.now seen.now.pairs cuts.new }
+    ensures cuts { AreClashes query.now.model.now query.now.seen.now.pairs cuts.new }
 {
-    let row = rows.get(c).copy(alloc)?;
+    let row = rows.get(c).copy(query.alloc)?;
     let choices = row.as_slice();
     let mut state = state;
-    while let Some(lower) = lower_state(
-        alloc, model, worlds, rows, choices, cuts, seen, &state, cost, c,
-    )? {
+    while let Some(lower) = lower_state(query, rows, choices, cuts, &state, cost, c)? {
         state = lower;
     }
-    let kept = modes_at(alloc, choices, *state.modes.get(c))?;
+    let kept = modes_at(query.alloc, choices, *state.modes.get(c))?;
     rows.set(c, kept);
     Ok(state)
 }
 
 /// Of the states that cost as little as this one and have a world agreeing with what is seen, the first in mode order. The
 /// error is out of memory.
-pub fn lower(
-    alloc: Global,
-    model: &Model,
-    worlds: &Worlds,
+pub(crate) fn lower(
+    query: &Query,
     mut rows: List<List<Choice>>,
     cuts: &mut List<Cube>,
-    seen: &Seen,
     least: Costed,
 ) -> Result<Costed, AllocError>
-    requires worlds { AreWorldsOf model.now worlds.now }
-    requires seen { All (λ p. HasValue model.now p.item p.value) seen.now.pairs }
     requires rows { AreRows rows }
-    requires states { AreStates model.now rows }
-    requires cuts { AreClashes model.now seen.now.pairs cuts.old }
-    requires least { IsLeastShown model.now rows seen.now.pairs least.state.modes least.cost }
+    requires states { AreStates query.now.model.now rows }
+    requires cuts { AreClashes query.now.model.now query.now.seen.now.pairs cuts.old }
+    requires least { IsLeastShown query.now.model.now rows query.now.seen.now.pairs
+        least.state.modes least.cost }
     ensures first { IfOk result (λ x.
-        IsFirstOfCost model.now rows seen.now.pairs x.cost x.state.modes) }
+        IsFirstOfCost query.now.model.now rows query.now.seen.now.pairs x.cost x.state.modes) }
     ensures cost { IfOk result (λ x. x.cost ≡ least.cost) }
 {
     let cost = least.cost;
     let mut state = least.state;
     for c in 0..rows.len() {
-        state = lower_at(alloc, model, worlds, &mut rows, cuts, seen, state, cost, c)?;
+        state = lower_at(query, &mut rows, cuts, state, cost, c)?;
     }
     Ok(Costed { state, cost })
 }

@@ -3,16 +3,14 @@
 
 ghost use Rattle.std.specs.Prelude.{◌<◌, All, IfOk, OnOk};
 ghost use Rattle.cca_base.specs.Choices.{AreRows};
-ghost use Rattle.cca_base.specs.State.{HasValue};
 ghost use Rattle.cca_base.specs.Shown.{CanShow};
-ghost use Rattle.consistency.specs.Worlds.{AreWorldsOf};
 ghost use Rattle.cost_search.specs.Search.{IsUncut};
 ghost use Rattle.cost_search.specs.SearchParts.{IsPart};
 ghost use Rattle.mode_estimator.specs.First.{AreClashes, AreStates};
 ghost use Rattle.mode_estimator.specs.Turns.{IsJudged, IsTurned};
 
-use cca_base::{Choice, Cube, List, Model, Seen, State};
-use consistency::Worlds;
+use crate::query::Query;
+use cca_base::{Choice, Cube, List, State};
 use cost_search::{Costed, Part, bound_of, push_halves};
 use std::alloc::{AllocError, Global};
 
@@ -36,24 +34,22 @@ pub enum Verdict {
 
 /// What the cuts say of a part; its first state is next if it holds none.
 fn judge_by_cuts(
-    alloc: Global,
-    model: &Model,
+    query: &Query,
     rows: &[List<Choice>],
     part: &Part,
     cuts: &[Cube],
-    seen: &Seen,
     limit: u64,
 ) -> Result<Verdict, AllocError>
     requires rows { AreRows rows.now }
     requires part { IsPart rows.now part.now }
-    requires cuts { AreClashes model.now seen.now.pairs cuts.now }
-    ensures { IfOk result (IsJudged model.now rows.now seen.now.pairs limit part.now
-        (IsUncut cuts.now part.now.modes)) }
+    requires cuts { AreClashes query.now.model.now query.now.seen.now.pairs cuts.now }
+    ensures { IfOk result (IsJudged query.now.model.now rows.now query.now.seen.now.pairs limit
+        part.now (IsUncut cuts.now part.now.modes)) }
 {
     if part.cost >= limit {
         return Ok(Verdict::Settled);
     }
-    let Some(bound) = bound_of(alloc, rows, part, cuts)? else {
+    let Some(bound) = bound_of(query.alloc, rows, part, cuts)? else {
         return Ok(Verdict::Settled);
     };
     if bound.total >= limit {
@@ -65,93 +61,62 @@ fn judge_by_cuts(
     }
 }
 
-/// What becomes of a part whose first state holds no cut: the state shows what is seen, or its conflict is a cut, which says
-/// what becomes of the part.
-fn ask(
-    alloc: Global,
-    model: &Model,
-    worlds: &Worlds,
+/// What becomes of a part; its first state is next if it shows what is seen. A first state that holds no cut is asked for: it
+/// shows what is seen, or its conflict is a cut, which says what becomes of the part.
+fn judge(
+    query: &Query,
     rows: &[List<Choice>],
     part: &Part,
     cuts: &mut List<Cube>,
-    seen: &Seen,
     limit: u64,
 ) -> Result<Verdict, AllocError>
-    requires worlds { AreWorldsOf model.now worlds.now }
-    requires seen { All (λ p. HasValue model.now p.item p.value) seen.now.pairs }
     requires rows { AreRows rows.now }
-    requires states { AreStates model.now rows.now }
+    requires states { AreStates query.now.model.now rows.now }
     requires part { IsPart rows.now part.now }
-    requires cuts { AreClashes model.now seen.now.pairs cuts.old }
-    requires less { part.now.cost < limit }
-    ensures judged { IfOk result (IsJudged model.now rows.now seen.now.pairs limit part.now
-        (CanShow model.now part.now.modes seen.now.pairs)) }
-    ensures cuts { AreClashes model.now seen.now.pairs cuts.new }
+    requires cuts { AreClashes query.now.model.now query.now.seen.now.pairs cuts.old }
+    ensures judged { IfOk result (IsJudged query.now.model.now rows.now query.now.seen.now.pairs
+        limit part.now (CanShow query.now.model.now part.now.modes query.now.seen.now.pairs)) }
+    ensures cuts { AreClashes query.now.model.now query.now.seen.now.pairs cuts.new }
 {
+    match judge_by_cuts(query, rows, part, cuts.as_slice(), limit)? {
+        Verdict::Settled => return Ok(Verdict::Settled),
+        Verdict::Splits(at) => return Ok(Verdict::Splits(at)),
+        Verdict::First => {}
+    }
     let state = State {
-        modes: part.modes.copy(alloc)?,
+        modes: part.modes.copy(query.alloc)?,
     };
-    let Some(cube) = worlds.minimal_clash(alloc, model, &state, seen)? else {
+    let Some(cube) = query
+        .worlds
+        .minimal_clash(query.alloc, query.model, &state, query.seen)?
+    else {
         return Ok(Verdict::First);
     };
     cuts.push(cube)?;
-    judge_by_cuts(alloc, model, rows, part, cuts.as_slice(), seen, limit)
-}
-
-/// What becomes of a part; its first state is next if it shows what is seen.
-fn judge(
-    alloc: Global,
-    model: &Model,
-    worlds: &Worlds,
-    rows: &[List<Choice>],
-    part: &Part,
-    cuts: &mut List<Cube>,
-    seen: &Seen,
-    limit: u64,
-) -> Result<Verdict, AllocError>
-    requires worlds { AreWorldsOf model.now worlds.now }
-    requires seen { All (λ p. HasValue model.now p.item p.value) seen.now.pairs }
-    requires rows { AreRows rows.now }
-    requires states { AreStates model.now rows.now }
-    requires part { IsPart rows.now part.now }
-    requires cuts { AreClashes model.now seen.now.pairs cuts.old }
-    ensures judged { IfOk result (IsJudged model.now rows.now seen.now.pairs limit part.now
-        (CanShow model.now part.now.modes seen.now.pairs)) }
-    ensures cuts { AreClashes model.now seen.now.pairs cuts.new }
-{
-    match judge_by_cuts(alloc, model, rows, part, cuts.as_slice(), seen, limit)? {
-        Verdict::Settled => Ok(Verdict::Settled),
-        Verdict::Splits(at) => Ok(Verdict::Splits(at)),
-        Verdict::First => ask(alloc, model, worlds, rows, part, cuts, seen, limit),
-    }
+    judge_by_cuts(query, rows, part, cuts.as_slice(), limit)
 }
 
 /// One turn at a part that was taken from the others. The error is out of memory.
-pub fn turn(
-    alloc: Global,
-    model: &Model,
-    worlds: &Worlds,
+pub(crate) fn turn(
+    query: &Query,
     rows: &[List<Choice>],
     parts: &mut List<Part>,
     part: Part,
     cuts: &mut List<Cube>,
-    seen: &Seen,
     best: &mut Best,
 ) -> Result<(), AllocError>
-    requires worlds { AreWorldsOf model.now worlds.now }
-    requires seen { All (λ p. HasValue model.now p.item p.value) seen.now.pairs }
     requires rows { AreRows rows.now }
-    requires states { AreStates model.now rows.now }
+    requires states { AreStates query.now.model.now rows.now }
     requires parts { All (IsPart rows.now) parts.old }
     requires part { IsPart rows.now part }
-    requires cuts { AreClashes model.now seen.now.pairs cuts.old }
-    ensures turned { OnOk result (IsTurned model.now rows.now seen.now.pairs part
-        parts.old parts.new best.old best.new) }
-    ensures cuts { AreClashes model.now seen.now.pairs cuts.new }
+    requires cuts { AreClashes query.now.model.now query.now.seen.now.pairs cuts.old }
+    ensures turned { OnOk result (IsTurned query.now.model.now rows.now query.now.seen.now.pairs
+        part parts.old parts.new best.old best.new) }
+    ensures cuts { AreClashes query.now.model.now query.now.seen.now.pairs cuts.new }
 {
-    match judge(alloc, model, worlds, rows, &part, cuts, seen, best.limit)? {
+    match judge(query, rows, &part, cuts, best.limit)? {
         Verdict::Settled => Ok(()),
-        Verdict::Splits(at) => push_halves(alloc, rows, parts, part, at),
+        Verdict::Splits(at) => push_halves(query.alloc, rows, parts, part, at),
         Verdict::First => {
             best.limit = part.cost;
             best.found = Some(Costed {

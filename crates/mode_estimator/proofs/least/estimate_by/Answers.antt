@@ -1,9 +1,10 @@
-use Rattle.std.proofs.Common.{List, [], ◌∷◌, ◌++◌, refl, sym, ap, subst, ◌∙◌}
+use Rattle.std.proofs.Common.{ℕ, List, [], ◌∷◌, ◌++◌, refl, sym, ap, subst, ◌∙◌}
 use Rattle.std.proofs.lemmas.Result.{IfOk-weaker}
 use Rattle.std.proofs.lemmas.List.Elements.{All-nil, All-push}
 use Rattle.cca_base.specs.PlantModel.{PlantModel}
 use Rattle.cca_base.specs.declared.cube.Pair.{Pair}
 use Rattle.cca_base.specs.Shown.{Clash}
+use Rattle.cca_base.specs.Successors.{Nominal}
 use Rattle.mode_estimator.specs.First.{AreClashes, IsFirstShown}
 use Rattle.mode_estimator.specs.Estimated.{IsEstimate}
 use Rattle.mode_estimator.proofs.ChosenState.{chosen_state, estimated}
@@ -13,8 +14,9 @@ use Rattle.mode_estimator.proofs.least.estimate_by.Goals as goal
 pub returns-in_default : goal.returns-in_default
 returns-in_default c =
     let shows = rw (c.model-model.ensures.value, c.in_default.is) at c.in_ok-conflict.ensures.none in
-    nominal_estimate c.args.compiled.now.model c.args.state.now.modes c.in_ok-nominal.nominal.modes c.args.command c.args.seen.now.pairs c.model-model.ensures.compiled.accepted.well_formed c.requires.state
-    c.in_ok-nominal.ensures.nominal (shows.0 refl)
+    let moved = subst (λ (s : List ℕ). Nominal c.args.compiled.now.model s c.args.command c.obey.new.plant.modes) (ap (λ x. x.modes) c.in_ok-nominal.ensures) c.obey.ensures.moves in
+    nominal_estimate c.args.compiled.now.model c.args.state.now.modes c.obey.new.plant.modes c.args.command c.args.seen.now.pairs c.model-model.ensures.compiled.accepted.well_formed c.requires.state
+    moved (shows.0 refl)
 
 pub first_shown-requires-clause-states : goal.first_shown-requires-clause-states
 first_shown-requires-clause-states c t cost h =
