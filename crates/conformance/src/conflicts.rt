@@ -7,21 +7,11 @@ use std::alloc::Global;
 use std::test::*;
 
 /// The conflict of the first state of these modes with what is seen; nothing where memory runs out.
-fn conflict_of(
-    alloc: Global,
-    model: &Model,
-    modes: Pairs<'_>,
-    observed: Pairs<'_>,
-) -> Option<Option<Cube>> {
-    let state = first_state(alloc, model, modes)?;
-    let observed = seen(alloc, model, observed)?;
-    conflict(alloc, model, &state, &observed).ok()
-}
-
-/// The same of the model of this text.
 fn blame(alloc: Global, text: &str, modes: Pairs<'_>, observed: Pairs<'_>) -> Option<Option<Cube>> {
     let model = model_of(alloc, text)?;
-    conflict_of(alloc, &model, modes, observed)
+    let state = first_state(alloc, &model, modes)?;
+    let observed = seen(alloc, &model, observed)?;
+    conflict(alloc, &model, &state, &observed).ok()
 }
 
 /// Whether the conflict of the first state of these modes with what is seen has these pairs.
@@ -47,24 +37,17 @@ fn is_shown(alloc: Global, text: &str, modes: Pairs<'_>, observed: Pairs<'_>) ->
 }
 
 /// A minimal clash of the first state of these modes with what is seen; nothing where memory runs out.
-fn clash_of(
-    alloc: Global,
-    model: &Model,
-    modes: Pairs<'_>,
-    observed: Pairs<'_>,
-) -> Option<Option<Cube>> {
-    let state = first_state(alloc, model, modes)?;
-    let observed = seen(alloc, model, observed)?;
-    let worlds = Worlds::of(alloc, model).ok()?;
-    worlds.minimal_clash(alloc, model, &state, &observed).ok()
+fn least(alloc: Global, text: &str, modes: Pairs<'_>, observed: Pairs<'_>) -> Option<Option<Cube>> {
+    let model = model_of(alloc, text)?;
+    let state = first_state(alloc, &model, modes)?;
+    let observed = seen(alloc, &model, observed)?;
+    let worlds = Worlds::of(alloc, &model).ok()?;
+    worlds.minimal_clash(alloc, &model, &state, &observed).ok()
 }
 
 /// Whether a minimal clash of the first state of these modes with what is seen has these pairs, or there are none and it is shown.
 fn clash(alloc: Global, text: &str, modes: Pairs<'_>, observed: Pairs<'_>, pairs: &[Pair]) -> bool {
-    let Some(model) = model_of(alloc, text) else {
-        return false;
-    };
-    match clash_of(alloc, &model, modes, observed) {
+    match least(alloc, text, modes, observed) {
         Some(Some(cube)) => cube.as_slice() == pairs,
         Some(None) => pairs.is_empty(),
         None => false,

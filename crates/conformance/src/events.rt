@@ -30,15 +30,8 @@ enum Answer<'a> {
 }
 
 fn are_pairs(pairs: &[Pair], wanted: Pairs<'_>) -> bool {
-    if pairs.len() != wanted.len() {
-        return false;
-    }
-    for i in 0..pairs.len() {
-        if (pairs[i].item, pairs[i].value) != wanted[i] {
-            return false;
-        }
-    }
-    true
+    let mut both = pairs.iter().zip(wanted);
+    pairs.len() == wanted.len() && both.all(|(pair, place)| (pair.item, pair.value) == *place)
 }
 
 fn is_event(event: &Event, wanted: Answer<'_>) -> bool {
@@ -60,17 +53,6 @@ fn is_answer(read: &Result<Option<Event>, Stop>, wanted: Answer<'_>) -> bool {
         (Err(Stop::Refused(refusal)), Answer::Refused(code)) => refusal.code == code,
         _ => false,
     }
-}
-
-/// The set of these variables.
-fn set_of(variables: &[u16]) -> VarSet {
-    let mut set = VarSet::empty();
-    for v in variables {
-        if (*v as usize) < MAX_VARIABLES {
-            set = set.with(*v);
-        }
-    }
-    set
 }
 
 /// Whether the line is answered so.
@@ -105,12 +87,12 @@ fn rows_answered(
 fn valve_rows(
     alloc: Global,
     pending: Pairs<'_>,
-    mirrored: &[u16],
+    mirrored: VarSet,
     rows: &[(&str, Answer<'_>)],
 ) -> Option<usize> {
     let model = model_of(alloc, SENSED_VALVE)?;
     match seen(alloc, &model, pending) {
-        Some(pending) => Some(rows_answered(alloc, &model, &pending, set_of(mirrored), rows)),
+        Some(pending) => Some(rows_answered(alloc, &model, &pending, mirrored, rows)),
         None => None,
     }
 }
@@ -139,7 +121,7 @@ fn each_form_is_an_event(rt: HostRuntime) {
         ("reset", Answer::Reset),
         ("\ttick", Answer::Tick),
     ];
-    assert!(rt; valve_rows(rt.alloc(), &[], &[], &rows) == Some(14));
+    assert!(rt; valve_rows(rt.alloc(), &[], VarSet::empty(), &rows) == Some(14));
 }
 
 /// What is pending alone, or mirrored alone; and both for a variable that isn't sensed.
@@ -166,9 +148,11 @@ fn pending_and_mirrored_variables_are_told_apart(rt: HostRuntime) {
         ("observe load = low", Answer::Refused(13)),
         ("mirror load", Answer::Refused(13)),
     ];
-    assert!(rt; valve_rows(rt.alloc(), &[(0, 0)], &[], &pending) == Some(5));
-    assert!(rt; valve_rows(rt.alloc(), &[], &[0], &mirrored) == Some(5));
-    assert!(rt; valve_rows(rt.alloc(), &[(1, 0)], &[1], &unsensed) == Some(2));
+    let flow = VarSet::empty().with(0);
+    let load = VarSet::empty().with(1);
+    assert!(rt; valve_rows(rt.alloc(), &[(0, 0)], VarSet::empty(), &pending) == Some(5));
+    assert!(rt; valve_rows(rt.alloc(), &[], flow, &mirrored) == Some(5));
+    assert!(rt; valve_rows(rt.alloc(), &[(1, 0)], load, &unsensed) == Some(2));
 }
 
 /// Whether the line is answered so by the map of the reader's names.

@@ -21,12 +21,10 @@ fn is_refused_so(alloc: Global, model: &Model, code: u8, wanted: &str) -> bool {
 /// How many of the codes have the lines beside them, up to the first that has not.
 fn codes_written(alloc: Global, rows: &[(u8, &str)]) -> usize {
     let model = Model::empty(alloc, 1);
-    for (i, row) in rows.iter().enumerate() {
-        if !is_refused_so(alloc, &model, row.0, row.1) {
-            return i;
-        }
-    }
-    rows.len()
+    let mut tries = rows.iter();
+    tries
+        .position(|row| !is_refused_so(alloc, &model, row.0, row.1))
+        .unwrap_or(rows.len())
 }
 
 #[test]

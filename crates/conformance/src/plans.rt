@@ -122,10 +122,15 @@ fn routes(
     }
 }
 
-/// Whether the plan from the start of the mending model to the goal, and the way back, have the commands of these names.
-fn mending_routes(alloc: Global, pairs: Pairs<'_>, plan: &[&str], back: &[&str]) -> bool {
-    match tables_of(alloc, MENDING, &[0, 0]) {
-        Some(tables) => routes(alloc, &tables, (&[0, 0], pairs), plan, back),
+/// Whether the plan from the start of a model to the goal, and the way back, have the commands of these names.
+fn start_routes(
+    alloc: Global,
+    question: (&str, &[u8], Pairs<'_>),
+    plan: &[&str],
+    back: &[&str],
+) -> bool {
+    match tables_of(alloc, question.0, question.1) {
+        Some(tables) => routes(alloc, &tables, (question.1, question.2), plan, back),
         None => false,
     }
 }
@@ -133,19 +138,18 @@ fn mending_routes(alloc: Global, pairs: Pairs<'_>, plan: &[&str], back: &[&str])
 #[test]
 fn a_way_back_mends_what_it_needs(rt: HostRuntime) {
     let back = ["c_reset", "c_z", "b_back", "c_ok"];
-    assert!(rt; mending_routes(rt.alloc(), &[(1, 1)], &["b_go"], &back));
-}
-
-/// Whether the plan from the hung unit to the goal, and the way back, have the commands of these names.
-fn unit_routes(alloc: Global, pairs: Pairs<'_>, plan: &[&str], back: &[&str]) -> bool {
-    match tables_of(alloc, HUNG_UNIT, &[2, 0]) {
-        Some(tables) => routes(alloc, &tables, (&[2, 0], pairs), plan, back),
-        None => false,
-    }
+    assert!(rt; start_routes(rt.alloc(), (MENDING, &[0, 0], &[(1, 1)]), &["b_go"], &back));
 }
 
 #[test]
 fn a_hung_unit_is_mended_by_two_commands(rt: HostRuntime) {
     let plan = ["d_power", "drv_on", "d_reset"];
-    assert!(rt; unit_routes(rt.alloc(), &[(0, 0)], &plan, &["drv_off"]));
+    assert!(rt;
+        start_routes(
+            rt.alloc(),
+            (HUNG_UNIT, &[2, 0], &[(0, 0)]),
+            &plan,
+            &["drv_off"]
+        )
+    );
 }

@@ -8,15 +8,8 @@ use std::test::*;
 use text_base::{Token, tokens};
 
 fn are_tokens(tokens: &[Token], places: &[(usize, usize)]) -> bool {
-    if tokens.len() != places.len() {
-        return false;
-    }
-    for i in 0..tokens.len() {
-        if (tokens[i].start, tokens[i].end) != places[i] {
-            return false;
-        }
-    }
-    true
+    let mut both = tokens.iter().zip(places);
+    tokens.len() == places.len() && both.all(|(token, place)| (token.start, token.end) == *place)
 }
 
 /// Whether the line's tokens stand at these places.
@@ -32,13 +25,20 @@ fn a_line_has_three_tokens(rt: HostRuntime) {
     assert!(rt; has_tokens(rt.alloc(), b"a=b", &[(0, 1), (1, 2), (2, 3)]));
 }
 
+/// The code of a refusal, 98 without memory.
+fn code_of(stop: &Stop) -> u8 {
+    match stop {
+        Stop::Refused(refusal) => refusal.code,
+        Stop::Memory => 98,
+    }
+}
+
 /// What a line is answered: its code, 0 where it is taken, 100 where it ends the model.
 fn answer(reader: &mut ModelReader, line: &str) -> u8 {
     match reader.line(line.as_bytes()) {
         Ok(LineEnd::Going) => 0,
         Ok(LineEnd::Script) => 100,
-        Err(Stop::Refused(refusal)) => refusal.code,
-        Err(Stop::Memory) => 98,
+        Err(stop) => code_of(&stop),
     }
 }
 
@@ -83,18 +83,13 @@ fn formula_answer(alloc: Global, model: &Model, text: &str) -> u8 {
     };
     match read_formula(alloc, model, tokens.as_slice()) {
         Ok(_formula) => 0,
-        Err(Stop::Refused(refusal)) => refusal.code,
-        Err(Stop::Memory) => 98,
+        Err(stop) => code_of(&stop),
     }
 }
 
 fn formulas_answer(alloc: Global, model: &Model, rows: &[(&str, u8)]) -> bool {
-    for row in rows {
-        if formula_answer(alloc, model, row.0) != row.1 {
-            return false;
-        }
-    }
-    true
+    rows.iter()
+        .all(|row| formula_answer(alloc, model, row.0) == row.1)
 }
 
 /// Whether each formula's text has its answer over the valve's model.

@@ -18,11 +18,19 @@ all_same (x ∷ xs) = (omega arith, all_same xs)
 pub taken_begins : (free : List Bool) (left : List ℕ) (amount : ℕ) → IsTaken free left left amount []
 taken_begins free left amount = record { less = all_same left; own = All-nil (HasPaid free left left amount) }
 
-pub taken_passes : (free : List Bool) (old new : List ℕ) (amount : ℕ) (cube : List Pair) (k : ℕ) (p : Pair) → k < length cube → get_or cube k p ≡ p → get_or free p.item false ≡ false
+-- what stands in the place of a pair that is not there
+abbrev pub no_pair : Pair
+no_pair = record { item = 0; value = 0 }
+
+-- the component at this place of the cube
+abbrev pub item_at : List Pair → ℕ → ℕ
+item_at cube k = (get_or cube k no_pair).item
+
+pub taken_passes : (free : List Bool) (old new : List ℕ) (amount : ℕ) (cube : List Pair) (k : ℕ) → k < length cube → get_or free (item_at cube k) false ≡ false
     → IsTaken free old new amount (take k cube) → IsTaken free old new amount (take (k + 1) cube)
-taken_passes free old new amount cube k p within is fixed t = record {
+taken_passes free old new amount cube k within fixed t = record {
   less = t.less;
-  own = All-more (HasPaid free old new amount) cube k p within t.own (subst (HasPaid free old new amount) (sym is) (λ e. absurd (false≢true (sym fixed ∙ e))));
+  own = All-more (HasPaid free old new amount) cube k no_pair within t.own (λ e. absurd (false≢true (sym fixed ∙ e)));
 }
 
 less_at : (old new : List ℕ) (c : ℕ) → AllZip (λ a n. n ≤ a) old new → get_or new c 0 ≤ get_or old c 0
@@ -45,19 +53,20 @@ set_less xs c v i within le = elim (eqb_tells i c) [
   | inr other ↦ omega (arith, get_or-set_other xs c i v 0 other.1)
 ]
 
-pub taken_takes : (free : List Bool) (old new : List ℕ) (amount : ℕ) (cube : List Pair) (k : ℕ) (p : Pair) → k < length cube → get_or cube k p ≡ p → p.item < length new
-    → HasLeft free old amount p → get_or free p.item false ≡ true
-    → IsTaken free old new amount (take k cube) → IsTaken free old (set new p.item (get_or new p.item 0 - amount)) amount (take (k + 1) cube)
-taken_takes free old new amount cube k p within is inside has freed t =
-    let v = get_or new p.item 0 - amount in
-    let le : v ≤ get_or new p.item 0 = omega arith in
-    let own : get_or (set new p.item v) p.item 0 + amount ≤ get_or old p.item 0 =
-    omega (arith, get_or-set_same new p.item v 0 inside, less_at old new p.item t.less, has freed) in
+pub taken_takes : (free : List Bool) (old new : List ℕ) (amount : ℕ) (cube : List Pair) (k : ℕ) → k < length cube → item_at cube k < length new
+    → HasLeft free old amount (get_or cube k no_pair) → get_or free (item_at cube k) false ≡ true
+    → IsTaken free old new amount (take k cube) → IsTaken free old (set new (item_at cube k) (get_or new (item_at cube k) 0 - amount)) amount (take (k + 1) cube)
+taken_takes free old new amount cube k within inside has freed t =
+    let c = item_at cube k in
+    let v = get_or new c 0 - amount in
+    let le : v ≤ get_or new c 0 = omega arith in
+    let own : get_or (set new c v) c 0 + amount ≤ get_or old c 0 =
+    omega (arith, get_or-set_same new c v 0 inside, less_at old new c t.less, has freed) in
     record {
-      less = less_set old new p.item v t.less le;
-      own = All-more (HasPaid free old (set new p.item v) amount) cube k p within
-          (All-weaker (HasPaid free old new amount) (HasPaid free old (set new p.item v) amount) (λ q paid e. omega (arith, paid e, set_less new p.item v q.item inside le)) (take k cube) t.own)
-          (subst (HasPaid free old (set new p.item v) amount) (sym is) (λ e. own));
+      less = less_set old new c v t.less le;
+      own = All-more (HasPaid free old (set new c v) amount) cube k no_pair within
+          (All-weaker (HasPaid free old new amount) (HasPaid free old (set new c v) amount) (λ q paid e. omega (arith, paid e, set_less new c v q.item inside le)) (take k cube) t.own)
+          (λ e. own);
     }
 
 -- ---- two lists, place by place
@@ -70,31 +79,31 @@ zip_push R (a ∷ xs) (b ∷ ys) x y h r = (h.0, zip_push R xs ys x y h.1 r)
 
 -- ---- the free component that has the least left
 
-pub least_passes : (free : List Bool) (left : List ℕ) (cube : List Pair) (k : ℕ) (p : Pair) (least : Option ℕ) → k < length cube → get_or cube k p ≡ p → get_or free p.item false ≡ false
+pub least_passes : (free : List Bool) (left : List ℕ) (cube : List Pair) (k : ℕ) (least : Option ℕ) → k < length cube → get_or free (item_at cube k) false ≡ false
     → IsLeastLeft free left (take k cube) least → IsLeastLeft free left (take (k + 1) cube) least
-least_passes free left cube k p None within is fixed h = All-more (IsFixed free) cube k p within h (subst (IsFixed free) (sym is) fixed)
-least_passes free left cube k p (Some c) within is fixed h =
-    (h.0, h.1, All-more (HasLeft free left (get_or left c 0)) cube k p within h.2 (subst (HasLeft free left (get_or left c 0)) (sym is) (λ e. absurd (false≢true (sym fixed ∙ e)))))
+least_passes free left cube k None within fixed h = All-more (IsFixed free) cube k no_pair within h fixed
+least_passes free left cube k (Some c) within fixed h =
+    (h.0, h.1, All-more (HasLeft free left (get_or left c 0)) cube k no_pair within h.2 (λ e. absurd (false≢true (sym fixed ∙ e))))
 
-pub least_takes : (free : List Bool) (left : List ℕ) (cube : List Pair) (k : ℕ) (p : Pair) (least : Option ℕ) (r : ℕ) → k < length cube → get_or cube k p ≡ p → p.item < length left
-    → get_or free p.item false ≡ true → IsLeastLeft free left (take k cube) least → (r ≡ p.item) ⊎ (least ≡ Some r) → get_or left r 0 ≤ get_or left p.item 0
+pub least_takes : (free : List Bool) (left : List ℕ) (cube : List Pair) (k : ℕ) (least : Option ℕ) (r : ℕ) → k < length cube → item_at cube k < length left
+    → get_or free (item_at cube k) false ≡ true → IsLeastLeft free left (take k cube) least → (r ≡ item_at cube k) ⊎ (least ≡ Some r) → get_or left r 0 ≤ get_or left (item_at cube k) 0
     → IfSome least (λ c. get_or left r 0 ≤ get_or left c 0) → IsLeastLeft free left (take (k + 1) cube) (Some r)
-least_takes free left cube k p None r within is inside freed h which le known =
+least_takes free left cube k None r within inside freed h which le known =
     elim which [
       | inl e ↦ (
         subst (λ n. n < length left) (sym e) inside,
         subst (λ n. get_or free n false ≡ true) (sym e) freed,
-        All-more (HasLeft free left (get_or left r 0)) cube k p within
+        All-more (HasLeft free left (get_or left r 0)) cube k no_pair within
             (All-weaker (IsFixed free) (HasLeft free left (get_or left r 0)) (λ q fixed e2. absurd (false≢true (sym fixed ∙ e2))) (take k cube) h)
-            (subst (HasLeft free left (get_or left r 0)) (sym is) (λ e2. le)),
+            (λ e2. le),
       )
       | inr e ↦ absurd (none-some r e)
     ]
-least_takes free left cube k p (Some c) r within is inside freed h which le known =
+least_takes free left cube k (Some c) r within inside freed h which le known =
     let each : All (HasLeft free left (get_or left r 0)) (take (k + 1) cube) =
-    All-more (HasLeft free left (get_or left r 0)) cube k p within
+    All-more (HasLeft free left (get_or left r 0)) cube k no_pair within
     (All-weaker (HasLeft free left (get_or left c 0)) (HasLeft free left (get_or left r 0)) (λ q has e2. omega (arith, has e2, known)) (take k cube) h.2)
-    (subst (HasLeft free left (get_or left r 0)) (sym is) (λ e2. le)) in
+    (λ e2. le) in
     elim which [
       | inl e ↦ (subst (λ n. n < length left) (sym e) inside, subst (λ n. get_or free n false ≡ true) (sym e) freed, each)
       | inr e ↦ let same = same_Some c r e in (subst (λ n. n < length left) same h.0, subst (λ n. get_or free n false ≡ true) same h.1, each)

@@ -21,6 +21,7 @@ use Rattle.reversibility.specs.ClassParts.{ClassParts, IsClasses, in_row}
 use Rattle.reversibility.proofs.Standing.{mode_count}
 use Rattle.policy_tables.specs.declared.table.TheConstants.{MAX_CELLS}
 use Rattle.policy_tables.specs.Filling.{IsRightCell, MayStand, AreRightTo, AreRightRows, AreRightCells, AreFilledTo}
+use Rattle.policy_tables.specs.Tables.{IsTables}
 
 -- ---- cubes in order
 
@@ -84,7 +85,7 @@ filled_next p rows n row h is = record {
   ];
 }
 
-pub filled_all : (p : ClassParts) (rows : List (List Cell)) (n : ℕ) → n ≡ length p.compiled.model.components → AreFilledTo p rows n → AreCells p.compiled p.base (in_row p.rows) rows
+filled_all : (p : ClassParts) (rows : List (List Cell)) (n : ℕ) → n ≡ length p.compiled.model.components → AreFilledTo p rows n → AreCells p.compiled p.base (in_row p.rows) rows
 filled_all p rows n all h =
     let m : PlantModel = p.compiled.model in
     let counts : ℕ → ℕ = λ c. slice_index (mode_counts m) c in
@@ -96,6 +97,10 @@ filled_all p rows n all h =
       policy = λ c from to has_from has_to stands. (right c from to has_from has_to).policy stands;
       outside = λ c from to has_from has_to none. (right c from to has_from has_to).outside none;
     }
+
+-- tables that are filled are those of the classes
+pub filled_tables : (p : ClassParts) (rows : List (List Cell)) (n : ℕ) → IsClasses p → n ≡ length p.rows → AreFilledTo p rows n → IsTables (record { classes = p; cells = rows })
+filled_tables p rows n classes all h = record { classes = classes; cells = filled_all p rows n (omega (arith, all, classes.rows_full)) h }
 
 -- there is room for the cell of two modes
 pub room_for : (m : PlantModel) → WellFormed m → (c from to modes : ℕ) → HasMode m c from → to < modes → modes ≡ slice_index (mode_counts m) c → from * slice_index (mode_counts m) c + to < MAX_CELLS

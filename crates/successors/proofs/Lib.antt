@@ -1,3 +1,4 @@
 pub mod Sending
 pub mod Changes
 pub mod Rows
+pub mod Starting

@@ -41,6 +41,10 @@ module _ (b : CompiledModel) (h : IsCompiled b) (s : List ℕ) (state : IsState 
       (sym (same_Some k move.command sent.command)) names.2 sent.source names.3 in
       none ((stands_holds b h s state i names.0 cubes names.1 of_ways names.3).1 (subst (λ (x : Move). Holds b.model s x.guard) same sent.guard))
 
+-- the move that a command names by an equal model
+pub named_by : (m n : PlantModel) (s : List ℕ) (k i : ℕ) → n ≡ m → IsMoveNamed n.moves s k i → IsMoveNamed m.moves s k i
+named_by m n s k i same = subst (λ (x : PlantModel). IsMoveNamed x.moves s k i) same
+
 -- a command that names no move moves nothing
 pub unnamed : (m : PlantModel) (s : List ℕ) (k : ℕ) → ((i : ℕ) → IsMoveNamed m.moves s k i → ⊥) → NoneSent m s (Some k)
 unnamed m s k none move sent =

@@ -1,4 +1,4 @@
-use Rattle.std.proofs.Common.{◌≡◌, ◌+◌, ◌<◌, false, All, length, slice_get, Some, sym, ap, subst, ◌∙◌, arith}
+use Rattle.std.proofs.Common.{◌≡◌, ◌+◌, ◌<◌, ℕ, false, All, length, slice_get, Some, sym, ap, subst, ◌∙◌, arith}
 use Rattle.std.proofs.lemmas.Option.{get_or_from_slice_get}
 use Rattle.cca_base.specs.Accepted.{CompiledModel}
 use Rattle.reversibility.specs.ClassParts.{ClassParts, in_row}
@@ -22,27 +22,23 @@ set-requires c =
     let at : slice_get q.compiled.model.moves c.loop-i.i ≡ Some c.get.result.now = subst (λ l. slice_get l c.loop-i.i ≡ Some c.get.result.now) moves_are c.get.ensures.value in
     omega (arith, named_within q.compiled.model c.compiled-compiled.ensures.classes.compiled.accepted.well_formed c.loop-i.i c.get.result.now at, c.loop-i.invariant.full)
 
+-- the ways of the move name components alone
+ways_within : (c : goal.After-rows-then-get) (n : ℕ) → n ≡ length c.args.other.now.compiled.model.components → All (λ cube. All (λ p. p.item < n) cube) c.as_slice.result.now
+ways_within c n full =
+    let q : ClassParts = c.args.other.now in
+    let moves_are = c.moves-moves.ensures.value ∙ ap (λ z. z.moves) (c.model.ensures.value ∙ ap (λ z. z.model) c.compiled-compiled.ensures.value) in
+    let at : slice_get q.compiled.model.moves c.loop-i.i ≡ Some c.get.result.now = subst (λ l. slice_get l c.loop-i.i ≡ Some c.get.result.now) moves_are c.get.ensures.value in
+    let ways_at : slice_get q.compiled.ways c.loop-i.i ≡ Some c.get-then-get.result.now =
+    subst (λ l. slice_get l c.loop-i.i ≡ Some c.get-then-get.result.now) (c.ways.ensures.value ∙ ap (λ z. z.ways) c.compiled-compiled.ensures.value) c.get-then-get.ensures.value in
+    subst (All (λ cube. All (λ p. p.item < n) cube)) (sym c.as_slice.ensures)
+    (cubes_within q.compiled c.compiled-compiled.ensures.classes.compiled (in_row q.rows) c.loop-i.i c.get.result.now c.get-then-get.result.now at ways_at n full)
+
 pub agree-requires-clause-one : goal.agree-requires-clause-one
 agree-requires-clause-one c =
-    let q : ClassParts = c.args.other.now in
-    let moves_are = c.moves-moves.ensures.value ∙ ap (λ z. z.moves) (c.model.ensures.value ∙ ap (λ z. z.model) c.compiled-compiled.ensures.value) in
-    let at : slice_get q.compiled.model.moves c.loop-i.i ≡ Some c.get.result.now = subst (λ l. slice_get l c.loop-i.i ≡ Some c.get.result.now) moves_are c.get.ensures.value in
-    let ways_at : slice_get q.compiled.ways c.loop-i.i ≡ Some c.get-then-get.result.now =
-    subst (λ l. slice_get l c.loop-i.i ≡ Some c.get-then-get.result.now) (c.ways.ensures.value ∙ ap (λ z. z.ways) c.compiled-compiled.ensures.value) c.get-then-get.ensures.value in
-    subst (All (λ cube. All (λ p. p.item < length c.rows.result.now) cube)) (sym c.as_slice.ensures)
-    (cubes_within q.compiled c.compiled-compiled.ensures.classes.compiled (in_row q.rows) c.loop-i.i c.get.result.now c.get-then-get.result.now at ways_at (length c.rows.result.now)
-    (ap length c.rows.ensures.value ∙ c.rows.ensures.classes.rows_full ∙ ap (λ (b : CompiledModel). length b.model.components) c.requires))
+    ways_within c (length c.rows.result.now) (ap length c.rows.ensures.value ∙ c.rows.ensures.classes.rows_full ∙ ap (λ (b : CompiledModel). length b.model.components) c.requires)
 
 pub agree-requires-clause-other : goal.agree-requires-clause-other
-agree-requires-clause-other c =
-    let q : ClassParts = c.args.other.now in
-    let moves_are = c.moves-moves.ensures.value ∙ ap (λ z. z.moves) (c.model.ensures.value ∙ ap (λ z. z.model) c.compiled-compiled.ensures.value) in
-    let at : slice_get q.compiled.model.moves c.loop-i.i ≡ Some c.get.result.now = subst (λ l. slice_get l c.loop-i.i ≡ Some c.get.result.now) moves_are c.get.ensures.value in
-    let ways_at : slice_get q.compiled.ways c.loop-i.i ≡ Some c.get-then-get.result.now =
-    subst (λ l. slice_get l c.loop-i.i ≡ Some c.get-then-get.result.now) (c.ways.ensures.value ∙ ap (λ z. z.ways) c.compiled-compiled.ensures.value) c.get-then-get.ensures.value in
-    subst (All (λ cube. All (λ p. p.item < length c.rows-then-get.result.now) cube)) (sym c.as_slice.ensures)
-    (cubes_within q.compiled c.compiled-compiled.ensures.classes.compiled (in_row q.rows) c.loop-i.i c.get.result.now c.get-then-get.result.now at ways_at (length c.rows-then-get.result.now)
-    (ap length c.rows-then-get.ensures.value ∙ c.rows-then-get.ensures.classes.rows_full))
+agree-requires-clause-other c = ways_within c (length c.rows-then-get.result.now) (ap length c.rows-then-get.ensures.value ∙ c.rows-then-get.ensures.classes.rows_full)
 
 pub loop-i-preserved : goal.loop-i-preserved
 loop-i-preserved c =

@@ -1,8 +1,8 @@
-use Rattle.std.proofs.Common.{◌≡◌, ◌+◌, ◌∷◌, [], length, map, rc_value, sym, ap, subst, ◌∙◌, arith}
+use Rattle.std.proofs.Common.{◌+◌, ◌∷◌, [], length, map, rc_value, sym, ap, subst, ◌∙◌, arith}
 use Rattle.std.proofs.lemmas.List.{map-append}
 use Rattle.policy_tables.specs.Filling.{AreFilledTo, AreRightCells}
 use Rattle.reversibility.specs.ClassParts.{ClassParts}
-use Rattle.policy_tables.proofs.Filled.{filled_next, filled_all}
+use Rattle.policy_tables.proofs.Filled.{filled_next, filled_tables}
 use Rattle.policy_tables.proofs.tables.Tables.of.Goals as goal
 
 pub loop-c-preserved : goal.loop-c-preserved
@@ -13,7 +13,4 @@ loop-c-preserved c =
 
 pub invariant_of-result : goal.invariant_of-result
 invariant_of-result c =
-    let p : ClassParts = c.args.classes in
-    let all : c.loop-c.c ≡ length p.compiled.model.components =
-    omega (arith, c.loop-c.auto.c-end, c.loop-c-test.false, ap (λ l. length l) c.rows-n.ensures.value, c.rows-n.ensures.classes.rows_full) in
-    record { classes = c.rows-n.ensures.classes; cells = filled_all p (map rc_value c.loop-c.tables) c.loop-c.c all c.loop-c.invariant }
+    filled_tables c.args.classes (map rc_value c.loop-c.tables) c.loop-c.c c.rows-n.ensures.classes (omega (arith, c.loop-c.auto.c-end, c.loop-c-test.false, ap (λ l. length l) c.rows-n.ensures.value)) c.loop-c.invariant

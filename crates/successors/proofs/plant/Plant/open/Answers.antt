@@ -1,9 +1,8 @@
 use Rattle.std.proofs.Common.{length, sym, ap, subst, ◌∙◌, arith}
-use Rattle.std.proofs.lemmas.List.{length-map, take_all}
 use Rattle.cca_base.specs.PlantModel.{PlantModel}
-use Rattle.cca_base.specs.declared.model.Component.{Component}
-use Rattle.cca_base.specs.State.{IsState, start_modes}
+use Rattle.cca_base.specs.State.{IsState}
 use Rattle.cca_base.proofs.StartLaws.{start_state, starts_more}
+use Rattle.successors.proofs.Starting.{starts_all}
 use Rattle.successors.proofs.plant.Plant.open.Goals as goal
 
 pub loop-component-preserved : goal.loop-component-preserved
@@ -16,10 +15,8 @@ loop-component-preserved c =
 
 pub returns-clause-starts : goal.returns-clause-starts
 returns-clause-starts c =
-    let m = c.args.compiled.now.model in
     let items = c.as_slice-component-items.ensures ∙ c.components.ensures.value ∙ ap (λ (x : PlantModel). x.components) c.model.ensures.value in
-    c.loop-component.invariant
-    ∙ take_all c.loop-component.component-index (start_modes m) (omega (arith, c.loop-component-test.false, ap length items, length-map m.components (λ (x : Component). x.start)))
+    starts_all c.args.compiled.now.model c.loop-component.modes c.loop-component.component-index (omega (arith, c.loop-component-test.false, ap length items)) c.loop-component.invariant
 
 pub returns-clause-fits : goal.returns-clause-fits
 returns-clause-fits c =

@@ -1,9 +1,9 @@
 use Rattle.std.proofs.Common.{◌<◌, ◌+◌, ◌≤◌, length, take, sym, ap, subst, ◌∙◌, arith}
-use Rattle.std.proofs.lemmas.List.{length-map, length-set, take_all, take_more_set}
+use Rattle.std.proofs.lemmas.List.{length-set, take_all, take_more_set}
 use Rattle.cca_base.specs.PlantModel.{PlantModel}
-use Rattle.cca_base.specs.declared.model.Component.{Component}
-use Rattle.cca_base.specs.State.{IsState, start_modes}
+use Rattle.cca_base.specs.State.{IsState}
 use Rattle.cca_base.proofs.StartLaws.{start_state, starts_more}
+use Rattle.successors.proofs.Starting.{starts_all}
 use Rattle.successors.proofs.plant.Plant.reset.Goals as goal
 
 pub loop-at-preserved : goal.loop-at-preserved
@@ -23,13 +23,11 @@ loop-at-preserved c =
 
 pub returns-clause-starts : goal.returns-clause-starts
 returns-clause-starts c =
-    let m = c.args.compiled.now.model in
-    let i = c.loop-at.at in
     let modes = c.loop-at.self-inside.state.modes in
     let comps = c.components-components.ensures.value ∙ ap (λ (x : PlantModel). x.components) c.model.ensures.value in
-    let past : length m.components ≤ i = omega (arith, c.loop-at-test.false, c.len-at-end.ensures, ap length comps) in
+    let past : length c.args.compiled.now.model.components ≤ c.loop-at.at = omega (arith, c.loop-at-test.false, c.len-at-end.ensures, ap length comps) in
     let full = c.loop-at.invariant.full in
-    sym (take_all i modes (omega arith)) ∙ (c.loop-at.invariant.done ∙ take_all i (start_modes m) (omega (arith, length-map m.components (λ (x : Component). x.start))))
+    starts_all c.args.compiled.now.model modes c.loop-at.at past (sym (take_all c.loop-at.at modes (omega arith)) ∙ c.loop-at.invariant.done)
 
 pub returns-clause-fits : goal.returns-clause-fits
 returns-clause-fits c =
