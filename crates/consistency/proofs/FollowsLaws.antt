@@ -34,10 +34,10 @@ one_out sets clauses i clause below within is out xs inside = elim (cases_Bool (
   | inr unmet ↦ unmet
 ]
 
-pub settled_follows : (m : PlantModel) (modes : List Pair) (f : Formula) (rules denied : Clauses) (base : List ℕ) → AreWorldsOf m rules → AreDenying m f denied
+pub refuted_follows : (m : PlantModel) (modes : List Pair) (f : Formula) (rules denied : Clauses) (base : List ℕ) → AreWorldsOf m rules → AreDenying m f denied
     → IsBase rules.sizes (length m.components) modes [] base → All (λ p. HasMode m p.item p.value) modes
     → ((xs : List ℕ) → IsSolution rules.clauses base xs → all_met xs denied.clauses ≡ false) → Follows m modes f
-settled_follows m modes f rules denied base of denying b modes_in out s state extends w world =
+refuted_follows m modes f rules denied base of denying b modes_in out s state extends w world =
     let fits : FitsSeen m modes [] s w = record { state = state; extends = extends; world = world; agrees = All-nil (λ p. slice_get w p.item ≡ Some p.value) } in
     let solution = fits_solution m modes [] None rules base of b modes_in (All-nil (λ p. HasValue m p.item p.value)) s w state.full (record { fits = fits; denies = refl }) in
     shown (truth s w f) (sym (denying.meaning s w (state_values m s state) (world_values m s w world)) ∙ out (s ++ w) solution) where

@@ -1,6 +1,6 @@
 //! The backbone of a state's worlds: the values that all of them have. Some world gives each candidate. Where propagation leaves more
 //! than one value, another world is sought in which the candidate's is excluded, and which differs from the first wherever it can. Two
-//! worlds that differ on a variable show that it isn't forced, so that world settles others too.
+//! worlds that differ on a variable show that it isn't forced, so each world that is found settles others too.
 
 ghost use Rattle.std.specs.Prelude.{◌≡◌, ◌≤◌, ℕ, List, length, slice_index, All, IfOk};
 ghost use Rattle.cca_base.specs.State.{HasValue, HasWorld, IsState};

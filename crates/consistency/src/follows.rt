@@ -7,7 +7,7 @@ ghost use Rattle.cca_base.specs.State.{Follows};
 ghost use Rattle.consistency.specs.Worlds.{AreWorldsOf};
 
 use crate::base::model_base;
-use crate::settled::is_settled;
+use crate::refuted::is_refuted;
 use crate::worlds::Worlds;
 use cca_base::{Cube, Formula, Model};
 use clause_form::denied_clauses;
@@ -31,7 +31,7 @@ impl Worlds {
         let denied = denied_clauses(alloc, model, formula)?;
         let base = model_base(alloc, model, &self.rules, modes.as_slice(), &[])?;
         let denied = denied.clauses.as_slice();
-        if is_settled(alloc, &self.rules, base.as_slice(), denied)? {
+        if is_refuted(alloc, &self.rules, base.as_slice(), denied)? {
             return Ok(true);
         }
         match self.find_counter(alloc, model, modes, formula)? {

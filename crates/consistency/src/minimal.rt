@@ -1,5 +1,5 @@
-//! A minimal clash of a state, by deletion over a core. Each pair of the core is left out once: it is kept where some state that
-//! extends the others has a world that agrees, and else only the pairs of their core go on.
+//! A minimal clash of a state, by deletion over a core. One pair after the other is left out: it is kept where some state that extends
+//! the others has a world that agrees, and else only the pairs of their core go on.
 
 ghost use Rattle.std.specs.Prelude.{◌≡◌, ◌↔◌, ℕ, List, All, IfOk, IfSome, IsNone};
 ghost use Rattle.cca_base.specs.Cube.{IsCube, IsPart};

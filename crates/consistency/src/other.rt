@@ -49,7 +49,7 @@ fn excluded(
 }
 
 /// What propagation leaves of the sets, one of which has lost one value.
-fn settled(
+fn left_without(
     alloc: Global,
     problem: &Problem,
     sets: &[ValueSet],
@@ -94,6 +94,6 @@ pub fn other_solution(
         return Ok(None);
     }
     let narrower = excluded(alloc, base, subject, value)?;
-    let left = settled(alloc, problem, sets, subject, value)?;
+    let left = left_without(alloc, problem, sets, subject, value)?;
     solution_apart(alloc, problem, narrower.as_slice(), left.as_slice(), values)
 }

@@ -87,8 +87,8 @@ impl Checker {
         self.standing.ticks
     }
 
-    /// The verdict on a printed tick by the clauses of the model's rules, which are made once for many ticks: `Yes` exactly where all tests pass, and else `No` with the least reason whose test fails.
-    /// The error is out of memory.
+    /// The verdict on a printed tick by the clauses of the model's rules, which are made once for many ticks: `Yes` exactly where all
+    /// tests pass, and else `No` with the least reason whose test fails. The error is out of memory.
     pub fn check_tick_by(
         &mut self,
         model: &Model,

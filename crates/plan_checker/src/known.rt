@@ -1,4 +1,4 @@
-//! What the modes that a move may lean on say alone of its guard, so that most guards need no search.
+//! What the modes that a move may lean on say by themselves of its guard, so that most guards need no search.
 
 ghost use Rattle.std.specs.Prelude.{◌≡◌, ◌↔◌, ℕ, List, IsTrue, IfSome, Some, slice_get};
 ghost use Rattle.cca_base.specs.declared.cube.Pair.{Pair};

@@ -8,7 +8,7 @@ use Rattle.consistency.specs.Found.{Counters, IsFirstFound}
 use Rattle.consistency.specs.Problem.{clauses_in}
 use Rattle.consistency.specs.Search.{IsSolution}
 use Rattle.consistency.specs.Worlds.{AreWorldsOf}
-use Rattle.consistency.proofs.FollowsLaws.{settled_follows}
+use Rattle.consistency.proofs.FollowsLaws.{refuted_follows}
 use Rattle.consistency.proofs.worlds.Worlds.follows.Goals as goal
 
 pub returns-then-branch : goal.returns-then-branch
@@ -19,9 +19,9 @@ returns-then-branch c =
     let base = c.in_ok-base.base.items in
     let of : AreWorldsOf m rules = subst (AreWorldsOf m) (sym c.self.view_is) c.requires.of in
     let out : (xs : List ℕ) → IsSolution rules.clauses base xs → all_met xs denied.clauses ≡ false = λ xs solution. rw (← c.as_slice-denied.ensures)
-    (c.in_ok-is_settled.ensures c.if-branch.true xs (subst (λ (b : List ℕ). IsSolution rules.clauses b xs) (sym c.as_slice-2.ensures.value) solution)) in
+    (c.in_ok-is_refuted.ensures c.if-branch.true xs (subst (λ (b : List ℕ). IsSolution rules.clauses b xs) (sym c.as_slice-2.ensures.value) solution)) in
     let follows : Follows m c.as_slice.result.now c.args.formula.now =
-    settled_follows m c.as_slice.result.now c.args.formula.now rules denied base of c.in_ok-denied.ensures c.in_ok-base.ensures.base (rw c.as_slice.ensures.pairs c.requires.modes) out in
+    refuted_follows m c.as_slice.result.now c.args.formula.now rules denied base of c.in_ok-denied.ensures c.in_ok-base.ensures.base (rw c.as_slice.ensures.pairs c.requires.modes) out in
     ((λ _. subst (λ (pairs : List Pair). Follows m pairs c.args.formula.now) c.as_slice.ensures.pairs follows), (λ _. refl))
 
 pub returns-in-Some : goal.returns-in-Some

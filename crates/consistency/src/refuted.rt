@@ -1,5 +1,5 @@
-//! Whether propagation alone shows that clauses can't be met beside those of a problem: by the sets as they are given, then by the
-//! problem's clauses that speak of the same subjects, and at last by all of them.
+//! Whether propagation alone shows that clauses can't be met beside those of a problem: by the sets as they are given, then outward from
+//! the problem's clauses that speak of the same subjects, and at last by all of them.
 
 ghost use Rattle.std.specs.Prelude.{◌≡◌, ℕ, List, false, length, IfOk, IsTrue};
 ghost use Rattle.clause_form.specs.Clauses.{AllBelow, all_met};
@@ -30,6 +30,7 @@ fn is_out(clauses: &[Clause], sets: &[ValueSet]) -> bool
     false
 }
 
+/// Adds the subjects of the clause.
 fn push_subjects(clause: &Clause, subjects: &mut Vec<u16>) -> Result<(), AllocError> {
     for literal in clause.literals.as_slice() {
         subjects.push(literal.subject)?;
@@ -46,7 +47,8 @@ fn subjects_of(alloc: Global, clauses: &[Clause]) -> Result<Vec<u16>, AllocError
     Ok(subjects)
 }
 
-/// Whether the sets, or the clauses that speak of the same subjects, show that no solution meets the clauses. A no says nothing.
+/// Whether the sets show that no solution meets the clauses, as they are or after the clauses that speak of the same subjects and of what
+/// these change. A no says nothing.
 fn is_out_nearby(
     alloc: Global,
     problem: &Problem,
@@ -69,7 +71,7 @@ fn is_out_nearby(
 }
 
 /// Whether propagation shows that no solution meets the clauses. A no says nothing.
-pub fn is_settled(
+pub fn is_refuted(
     alloc: Global,
     problem: &Problem,
     base: &[ValueSet],

@@ -2,7 +2,7 @@ use Rattle.std.proofs.Common.{List, length, subst}
 use Rattle.clause_form.specs.declared.clause.Literal.{Literal}
 use Rattle.consistency.specs.Bounds.{OthersOut}
 use Rattle.consistency.proofs.FollowsLaws.{one_out}
-use Rattle.consistency.proofs.settled.is_out.Goals as goal
+use Rattle.consistency.proofs.refuted.is_out.Goals as goal
 
 pub returns-in-loop-clause : goal.returns-in-loop-clause
 returns-in-loop-clause c _ =
