@@ -27,10 +27,10 @@ pub all_of-parts : (parts : List Formula) → TheVariants.All parts ≡ all_of p
 unfolding formula.roll-Formula denote.Hole.Carrier.roll
 all_of-parts parts = refl
 
-truth-all_of : (s w : List ℕ) (parts : List Formula) → truth s w (all_of parts) ≡ list_all (λ b. b) (map (truth s w) parts)
+pub truth-all_of : (s w : List ℕ) (parts : List Formula) → truth s w (all_of parts) ≡ list_all (λ b. b) (map (truth s w) parts)
 truth-all_of s w parts = fold-roll-Formula Bool (truth_step s w) (Formula-F.All parts)
 
-one_more : (parts : List Formula) (part : Formula) → IsConjunction (all_of parts) part (all_of (parts ++ part ∷ []))
+pub one_more : (parts : List Formula) (part : Formula) → IsConjunction (all_of parts) part (all_of (parts ++ part ∷ []))
 one_more parts part s w =
     let t : Formula → Bool = truth s w in
     truth-all_of s w (parts ++ part ∷ []) ∙ ap (list_all (λ b. b)) (map_push t parts part) ∙ list_all-append (λ b. b) (map t parts) (t part ∷ [])
@@ -66,16 +66,16 @@ no_parts m move = record {
 pub ways_rise : (m : PlantModel) (move : Move) (cubes : List (List Pair)) → AreWays m move cubes → All IsRising cubes
 ways_rise m move cubes ways = all_from IsRising cubes (λ cube among. ((ways.each cube).0 among).rising)
 
--- with the next part
-pub parts_next : (m : PlantModel) (move : Move) (parts : List Formula) (i : ℕ) (part : Formula) (old new : List (List Pair)) → i < length parts → part ≡ get_or parts i part
-    → AreWays m (with_guard move (all_of (take i parts))) old → AddsPart m move part old new → AreWays m (with_guard move (all_of (take (i + 1) parts))) new
-parts_next m move parts i part old new l at before adds =
-    let more : take i parts ++ part ∷ [] ≡ take (i + 1) parts = ap (λ z. take i parts ++ z ∷ []) at ∙ sym (take_more parts i part l) in
-    subst (λ z. AreWays m (with_guard move (all_of z)) new) more (adds (take i parts) before)
+-- cubes that are of some parts, with the next part and with all: by what it is to be of a formula
+module _ (Are : Formula → List (List Pair) → Type 0) (parts : List Formula) where
+  pub parts_next : (i : ℕ) (part : Formula) (old new : List (List Pair)) → i < length parts → part ≡ get_or parts i part
+      → Are (all_of (take i parts)) old → ((some : List Formula) → Are (all_of some) old → Are (all_of (some ++ part ∷ [])) new) → Are (all_of (take (i + 1) parts)) new
+  parts_next i part old new l at before adds =
+      let more : take i parts ++ part ∷ [] ≡ take (i + 1) parts = ap (λ z. take i parts ++ z ∷ []) at ∙ sym (take_more parts i part l) in
+      subst (λ z. Are (all_of z) new) more (adds (take i parts) before)
 
-pub parts_all : (m : PlantModel) (move : Move) (parts : List Formula) (n : ℕ) (cubes : List (List Pair)) → length parts ≤ n
-    → AreWays m (with_guard move (all_of (take n parts))) cubes → AreWays m (with_guard move (all_of parts)) cubes
-parts_all m move parts n cubes l ways = subst (λ z. AreWays m (with_guard move (all_of z)) cubes) (take_all n parts l) ways
+  pub parts_all : (n : ℕ) (cubes : List (List Pair)) → length parts ≤ n → Are (all_of (take n parts)) cubes → Are (all_of parts) cubes
+  parts_all n cubes l ways = subst (λ z. Are (all_of z) cubes) (take_all n parts l) ways
 
 -- parts of what is within are
 pub parts_within : (components variables : ℕ) (parts : List Formula) → is_within components variables (all_of parts) ≡ true → All (λ part. is_within components variables part ≡ true) parts

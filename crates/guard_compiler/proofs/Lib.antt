@@ -10,5 +10,8 @@ pub mod Subsequences
 pub mod Merged
 pub mod KeptCubes
 pub mod LeastUnionLaws
+pub mod ConjunctionCubes
 pub mod ConjunctionWays
 pub mod GuardParts
+pub mod WishMeaning
+pub mod WishParts

@@ -125,7 +125,7 @@ not_both true t n = cc
 not_both false t n = cc
 
 -- every rule is true, and the guard is false
-false_in : (m : PlantModel) (guard : Formula) (s w : List ℕ) → AreValues (value_counts m) w → is_asked m None (Some guard) s w ≡ true → IsWorld m s w × (truth s w guard ≡ true → ⊥)
+pub false_in : (m : PlantModel) (guard : Formula) (s w : List ℕ) → AreValues (value_counts m) w → is_asked m None (Some guard) s w ≡ true → IsWorld m s w × (truth s w guard ≡ true → ⊥)
 false_in m guard s w v asked =
     let long = length-map m.variables (λ v. length v.values) in
     let parts = and_parts (list_all (truth s w) m.rules && true) (not (truth s w guard)) asked in
@@ -137,7 +137,7 @@ false_in m guard s w v asked =
 all_true : (a b : Bool) → a ≡ true → b ≡ false → ((a && true) && not b) ≡ true
 all_true a b e f = rw (e, f) refl
 
-asked_of : (m : PlantModel) (guard : Formula) (s w : List ℕ) → IsWorld m s w → truth s w guard ≡ false → AreValues (value_counts m) w × (is_asked m None (Some guard) s w ≡ true)
+pub asked_of : (m : PlantModel) (guard : Formula) (s w : List ℕ) → IsWorld m s w → truth s w guard ≡ false → AreValues (value_counts m) w × (is_asked m None (Some guard) s w ≡ true)
 asked_of m guard s w k f =
     let long = length-map m.variables (λ v. length v.values) in (
       record { full = k.full ∙ sym long; values = λ i h. k.values i (omega (arith, long)) },
@@ -264,7 +264,7 @@ all_ways m move states most cubes of a = record {
   each = λ cube. ((λ h. implicant_of m move states cube of ((a.each cube).0 h)), (λ f. (a.each cube).1 (prime_of m move states cube of f)));
 }
 
-more_cubes : (P Q : List Pair → Type 0) (most : ℕ) → ((cube : List Pair) → P cube → Q cube) → AreMoreCubes most P → AreMoreCubes most Q
+pub more_cubes : (P Q : List Pair → Type 0) (most : ℕ) → ((cube : List Pair) → P cube → Q cube) → AreMoreCubes most P → AreMoreCubes most Q
 more_cubes P Q most then a = record { cubes = a.cubes; in_order = a.in_order; each = All-weaker P Q then a.cubes a.each; many = a.many }
 
 pub many_ways : (m : PlantModel) (move : Move) (states : Clauses) → AreStatesOf m move states → AreMorePrimes states MAX_WAYS ↔ HasManyWays m move

@@ -1,4 +1,4 @@
--- Guards that are true where two formulas are.
+-- Guards and wishes that are true where two formulas are.
 use Rattle.std.specs.Prelude.{◌≡◌, ◌&&◌, ◌++◌, ◌∷◌, [], ℕ, List}
 use Rattle.cca_base.specs.declared.cube.Pair.{Pair}
 use Rattle.cca_base.specs.declared.formula.Formula.{Formula, roll-Formula}
@@ -7,6 +7,7 @@ use Rattle.cca_base.specs.declared.model.Move.{Move}
 use Rattle.cca_base.specs.PlantModel.{PlantModel}
 use Rattle.cca_base.specs.Formula.{truth}
 use Rattle.cca_base.specs.Accepted.{AreWays}
+use Rattle.guard_compiler.specs.Wishes.{AreImplicants}
 
 -- the move with another guard
 abbrev pub with_guard : Move → Formula → Move
@@ -28,3 +29,7 @@ AreWaysOfBoth firsts seconds cubes = (m : PlantModel) (move : Move) (first secon
 -- the cubes before and after one more part: if they were the prime implicants of some parts, they are those of all
 abbrev pub AddsPart : PlantModel → Move → Formula → List (List Pair) → List (List Pair) → Type 0
 AddsPart m move part old new = (parts : List Formula) → AreWays m (with_guard move (all_of parts)) old → AreWays m (with_guard move (all_of (parts ++ part ∷ []))) new
+
+-- the same of a formula's implicants
+abbrev pub AddsWish : PlantModel → Formula → List (List Pair) → List (List Pair) → Type 0
+AddsWish m part old new = (parts : List Formula) → AreImplicants m (all_of parts) old → AreImplicants m (all_of (parts ++ part ∷ [])) new

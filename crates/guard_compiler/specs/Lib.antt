@@ -10,3 +10,4 @@ pub mod Rules
 pub mod Shared
 pub mod Ways
 pub mod Worlds
+pub mod Wishes

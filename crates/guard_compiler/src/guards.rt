@@ -22,7 +22,7 @@ use prime_implicants::{Primes, primes};
 use std::alloc::{AllocError, Global};
 
 /// Clauses that can be met with the modes of a state exactly where a world of the state has the guard false.
-fn asked_of(
+pub(crate) fn asked_of(
     alloc: Global,
     model: &Model,
     rules: &List<RuleClause>,

@@ -25,10 +25,11 @@ loop-part-preserved c =
     let parts = c.args.parts.now in
     let adds : AddsPart m move c.part-item.result c.as_slice.result.now c.in-Some.more = rw c.in-Some.is at (c.in_ok-more.ensures {u = tt}).ways in
     record {
-      ways = parts_next m move parts c.loop-part.part-index c.part-item.result c.loop-part.cubes c.in-Some.more (omega arith) c.part-item.is c.loop-part.invariant.ways
+      ways = parts_next (λ f cubes. AreWays m (with_guard move f) cubes) parts c.loop-part.part-index c.part-item.result c.loop-part.cubes c.in-Some.more (omega arith) c.part-item.is c.loop-part.invariant.ways
           (subst (λ z. AddsPart m move c.part-item.result z c.in-Some.more) c.as_slice.ensures adds);
       few = rw c.in-Some.is at (c.in_ok-more.ensures {u = tt}).few;
     }
 
 pub returns-clause-ways : goal.returns-clause-ways
-returns-clause-ways c = parts_all c.args.model.now c.args.the_move.now c.args.parts.now c.loop-part.part-index c.loop-part.cubes (omega arith) c.loop-part.invariant.ways
+returns-clause-ways c =
+    parts_all (λ f cubes. AreWays c.args.model.now (with_guard c.args.the_move.now f) cubes) c.args.parts.now c.loop-part.part-index c.loop-part.cubes (omega arith) c.loop-part.invariant.ways
