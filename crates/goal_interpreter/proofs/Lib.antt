@@ -1,0 +1,7 @@
+pub mod WeightLaws
+pub mod LightModes
+pub mod Candidates
+pub mod Choices
+pub mod SoundGoals
+pub mod Interpreted
+pub mod OneAnswer

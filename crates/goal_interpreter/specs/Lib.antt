@@ -1,0 +1,4 @@
+pub mod Weights
+pub mod Targets
+pub mod Laws
+pub mod Choosing
