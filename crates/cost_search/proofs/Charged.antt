@@ -14,17 +14,17 @@ use Rattle.cca_base.specs.declared.choice.Choice.{Choice}
 use Rattle.cost_search.specs.Search.{IsUncut}
 use Rattle.cost_search.specs.SearchParts.{head_of, heads, nothing, row_at}
 use Rattle.cost_search.specs.Queue.{modes_of, cost_of}
-use Rattle.cost_search.specs.Bounds.{IsBound, IsSome, IsStep, IsFree, IsHeld, Spends, charged}
+use Rattle.cost_search.specs.Bounds.{IsPartBound, HasLeastFirst, IsStep, IsFree, IsHeld, Spends, charged}
 
 -- one choice pays for what it is charged
-pays : (row : List Choice) (x : Choice) (step : ℕ) → IsSome row → IsStep row step → Contains row x
+pays : (row : List Choice) (x : Choice) (step : ℕ) → HasLeastFirst row → IsStep row step → Contains row x
     → (head_of row).cost + cond (x.mode == (head_of row).mode) 0 step ≤ x.cost
 pays row x step some is among = elim (eqb_tells x.mode (head_of row).mode) [
   | inl same ↦ omega (arith, some.least x among, cond-true (x.mode == (head_of row).mode) 0 step same.0)
   | inr other ↦ omega (arith, is x among other.1, cond-false (x.mode == (head_of row).mode) 0 step other.0)
 ]
 
-steps_pay : (b : List (List Choice)) (steps : List ℕ) (picks : List Choice) → All IsSome b → AllZip IsStep b steps → AllZip Contains b picks
+steps_pay : (b : List (List Choice)) (steps : List ℕ) (picks : List Choice) → All HasLeastFirst b → AllZip IsStep b steps → AllZip Contains b picks
     → cost_of (heads b) + charged b picks steps ≤ cost_of picks
 steps_pay [] steps [] some is each = omega arith
 steps_pay [] steps (x ∷ picks) some is each = absurd each
@@ -33,14 +33,14 @@ steps_pay (row ∷ b) (n ∷ steps) [] some is each = absurd each
 steps_pay (row ∷ b) (n ∷ steps) (x ∷ picks) some is each =
     omega (
       arith,
-      pays row x n (All-head IsSome row b some) is.0 each.0,
-      steps_pay b steps picks (All-tail IsSome row b some) is.1 each.1,
+      pays row x n (All-head HasLeastFirst row b some) is.0 each.0,
+      steps_pay b steps picks (All-tail HasLeastFirst row b some) is.1 each.1,
       sum_by-cons (λ (z : Choice). z.cost) (head_of row) (heads b),
       sum_by-cons (λ (z : Choice). z.cost) x picks,
     )
 
-pub affords_steps : (b : List (List Choice)) (cuts : List (List Pair)) (steps : List ℕ) → All IsSome b → AllZip IsStep b steps
-    → IsBound b cuts (cost_of (heads b)) steps
+pub affords_steps : (b : List (List Choice)) (cuts : List (List Pair)) (steps : List ℕ) → All HasLeastFirst b → AllZip IsStep b steps
+    → IsPartBound b cuts (cost_of (heads b)) steps
 affords_steps b cuts steps some is picks each uncut = steps_pay b steps picks some is each
 
 -- ---- what is taken from the charges
@@ -146,7 +146,7 @@ pub uncut_at : (cuts : List (List Pair)) (cube : List Pair) (s : List ℕ) → I
 uncut_at cuts cube s uncut among = All-contains (λ (z : List Pair). Extends s z → ⊥) cuts cube uncut among
 
 pub affords_more : (b : List (List Choice)) (cuts : List (List Pair)) (cube : List Pair) (total amount : ℕ) (old new : List ℕ)
-    → IsBound b cuts total old → Contains cuts cube → IsHeld b cube → Spends b cube amount old new → IsBound b cuts (total + amount) new
+    → IsPartBound b cuts total old → Contains cuts cube → IsHeld b cube → Spends b cube amount old new → IsPartBound b cuts (total + amount) new
 affords_more b cuts cube total amount old new bound among held s picks each uncut =
     omega (arith, bound picks each uncut, spend b cube amount old new picks held s each (uncut_at cuts cube (modes_of picks) uncut among))
 

@@ -13,7 +13,7 @@ use Rattle.cca_base.specs.Choices.{IsRow, choice_cmp}
 use Rattle.cca_base.specs.declared.choice.Choice.{Choice}
 use Rattle.cost_search.specs.declared.part.Span.{Span}
 use Rattle.cost_search.specs.SearchParts.{nothing, box, IsSpan}
-use Rattle.cost_search.specs.Bounds.{IsSome, IsStep}
+use Rattle.cost_search.specs.Bounds.{HasLeastFirst, IsStep}
 use Rattle.cost_search.proofs.Ranks.{nat_less, then_cases}
 
 cost_rises : (x y : Choice) → choice_cmp x y ≡ Less → x.cost ≤ y.cost
@@ -26,7 +26,7 @@ later_dearer : (x : Choice) (row : List Choice) (y : Choice) → IsRow (x ∷ ro
 later_dearer x row y is there =
     cost_rises x y (All-contains (λ (z : Choice). choice_cmp x z ≡ Less) row y (AllPairs-head (λ a b. choice_cmp a b ≡ Less) x row is.rising) there)
 
-row_some : (row : List Choice) → IsRow row → 0 < length row → IsSome row
+row_some : (row : List Choice) → IsRow row → 0 < length row → HasLeastFirst row
 row_some [] is h = absurd (omega arith)
 row_some (x ∷ row) is h = record {
   some = h;
@@ -102,13 +102,13 @@ range_step row from to x y is more within is_x is_y =
     subst (λ (u : Choice). IsStep r (u.cost - x.cost)) second (subst (λ (u : Choice). IsStep r ((get_or r 1 nothing).cost - u.cost)) first (second_step r (range_row row from to is) long))
 
 -- each row of a part has a first choice, which is cheapest
-pub box_some : (rows : List (List Choice)) (spans : List Span) → All IsRow rows → AllZip IsSpan rows spans → All IsSome (box rows spans)
-box_some [] [] each h = All-nil IsSome
+pub box_some : (rows : List (List Choice)) (spans : List Span) → All IsRow rows → AllZip IsSpan rows spans → All HasLeastFirst (box rows spans)
+box_some [] [] each h = All-nil HasLeastFirst
 box_some [] (s ∷ spans) each h = absurd h
 box_some (row ∷ rows) [] each h = absurd h
 box_some (row ∷ rows) (s ∷ spans) each h =
     let some = h.0.some in
     let within = h.0.within in
-    All-cons IsSome (slice_range row s.from s.to) (box rows spans)
+    All-cons HasLeastFirst (slice_range row s.from s.to) (box rows spans)
     (row_some (slice_range row s.from s.to) (range_row row s.from s.to (All-head IsRow row rows each)) (omega (arith, length-take (s.to - s.from) (drop s.from row), length-drop s.from row)))
     (box_some rows spans (All-tail IsRow row rows each) h.1)

@@ -1,15 +1,16 @@
 -- What cuts take from what is left.
-use Rattle.std.proofs.Common.{slice_get, ◌≡◌, inl, inr, ℕ, zero, suc, Bool, true, false, ◌+◌, ◌-◌, ◌<◌, ◌≤◌, List, [], ◌∷◌, ◌++◌, ◌⊎◌, Option, Some, None, All, IfSome, length, take, get_or, set, sym, ap, subst, ◌∙◌, arith}
+use Rattle.std.proofs.Common.{slice_get, ◌≡◌, inl, inr, ℕ, zero, suc, Bool, true, false, ◌+◌, ◌-◌, ◌<◌, ◌≤◌, List, [], ◌∷◌, ◌++◌, ◌⊎◌, Option, Some, None, All, Contains, IfSome, length, take, get_or, set, refl, sym, ap, subst, ◌∙◌, arith}
 use Rattle.std.specs.List.{AllZip}
 use Rattle.std.proofs.lemmas.Bool.{false≢true}
 use Rattle.std.proofs.lemmas.Option.{same_Some, none-some, slice_get_within}
 use Rattle.std.proofs.lemmas.Bool.Decides.{eqb_tells}
-use Rattle.std.proofs.lemmas.List.{get_or-set_same, get_or-set_other}
-use Rattle.std.proofs.lemmas.List.Elements.{All-nil, All-weaker, All-more}
+use Rattle.std.proofs.lemmas.List.{get_or-set_same, get_or-set_other, take_more}
+use Rattle.std.proofs.lemmas.List.Elements.{All-nil, All-weaker, All-contains, All-more}
 use Rattle.cca_base.specs.declared.cube.Pair.{Pair}
 use Rattle.cca_base.specs.State.{Extends}
 use Rattle.cca_base.specs.declared.choice.Choice.{Choice}
-use Rattle.cost_search.specs.Bounds.{AreFree, HasLeft, HasPaid, IsFixed, IsFree, IsLeastLeft, IsTaken, Spends}
+use Rattle.cost_search.proofs.Stacks.{contains_last, contains_old}
+use Rattle.cost_search.specs.Bounds.{AreFree, HasLeft, HasPaid, IsFixed, IsFree, IsLeastLeft, IsTaken, NamesComponent, Spends}
 
 all_same : (xs : List ℕ) → AllZip (λ a n. n ≤ a) xs xs
 all_same [] = tt
@@ -79,11 +80,26 @@ zip_push R (a ∷ xs) (b ∷ ys) x y h r = (h.0, zip_push R xs ys x y h.1 r)
 
 -- ---- the free component that has the least left
 
+longer : (cube : List Pair) (k : ℕ) → k < length cube → take (k + 1) cube ≡ take k cube ++ get_or cube k no_pair ∷ []
+longer cube k within = take_more cube k no_pair within
+
+pub names_more : (cube : List Pair) (k c : ℕ) → k < length cube → NamesComponent (take k cube) c → NamesComponent (take (k + 1) cube) c
+names_more cube k c within (p, among, is) = (p, subst (λ l. Contains l p) (sym (longer cube k within)) (contains_old (take k cube) (get_or cube k no_pair) p among), is)
+
+pub names_here : (cube : List Pair) (k : ℕ) → k < length cube → NamesComponent (take (k + 1) cube) (item_at cube k)
+names_here cube k within =
+    let p = get_or cube k no_pair in
+    (p, subst (λ l. Contains l p) (sym (longer cube k within)) (contains_last (take k cube) p), refl)
+
+-- not each component of a cube that names a free one is fixed
+pub some_free : (b : List (List Choice)) (cube : List Pair) (c : ℕ) → NamesComponent cube c → IsFree b c → All (λ p. IsFree b p.item → ⊥) cube → ⊥
+some_free b cube c (p, among, is) free fixed = All-contains (λ q. IsFree b q.item → ⊥) cube p fixed among (subst (IsFree b) (sym is) free)
+
 pub least_passes : (free : List Bool) (left : List ℕ) (cube : List Pair) (k : ℕ) (least : Option ℕ) → k < length cube → get_or free (item_at cube k) false ≡ false
     → IsLeastLeft free left (take k cube) least → IsLeastLeft free left (take (k + 1) cube) least
 least_passes free left cube k None within fixed h = All-more (IsFixed free) cube k no_pair within h fixed
 least_passes free left cube k (Some c) within fixed h =
-    (h.0, h.1, All-more (HasLeft free left (get_or left c 0)) cube k no_pair within h.2 (λ e. absurd (false≢true (sym fixed ∙ e))))
+    (h.0, h.1, names_more cube k c within h.2, All-more (HasLeft free left (get_or left c 0)) cube k no_pair within h.3 (λ e. absurd (false≢true (sym fixed ∙ e))))
 
 pub least_takes : (free : List Bool) (left : List ℕ) (cube : List Pair) (k : ℕ) (least : Option ℕ) (r : ℕ) → k < length cube → item_at cube k < length left
     → get_or free (item_at cube k) false ≡ true → IsLeastLeft free left (take k cube) least → (r ≡ item_at cube k) ⊎ (least ≡ Some r) → get_or left r 0 ≤ get_or left (item_at cube k) 0
@@ -93,6 +109,7 @@ least_takes free left cube k None r within inside freed h which le known =
       | inl e ↦ (
         subst (λ n. n < length left) (sym e) inside,
         subst (λ n. get_or free n false ≡ true) (sym e) freed,
+        subst (NamesComponent (take (k + 1) cube)) (sym e) (names_here cube k within),
         All-more (HasLeft free left (get_or left r 0)) cube k no_pair within
             (All-weaker (IsFixed free) (HasLeft free left (get_or left r 0)) (λ q fixed e2. absurd (false≢true (sym fixed ∙ e2))) (take k cube) h)
             (λ e2. le),
@@ -102,11 +119,11 @@ least_takes free left cube k None r within inside freed h which le known =
 least_takes free left cube k (Some c) r within inside freed h which le known =
     let each : All (HasLeft free left (get_or left r 0)) (take (k + 1) cube) =
     All-more (HasLeft free left (get_or left r 0)) cube k no_pair within
-    (All-weaker (HasLeft free left (get_or left c 0)) (HasLeft free left (get_or left r 0)) (λ q has e2. omega (arith, has e2, known)) (take k cube) h.2)
+    (All-weaker (HasLeft free left (get_or left c 0)) (HasLeft free left (get_or left r 0)) (λ q has e2. omega (arith, has e2, known)) (take k cube) h.3)
     (λ e2. le) in
     elim which [
-      | inl e ↦ (subst (λ n. n < length left) (sym e) inside, subst (λ n. get_or free n false ≡ true) (sym e) freed, each)
-      | inr e ↦ let same = same_Some c r e in (subst (λ n. n < length left) same h.0, subst (λ n. get_or free n false ≡ true) same h.1, each)
+      | inl e ↦ (subst (λ n. n < length left) (sym e) inside, subst (λ n. get_or free n false ≡ true) (sym e) freed, subst (NamesComponent (take (k + 1) cube)) (sym e) (names_here cube k within), each)
+      | inr e ↦ let same = same_Some c r e in (subst (λ n. n < length left) same h.0, subst (λ n. get_or free n false ≡ true) same h.1, subst (NamesComponent (take (k + 1) cube)) same (names_more cube k c within h.2), each)
     ]
 
 -- ---- a held cut takes its amount

@@ -1,18 +1,18 @@
 -- A stack of parts.
-use Rattle.std.proofs.Common.{◌≡◌, ◌⊎◌, inl, inr, ℕ, ◌+◌, ◌-◌, ◌*◌, ◌<◌, ◌≤◌, List, [], ◌∷◌, ◌++◌, length, take, drop, set, Contains, All, refl, sym, ap, subst, arith}
+use Rattle.std.proofs.Common.{◌≡◌, ◌⊎◌, inl, inr, ℕ, ◌+◌, ◌-◌, ◌*◌, ◌<◌, ◌≤◌, List, [], ◌∷◌, ◌++◌, length, Contains, All, refl, sym, ap, subst, arith}
 use Rattle.std.specs.List.{AllZip}
 use Rattle.std.proofs.lemmas.List.Sums.{sum_by_push}
 use Rattle.std.proofs.lemmas.List.Elements.{All-push}
 use Rattle.cca_base.proofs.Members.{contains_cases, contains_here, contains_there, contains_none}
 use Rattle.cca_base.specs.declared.choice.Choice.{Choice}
 use Rattle.cost_search.specs.declared.part.Part.{Part}
-use Rattle.cost_search.specs.SearchParts.{IsIn, IsPart, box_of, row_at, size}
-use Rattle.cost_search.specs.Pending.{IsHalved, IsPending, IsSettled, weights}
+use Rattle.cost_search.specs.SearchParts.{IsIn, IsPart, box_of, size}
+use Rattle.cost_search.specs.Pending.{AreHalves, IsPending, IsSettled, weights}
 use Rattle.cost_search.specs.Queue.{cost_of}
-use Rattle.cost_search.proofs.Boxes.{picks-split, size-split, rows-some}
+use Rattle.cost_search.proofs.Boxes.{length-box, picks-split, size-split, spans-long, rows-some}
 use Rattle.cost_search.proofs.Splits.{size-pos}
 
-contains_old : {X : Type 0} (xs : List X) (x y : X) → Contains xs y → Contains (xs ++ x ∷ []) y
+pub contains_old : {X : Type 0} (xs : List X) (x y : X) → Contains xs y → Contains (xs ++ x ∷ []) y
 contains_old [] x y h = absurd (contains_none y h)
 contains_old (z ∷ xs) x y h = elim (contains_cases z y xs h) [
   | inl e ↦ contains_here z y (xs ++ x ∷ []) e
@@ -51,6 +51,12 @@ in_pushed rows parts p picks (q, among, inside) = elim (contains_pushed parts p 
   | inr e ↦ inr (subst (λ (z : Part). AllZip Contains (box_of rows z) picks) (sym e) inside)
 ]
 
+-- the halves of a part stand on the others: no state is lost, and the weights fall
+pub record IsHalved (rows : List (List Choice)) (part : Part) (old new : List Part) : Type 0 where
+  pub each : All (IsPart rows) new
+  pub covers : (picks : List Choice) → AllZip Contains (box_of rows part) picks ⊎ IsIn rows old picks → IsIn rows new picks
+  pub fewer : weights rows new < weights rows (old ++ part ∷ [])
+
 -- a settled part is dropped; the limit may fall to the cost of a state that was found
 pub pending_drops : (Want : List Choice → Type 0) (rows : List (List Choice)) (parts : List Part) (p : Part) (limit less : ℕ)
     → IsPending Want rows limit (parts ++ p ∷ []) → IsSettled Want (box_of rows p) less → less ≤ limit → IsPending Want rows less parts
@@ -85,28 +91,32 @@ size-part rows p is = size-pos (box_of rows p) (rows-some rows p.spans is.each)
 pub weights-fall : (rows : List (List Choice)) (parts : List Part) (p : Part) → IsPart rows p → weights rows parts < weights rows (parts ++ p ∷ [])
 weights-fall rows parts p is = omega (arith, weights-push rows parts p, size-part rows p is)
 
-pub halved : (rows : List (List Choice)) (whole first others : Part) (parts : List Part) (c : ℕ) → c < length (box_of rows whole) → All (IsPart rows) parts → IsPart rows first → IsPart rows others
-    → box_of rows first ≡ set (box_of rows whole) c (take 1 (row_at (box_of rows whole) c))
-    → box_of rows others ≡ set (box_of rows whole) c (drop 1 (row_at (box_of rows whole) c))
-    → IsHalved rows whole parts ((parts ++ first ∷ []) ++ others ∷ [])
-halved rows whole first others parts c within each one two is_first is_others = record {
-  each = All-push (IsPart rows) (parts ++ first ∷ []) others (All-push (IsPart rows) parts first each one) two;
-  covers = λ picks h. elim h [
+halved_parts : (rows : List (List Choice)) (whole : Part) (parts : List Part) (c : ℕ) → c < length (box_of rows whole) → All (IsPart rows) parts → (new : List Part)
+    → (h : AreHalves rows whole c parts new) → IsHalved rows whole parts ((parts ++ h.first ∷ []) ++ h.others ∷ [])
+halved_parts rows whole parts c within each new h = record {
+  each = All-push (IsPart rows) (parts ++ h.first ∷ []) h.others (All-push (IsPart rows) parts h.first each h.first_part) h.others_part;
+  covers = λ picks case. elim case [
     | inl inside ↦ elim (picks-split (box_of rows whole) picks c within inside) [
-      | inl onward ↦ in_last rows (parts ++ first ∷ []) others picks (subst (λ z. AllZip Contains z picks) (sym is_others) onward)
-      | inr here ↦ in_old rows (parts ++ first ∷ []) others picks (in_last rows parts first picks (subst (λ z. AllZip Contains z picks) (sym is_first) here.0))
+      | inl onward ↦ in_last rows (parts ++ h.first ∷ []) h.others picks (subst (λ z. AllZip Contains z picks) (sym h.other_states) onward)
+      | inr here ↦ in_old rows (parts ++ h.first ∷ []) h.others picks (in_last rows parts h.first picks (subst (λ z. AllZip Contains z picks) (sym h.first_states) here.0))
     ]
-    | inr there ↦ in_old rows (parts ++ first ∷ []) others picks (in_old rows parts first picks there)
+    | inr there ↦ in_old rows (parts ++ h.first ∷ []) h.others picks (in_old rows parts h.first picks there)
   ];
   fewer = omega (
     arith,
     weights-push rows parts whole,
-    weights-push rows (parts ++ first ∷ []) others,
-    weights-push rows parts first,
-    size-part rows first one,
-    size-part rows others two,
+    weights-push rows (parts ++ h.first ∷ []) h.others,
+    weights-push rows parts h.first,
+    size-part rows h.first h.first_part,
+    size-part rows h.others h.others_part,
     size-split (box_of rows whole) c within,
-    ap size is_first,
-    ap size is_others,
+    ap size h.first_states,
+    ap size h.other_states,
   );
 }
+
+pub halved : (rows : List (List Choice)) (whole : Part) (old new : List Part) (c : ℕ) → All (IsPart rows) old → IsPart rows whole → c < length rows → AreHalves rows whole c old new
+    → IsHalved rows whole old new
+halved rows whole old new c each is within h =
+    let below : c < length (box_of rows whole) = omega (arith, length-box rows whole.spans (spans-long rows whole.spans is.each), within) in
+    subst (IsHalved rows whole old) (sym h.stacked) (halved_parts rows whole old c below each new h)

@@ -9,7 +9,7 @@ use Rattle.cost_search.specs.SearchParts.{head_of, heads, row_at}
 use Rattle.cost_search.specs.Queue.{modes_of, cost_of}
 
 -- a row with a choice, the first of which costs least
-pub record IsSome (row : List Choice) : Type 0 where
+pub record HasLeastFirst (row : List Choice) : Type 0 where
   pub some : 0 < length row
   pub least : (x : Choice) → Contains row x → (head_of row).cost ≤ x.cost
 
@@ -36,15 +36,15 @@ AreFree b free = AllZip (λ row f. IsTrue f ↔ 1 < length row) b free
 abbrev pub IsHeld : List (List Choice) → List Pair → Type 0
 IsHeld b cube = Extends (modes_of (heads b)) cube
 
--- the cube takes this from what is left of each of its free components
+-- each free component of the cube has less left by this at least, and nothing rises
 pub record Spends (b : List (List Choice)) (cube : List Pair) (amount : ℕ) (old new : List ℕ) : Type 0 where
   pub less : AllZip (λ a n. n ≤ a) old new
   pub full : length old ≡ length b
   pub own : All (λ p. IsFree b p.item → slice_index_or new p.item 0 + amount ≤ slice_index_or old p.item 0) cube
 
--- each state of the part that holds no cut costs the total and what it may still be charged
-abbrev pub IsBound : List (List Choice) → List (List Pair) → ℕ → List ℕ → Type 0
-IsBound b cuts total left = (picks : List Choice) → AllZip Contains b picks → IsUncut cuts (modes_of picks) → total + charged b picks left ≤ cost_of picks
+-- each state of the part that holds no cut costs at least the total and what it may still be charged
+abbrev pub IsPartBound : List (List Choice) → List (List Pair) → ℕ → List ℕ → Type 0
+IsPartBound b cuts total left = (picks : List Choice) → AllZip Contains b picks → IsUncut cuts (modes_of picks) → total + charged b picks left ≤ cost_of picks
 
 -- each state of the part that holds no cut costs this at least
 abbrev pub CostsAtLeast : List (List Choice) → List (List Pair) → ℕ → Type 0
@@ -54,7 +54,25 @@ CostsAtLeast b cuts total = (picks : List Choice) → AllZip Contains b picks �
 abbrev pub AllAreCut : List (List Choice) → List (List Pair) → Type 0
 AllAreCut b cuts = (picks : List Choice) → AllZip Contains b picks → IsUncut cuts (modes_of picks) → ⊥
 
--- the component, where it is free, has this left
+-- the cube names the component
+abbrev pub NamesComponent : List Pair → ℕ → Type 0
+NamesComponent cube c = (p : Pair) × Contains cube p × (p.item ≡ c)
+
+-- the first state holds a cut of which no component is free
+pub record HasFixedCut (b : List (List Choice)) (cuts : List (List Pair)) : Type 0 where
+  pub cube : List Pair
+  pub among : Contains cuts cube
+  pub held : IsHeld b cube
+  pub fixed : All (λ p. IsFree b p.item → ⊥) cube
+
+-- the component is named by a cut that the first state holds
+pub record IsInHeldCut (b : List (List Choice)) (cuts : List (List Pair)) (c : ℕ) : Type 0 where
+  pub cube : List Pair
+  pub among : Contains cuts cube
+  pub held : IsHeld b cube
+  pub names : NamesComponent cube c
+
+-- the component, where it is free, has this left at least
 abbrev pub HasLeft : List Bool → List ℕ → ℕ → Pair → Type 0
 HasLeft free left amount p = slice_index_or free p.item false ≡ true → amount ≤ slice_index_or left p.item 0
 
@@ -62,17 +80,17 @@ HasLeft free left amount p = slice_index_or free p.item false ≡ true → amoun
 abbrev pub IsFixed : List Bool → Pair → Type 0
 IsFixed free p = slice_index_or free p.item false ≡ false
 
--- the component, where it is free, has this less
+-- the component, where it is free, has less left by this at least
 abbrev pub HasPaid : List Bool → List ℕ → List ℕ → ℕ → Pair → Type 0
 HasPaid free old new amount p = slice_index_or free p.item false ≡ true → slice_index_or new p.item 0 + amount ≤ slice_index_or old p.item 0
 
--- a free component, than which no free one of the cube has less left; or none of the cube is free
+-- a free component of the cube, no free one of which has less left; or none of the cube is free
 abbrev pub IsLeastLeft : List Bool → List ℕ → List Pair → Option ℕ → Type 0
 IsLeastLeft free left cube None = All (IsFixed free) cube
 IsLeastLeft free left cube (Some c) =
-    (c < length left) × (slice_index_or free c false ≡ true) × All (HasLeft free left (slice_index_or left c 0)) cube
+    (c < length left) × (slice_index_or free c false ≡ true) × NamesComponent cube c × All (HasLeft free left (slice_index_or left c 0)) cube
 
--- the amount is taken
+-- each free component of the cube has less left by the amount at least, and nothing rises
 pub record IsTaken (free : List Bool) (old new : List ℕ) (amount : ℕ) (cube : List Pair) : Type 0 where
   pub less : AllZip (λ a n. n ≤ a) old new
   pub own : All (HasPaid free old new amount) cube

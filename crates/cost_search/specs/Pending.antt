@@ -1,9 +1,9 @@
 -- The parts that a search has still to settle, as a stack.
-use Rattle.std.specs.Prelude.{◌⊎◌, ℕ, ◌*◌, ◌-◌, ◌<◌, ◌≤◌, List, [], ◌∷◌, ◌++◌, All, Contains}
+use Rattle.std.specs.Prelude.{◌≡◌, ℕ, ◌*◌, ◌-◌, ◌<◌, ◌≤◌, List, [], ◌∷◌, ◌++◌, Contains, drop, slice_set, take}
 use Rattle.std.specs.List.{AllZip, sum_by}
 use Rattle.cca_base.specs.declared.choice.Choice.{Choice}
 use Rattle.cost_search.specs.declared.part.Part.{Part}
-use Rattle.cost_search.specs.SearchParts.{IsIn, IsPart, box_of, size}
+use Rattle.cost_search.specs.SearchParts.{IsIn, IsPart, box_of, row_at, size}
 use Rattle.cost_search.specs.Queue.{cost_of}
 
 -- each wanted state of the rows costs the limit at least
@@ -18,8 +18,12 @@ IsPending Want rows limit parts = (picks : List Choice) → AllZip Contains rows
 abbrev pub weights : List (List Choice) → List Part → ℕ
 weights rows parts = sum_by (λ p. 2 * size (box_of rows p) - 1) parts
 
--- the halves of a part stand on the others: no state is lost, and the weights fall
-pub record IsHalved (rows : List (List Choice)) (part : Part) (old new : List Part) : Type 0 where
-  pub each : All (IsPart rows) new
-  pub covers : (picks : List Choice) → AllZip Contains (box_of rows part) picks ⊎ IsIn rows old picks → IsIn rows new picks
-  pub fewer : weights rows new < weights rows (old ++ part ∷ [])
+-- on the old parts stand those states of the part with its first choice at this component, and on them its other states
+pub record AreHalves (rows : List (List Choice)) (part : Part) (at : ℕ) (old new : List Part) : Type 0 where
+  pub first : Part
+  pub others : Part
+  pub first_part : IsPart rows first
+  pub others_part : IsPart rows others
+  pub first_states : box_of rows first ≡ slice_set (box_of rows part) at (take 1 (row_at (box_of rows part) at))
+  pub other_states : box_of rows others ≡ slice_set (box_of rows part) at (drop 1 (row_at (box_of rows part) at))
+  pub stacked : new ≡ (old ++ first ∷ []) ++ others ∷ []

@@ -1,11 +1,11 @@
 //! A bound by spending: what leaving the first choices costs is left to spend; each cut that the first state holds takes the
 //! least that one of its free components has left, from each of them, and the bound rises by it.
 
-ghost use Rattle.std.specs.Prelude.{◌≡◌, ◌<◌, length, IfOk, IfSome, IsNone};
+ghost use Rattle.std.specs.Prelude.{◌≡◌, ◌<◌, ◌≤◌, length, ℕ, IfOk, IfSome, IsNone, slice_index_or};
 ghost use Rattle.cca_base.specs.Choices.{AreRows};
 ghost use Rattle.cost_search.specs.Search.{IsUncut};
 ghost use Rattle.cost_search.specs.SearchParts.{IsPart, box_of};
-ghost use Rattle.cost_search.specs.Bounds.{AllAreCut, CostsAtLeast, IsFree};
+ghost use Rattle.cost_search.specs.Bounds.{AllAreCut, CostsAtLeast, HasFixedCut, IsFree, IsInHeldCut};
 
 use crate::part::Part;
 use crate::room::{count_names, free_of, least_left, most_named, steps_of, take_amount};
@@ -17,13 +17,15 @@ use std::alloc::{AllocError, Global};
 pub struct Bound {
     /// What each state that holds no cut costs at least.
     pub total: u64,
-    /// A component with another choice than the first, exactly if the part's first state holds a cut.
+    /// A component of a cut that the part's first state holds, with another choice than the first; there exactly if it
+    /// holds one.
     pub at: Option<u16>,
 }
 
 /// As many zeros.
 fn zeros(alloc: Global, count: usize) -> Result<List<u32>, AllocError>
-    ensures { IfOk result (λ v. length v ≡ count) }
+    ensures full { IfOk result (λ v. length v ≡ count) }
+    ensures zeros { IfOk result (λ v. (c : ℕ) → slice_index_or v c 0 ≡ 0) }
 {
     let mut zeros = List::of(Vec::with_capacity(alloc, count)?);
     for _ in 0..count {
@@ -32,9 +34,9 @@ fn zeros(alloc: Global, count: usize) -> Result<List<u32>, AllocError>
     Ok(zeros)
 }
 
-/// A bound of the part by the cuts that its first state holds. None comes only where each of its states holds a cut. The
-/// error is out of memory.
-pub fn bound_of(
+/// A bound of the part by the cuts that its first state holds. None comes exactly where this state holds a cut of which no
+/// component is free, so that each state of the part holds it. The error is out of memory.
+pub fn part_bound(
     alloc: Global,
     rows: &[List<Choice>],
     part: &Part,
@@ -44,11 +46,18 @@ pub fn bound_of(
     requires part { IsPart rows.now part.now }
     ensures total { IfOk result (λ o.
         IfSome o (λ b. CostsAtLeast (box_of rows.now part.now) cuts.now b.total)) }
+    ensures least { IfOk result (λ o. IfSome o (λ b. part.now.cost ≤ b.total)) }
     ensures none { IfOk result (λ o.
         IsNone o → AllAreCut (box_of rows.now part.now) cuts.now) }
+    ensures fixed { IfOk result (λ o.
+        IsNone o → HasFixedCut (box_of rows.now part.now) cuts.now) }
+    ensures some { IfOk result (λ o.
+        IfSome o (λ b. HasFixedCut (box_of rows.now part.now) cuts.now → ⊥)) }
     ensures within { IfOk result (λ o. IfSome o (λ b. IfSome b.at (λ c. c < length rows.now))) }
     ensures free { IfOk result (λ o.
         IfSome o (λ b. IfSome b.at (IsFree (box_of rows.now part.now)))) }
+    ensures place { IfOk result (λ o.
+        IfSome o (λ b. IfSome b.at (IsInHeldCut (box_of rows.now part.now) cuts.now))) }
     ensures uncut { IfOk result (λ o.
         IfSome o (λ b. IsNone b.at → IsUncut cuts.now part.now.modes)) }
     ensures held { IfOk result (λ o.

@@ -12,8 +12,8 @@ mod split;
 mod stack;
 mod whole;
 
-pub use bound::{Bound, bound_of};
+pub use bound::{Bound, part_bound};
 pub use costed::Costed;
-pub use part::Part;
+pub use part::{Part, Span};
 pub use search::Search;
 pub use stack::{full_stack, push_halves};

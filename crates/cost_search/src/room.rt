@@ -1,10 +1,10 @@
 //! What leaving the first choices of a part costs, and how a held cut takes its amount from that.
 
-ghost use Rattle.std.specs.Prelude.{◌≡◌, ◌<◌, ◌≤◌, ◌⊎◌, ◌↔◌, true, false, Some, All, length, IfOk, IfSome, IsTrue, slice_index_or};
+ghost use Rattle.std.specs.Prelude.{◌≡◌, ◌<◌, ◌≤◌, ◌⊎◌, ◌↔◌, ℕ, true, false, Some, All, length, IfOk, IfSome, IsTrue, slice_index_or};
 ghost use Rattle.std.specs.List.{AllZip};
 ghost use Rattle.cca_base.specs.Choices.{AreRows};
 ghost use Rattle.cost_search.specs.SearchParts.{IsPart, box_of, row_at};
-ghost use Rattle.cost_search.specs.Bounds.{AreFree, IsStep, HasLeft, IsLeastLeft, IsTaken};
+ghost use Rattle.cost_search.specs.Bounds.{AreFree, IsStep, HasLeft, IsLeastLeft, IsTaken, NamesComponent};
 
 use crate::part::Part;
 use crate::split::span_of;
@@ -84,7 +84,7 @@ fn lesser(left: &[u64], known: Option<u16>, other: u16) -> u16
     }
 }
 
-/// The free component of the cube that has the least left. None comes where no component of it is free.
+/// A free component of the cube, none of which has less left. None comes exactly where no component of it is free.
 pub fn least_left(free: &[bool], left: &[u64], cube: &[Pair]) -> Option<u16>
     requires full { length free.now ≡ length left.now }
     requires within { All (λ p. p.item < length left.now) cube.now }
@@ -118,7 +118,9 @@ pub fn take_amount(free: &[bool], left: &mut List<u64>, cube: &[Pair], amount: u
 /// Counts the cube for each component that it names.
 pub fn count_names(named: &mut List<u32>, cube: &[Pair])
     requires { All (λ p. p.item < length named.old) cube.now }
-    ensures { length named.new ≡ length named.old }
+    ensures full { length named.new ≡ length named.old }
+    ensures counted { (c : ℕ) → 0 < slice_index_or named.new c 0 →
+        (0 < slice_index_or named.old c 0) ⊎ NamesComponent cube.now c }
 {
     for pair in cube {
         let at = pair.item as usize;
@@ -137,6 +139,7 @@ pub fn most_named(free: &[bool], left: &[u64], named: &[u32], given: u16) -> u16
     requires free { slice_index_or free.now given false ≡ true }
     ensures within { result < length free.now }
     ensures free { slice_index_or free.now result false ≡ true }
+    ensures named { (result ≡ given) ⊎ (0 < slice_index_or named.now result 0) }
 {
     let mut at = given;
     let mut most = 1;

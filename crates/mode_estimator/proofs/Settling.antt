@@ -1,5 +1,5 @@
 -- Parts that are settled, and what a turn of the search keeps.
-use Rattle.std.proofs.Common.{◌≡◌, ℕ, ◌<◌, ◌≤◌, List, [], ◌∷◌, ◌++◌, All, Contains, Option, Some, None, slice_get, IfSome, IsNone, refl, subst, arith}
+use Rattle.std.proofs.Common.{◌≡◌, ℕ, ◌<◌, ◌≤◌, List, [], ◌∷◌, ◌++◌, All, Contains, Option, Some, None, slice_get, length, IfSome, IsNone, refl, subst, arith}
 use Rattle.std.proofs.lemmas.List.Elements.{All-push, All-weaker}
 use Rattle.cca_base.specs.declared.cube.Pair.{Pair}
 use Rattle.cca_base.specs.PlantModel.{PlantModel}
@@ -15,15 +15,15 @@ use Rattle.cost_search.specs.declared.part.Part.{Part}
 use Rattle.cost_search.specs.Search.{IsPicked, IsUncut}
 use Rattle.cost_search.specs.SearchParts.{IsPart, box_of, heads}
 use Rattle.cost_search.specs.Bounds.{AllAreCut, CostsAtLeast}
-use Rattle.cost_search.specs.Pending.{IsHalved, IsSettled}
+use Rattle.cost_search.specs.Pending.{AreHalves, IsSettled}
 use Rattle.cost_search.specs.Queue.{cost_of, modes_of}
 use Rattle.cost_search.proofs.Charged.{uncut_at}
 use Rattle.cost_search.proofs.Ranks.{heads_chosen, heads_upto, upto_cost}
-use Rattle.cost_search.proofs.Stacks.{contains_last, pending_drops, pending_ends, pending_splits, weights-fall}
+use Rattle.cost_search.proofs.Stacks.{contains_last, halved, pending_drops, pending_ends, pending_splits, weights-fall}
 use Rattle.mode_estimator.specs.declared.turn.Best.{Best}
 use Rattle.mode_estimator.specs.First.{AreClashes, AreStates, IsLeastShown, NoneBelow}
-use Rattle.mode_estimator.specs.declared.turn.Verdict.{Verdict}
-use Rattle.mode_estimator.specs.declared.turn.Verdict.TheVariants.{Settled, Splits, First}
+use Rattle.mode_estimator.specs.declared.turn.PartVerdict.{PartVerdict}
+use Rattle.mode_estimator.specs.declared.turn.PartVerdict.TheVariants.{Settled, Splits, First}
 use Rattle.mode_estimator.specs.Turns.{IsJudged, IsKnown, IsSearched, IsTurned, Wants}
 
 wanted_uncut : (m : PlantModel) (seen : List Pair) (cuts : List (List Pair)) (s : List ℕ) → AreClashes m seen cuts → IsState m s → CanShow m s seen → IsUncut cuts s
@@ -63,11 +63,14 @@ turned_settled m rows seen p parts best each is settled = record {
   fewer = weights-fall rows parts p is;
 }
 
-pub turned_split : (m : PlantModel) (rows : List (List Choice)) (seen : List Pair) (p : Part) (old new : List Part) (best : Best) → IsHalved rows p old new → IsTurned m rows seen p old new best best
-turned_split m rows seen p old new best halved = record {
-  keeps = λ start s. record { each = halved.each; pending = pending_splits (Wants m seen) rows old new p best.limit s.pending halved; known = s.known };
-  fewer = halved.fewer;
-}
+pub turned_split : (m : PlantModel) (rows : List (List Choice)) (seen : List Pair) (p : Part) (old new : List Part) (best : Best) (at : ℕ) → All (IsPart rows) old → IsPart rows p → at < length rows
+    → AreHalves rows p at old new → IsTurned m rows seen p old new best best
+turned_split m rows seen p old new best at each is within h =
+    let both = halved rows p old new at each is within h in
+    record {
+      keeps = λ start s. record { each = both.each; pending = pending_splits (Wants m seen) rows old new p best.limit s.pending both; known = s.known };
+      fewer = both.fewer;
+    }
 
 -- limits only fall
 known_limit : (m : PlantModel) (rows : List (List Choice)) (seen : List Pair) (start : ℕ) (found : Option Costed) (limit : ℕ) → IsKnown m rows seen start found limit → limit ≤ start
@@ -122,7 +125,7 @@ last_found m rows seen start best states s =
 -- ---- a state that was asked for
 
 -- what is said of a part, where more is known of its first state
-pub judged_again : (m : PlantModel) (rows : List (List Choice)) (seen : List Pair) (limit : ℕ) (p : Part) (Was Is : Type 0) (v : Verdict) → (Was → Is) → IsJudged m rows seen limit p Was v
+pub judged_again : (m : PlantModel) (rows : List (List Choice)) (seen : List Pair) (limit : ℕ) (p : Part) (Was Is : Type 0) (v : PartVerdict) → (Was → Is) → IsJudged m rows seen limit p Was v
     → IsJudged m rows seen limit p Is v
 judged_again m rows seen limit p Was Is Settled f h = h
 judged_again m rows seen limit p Was Is (Splits at) f h = h

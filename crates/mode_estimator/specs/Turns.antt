@@ -12,21 +12,21 @@ use Rattle.cost_search.specs.Bounds.{IsFree}
 use Rattle.cost_search.specs.Pending.{IsPending, IsSettled, weights}
 use Rattle.cost_search.specs.Queue.{modes_of}
 use Rattle.mode_estimator.specs.declared.turn.Best.{Best}
-use Rattle.mode_estimator.specs.declared.turn.Verdict.{Verdict}
-use Rattle.mode_estimator.specs.declared.turn.Verdict.TheVariants.{Settled, Splits, First}
+use Rattle.mode_estimator.specs.declared.turn.PartVerdict.{PartVerdict}
+use Rattle.mode_estimator.specs.declared.turn.PartVerdict.TheVariants.{Settled, Splits, First}
 use Rattle.mode_estimator.specs.First.{Shows}
 
 -- the choices make a state that agrees with what is seen
 abbrev pub Wants : PlantModel → List Pair → List Choice → Type 0
 Wants m seen picks = IsState m (modes_of picks) × CanShow m (modes_of picks) seen
 
--- the verdict on a part is right; `Next` is what has to hold of a part whose first state is next
-abbrev pub IsJudged : PlantModel → List (List Choice) → List Pair → ℕ → Part → Type 0 → Verdict → Type 0
+-- the verdict on a part is right; `Next` is what has to hold of a part whose first state is next, that is: is to be asked for, or is the best so far
+abbrev pub IsJudged : PlantModel → List (List Choice) → List Pair → ℕ → Part → Type 0 → PartVerdict → Type 0
 IsJudged m rows seen limit part Next Settled = IsSettled (Wants m seen) (box_of rows part) limit
 IsJudged m rows seen limit part Next (Splits at) = (at < length rows) × IsFree (box_of rows part) at
 IsJudged m rows seen limit part Next First = (part.cost < limit) × Next
 
--- a state that is known to agree is what the limit says, and cheaper than where it began
+-- without a state the limit is where it began; a state that is known agrees, costs the limit, and that is less
 abbrev pub IsKnown : PlantModel → List (List Choice) → List Pair → ℕ → Option Costed → ℕ → Type 0
 IsKnown m rows seen start None limit = limit ≡ start
 IsKnown m rows seen start (Some x) limit = Shows m rows seen x.state.modes x.cost × (x.cost ≡ limit) × (limit < start)

@@ -11,7 +11,7 @@ ghost use Rattle.mode_estimator.specs.Turns.{IsJudged, IsTurned};
 
 use crate::query::Query;
 use cca_base::{Choice, Cube, List, State};
-use cost_search::{Costed, Part, bound_of, push_halves};
+use cost_search::{Costed, Part, part_bound, push_halves};
 use std::alloc::{AllocError, Global};
 
 /// The best state so far, and the cost below which another one is looked for.
@@ -23,23 +23,24 @@ pub struct Best {
 
 /// What becomes of a part.
 #[derive(Clone, Copy, Debug)]
-pub enum Verdict {
+pub enum PartVerdict {
     /// None of its states that agree costs less than the limit.
     Settled,
     /// It is split at a component.
     Splits(u16),
-    /// Its first state is next.
+    /// Its first state is next. By the cuts alone: it holds none, and is to be asked for. After it was asked for: it agrees, and
+    /// is the best so far.
     First,
 }
 
-/// What the cuts say of a part; its first state is next if it holds none.
+/// What the cuts say of a part; its first state is next if it holds none, and is then to be asked for.
 fn judge_by_cuts(
     query: &Query,
     rows: &[List<Choice>],
     part: &Part,
     cuts: &[Cube],
     limit: u64,
-) -> Result<Verdict, AllocError>
+) -> Result<PartVerdict, AllocError>
     requires rows { AreRows rows.now }
     requires part { IsPart rows.now part.now }
     requires cuts { AreClashes query.now.model.now query.now.seen.now.pairs cuts.now }
@@ -47,29 +48,29 @@ fn judge_by_cuts(
         part.now (IsUncut cuts.now part.now.modes)) }
 {
     if part.cost >= limit {
-        return Ok(Verdict::Settled);
+        return Ok(PartVerdict::Settled);
     }
-    let Some(bound) = bound_of(query.alloc, rows, part, cuts)? else {
-        return Ok(Verdict::Settled);
+    let Some(bound) = part_bound(query.alloc, rows, part, cuts)? else {
+        return Ok(PartVerdict::Settled);
     };
     if bound.total >= limit {
-        return Ok(Verdict::Settled);
+        return Ok(PartVerdict::Settled);
     }
     match bound.at {
-        Some(at) => Ok(Verdict::Splits(at)),
-        None => Ok(Verdict::First),
+        Some(at) => Ok(PartVerdict::Splits(at)),
+        None => Ok(PartVerdict::First),
     }
 }
 
-/// What becomes of a part; its first state is next if it shows what is seen. A first state that holds no cut is asked for: it
-/// shows what is seen, or its conflict is a cut, which says what becomes of the part.
+/// What becomes of a part; its first state is next if it shows what is seen, and is then the best so far. A first state that
+/// holds no cut is asked for: it shows what is seen, or its conflict is a cut, which says what becomes of the part.
 fn judge(
     query: &Query,
     rows: &[List<Choice>],
     part: &Part,
     cuts: &mut List<Cube>,
     limit: u64,
-) -> Result<Verdict, AllocError>
+) -> Result<PartVerdict, AllocError>
     requires rows { AreRows rows.now }
     requires states { AreStates query.now.model.now rows.now }
     requires part { IsPart rows.now part.now }
@@ -79,9 +80,9 @@ fn judge(
     ensures cuts { AreClashes query.now.model.now query.now.seen.now.pairs cuts.new }
 {
     match judge_by_cuts(query, rows, part, cuts.as_slice(), limit)? {
-        Verdict::Settled => return Ok(Verdict::Settled),
-        Verdict::Splits(at) => return Ok(Verdict::Splits(at)),
-        Verdict::First => {}
+        PartVerdict::Settled => return Ok(PartVerdict::Settled),
+        PartVerdict::Splits(at) => return Ok(PartVerdict::Splits(at)),
+        PartVerdict::First => {}
     }
     let state = State {
         modes: part.modes.copy(query.alloc)?,
@@ -90,7 +91,7 @@ fn judge(
         .worlds
         .minimal_clash(query.alloc, query.model, &state, query.seen)?
     else {
-        return Ok(Verdict::First);
+        return Ok(PartVerdict::First);
     };
     cuts.push(cube)?;
     judge_by_cuts(query, rows, part, cuts.as_slice(), limit)
@@ -115,9 +116,9 @@ pub(crate) fn turn(
     ensures cuts { AreClashes query.now.model.now query.now.seen.now.pairs cuts.new }
 {
     match judge(query, rows, &part, cuts, best.limit)? {
-        Verdict::Settled => Ok(()),
-        Verdict::Splits(at) => push_halves(query.alloc, rows, parts, part, at),
-        Verdict::First => {
+        PartVerdict::Settled => Ok(()),
+        PartVerdict::Splits(at) => push_halves(query.alloc, rows, parts, part, at),
+        PartVerdict::First => {
             best.limit = part.cost;
             best.found = Some(Costed {
                 state: State { modes: part.modes },

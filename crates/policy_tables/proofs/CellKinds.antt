@@ -1,4 +1,4 @@
--- Cells of which each kind is kept once.
+-- Cells by the places of their kinds: `Stay` and `Never` are kept once, a step for each cell that has one.
 use Rattle.std.proofs.Common.{◌≡◌, ◌<◌, ℕ, List, [], ◌∷◌, ◌++◌, length, slice_index_or, All, refl, sym, ap, ◌∙◌}
 use Rattle.std.proofs.lemmas.List.{map-append, get_or_append_left, get_or_push}
 use Rattle.std.proofs.lemmas.List.Elements.{All-head, All-tail}

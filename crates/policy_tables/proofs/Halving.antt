@@ -1,12 +1,20 @@
 -- The first level is found by halving.
-use Rattle.std.proofs.Common.{◌≡◌, ◌<◌, ◌≤◌, ℕ, List, length, slice_get, slice_index, sym, ap, ◌∙◌, arith}
+use Rattle.std.proofs.Common.{◌≡◌, ◌<◌, ◌≤◌, ℕ, true, List, Some, length, slice_get, slice_index, sym, ap, ◌∙◌, arith}
 use Rattle.std.proofs.lemmas.Option.{slice_get_within}
 use Rattle.list_laws.proofs.Places.{some_at}
 use Rattle.cca_base.specs.PlantModel.{PlantModel}
 use Rattle.cca_base.specs.Model.{HasMode, mode_counts}
 use Rattle.reach_laws.specs.Classes.{Test, OpenMove}
 use Rattle.reversibility.specs.Levels.{IsNear, IsLevel, AreLevelsOf}
-use Rattle.policy_tables.specs.Distances.{IsFirstLevel, IsNoLevel, AreRising, IsBetween}
+use Rattle.reversibility.specs.ClassParts.{in_row}
+use Rattle.policy_tables.specs.Distances.{IsFirstLevel, IsNoLevel, AreRising}
+
+-- no level before the one place leads there, and the level at the other does, if there is one
+pub record IsBetween (levels : List (List ℕ)) (from to low high : ℕ) : Type 0 where
+  pub order : low ≤ high
+  pub within : high ≤ length levels
+  pub before : (j : ℕ) (other : List ℕ) → j < low → slice_get levels j ≡ Some other → in_row other from to ≡ true → ⊥
+  pub after : (level : List ℕ) → slice_get levels high ≡ Some level → in_row level from to ≡ true
 
 module _ (levels : List (List ℕ)) (from to low high : ℕ) (h : IsBetween levels from to low high) where
   pub first_found : high ≤ low → low < length levels → IsFirstLevel levels from to low

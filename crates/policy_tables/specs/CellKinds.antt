@@ -1,4 +1,4 @@
--- Cells of which each kind is kept once.
+-- Cells by the places of their kinds: `Stay` and `Never` are kept once, a step for each cell that has one.
 use Rattle.std.specs.Prelude.{◌≡◌, ◌<◌, ◌≤◌, ◌+◌, ℕ, List, length, map, slice_get, slice_index_or, Some, All}
 use Rattle.reach_laws.specs.declared.cell.Cell.{Cell}
 use Rattle.reach_laws.specs.declared.cell.Cell.TheVariants as cell

@@ -21,13 +21,6 @@ abbrev pub AreRising : List (List ℕ) → ℕ → ℕ → Type 0
 AreRising levels from to = (j k : ℕ) (level later : List ℕ) → j ≤ k → slice_get levels j ≡ Some level → slice_get levels k ≡ Some later
     → in_row level from to ≡ true → in_row later from to ≡ true
 
--- no level before the one place leads there, and the level at the other does, if there is one
-pub record IsBetween (levels : List (List ℕ)) (from to low high : ℕ) : Type 0 where
-  pub order : low ≤ high
-  pub within : high ≤ length levels
-  pub before : (j : ℕ) (other : List ℕ) → j < low → slice_get levels j ≡ Some other → in_row other from to ≡ true → ⊥
-  pub after : (level : List ℕ) → slice_get levels high ≡ Some level → in_row level from to ≡ true
-
 -- from the target of the move at the place the level leads to the mode
 abbrev pub NearAt : PlantModel → List ℕ → List ℕ → ℕ → ℕ → Type 0
 NearAt m numbers level to k = (move : Move) × (slice_get m.moves (slice_index numbers k) ≡ Some move) × (in_row level move.target to ≡ true)

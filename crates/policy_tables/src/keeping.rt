@@ -9,7 +9,7 @@ use cca_base::{Cube, List, ValueSet};
 use reversibility::{Classes, is_inside};
 use std::alloc::{AllocError, Global};
 
-/// Whether each of the cubes is inside both sets or inside neither.
+/// True only where each of the cubes is inside both sets or inside neither.
 fn agree(cubes: &[Cube], one: &[ValueSet], other: &[ValueSet]) -> bool
     requires one { All (λ cube. All (λ p. p.item < length one.now) cube) cubes.now }
     requires other { All (λ cube. All (λ p. p.item < length other.now) cube) cubes.now }
@@ -23,7 +23,7 @@ fn agree(cubes: &[Cube], one: &[ValueSet], other: &[ValueSet]) -> bool
     true
 }
 
-/// Whether the component's class and the broken modes of its open chain are the same.
+/// True only where the component's class and the broken modes of its open chain are the same.
 fn has_same_sets(one: &Classes, other: &Classes, c: usize) -> bool
     requires model { one.now.compiled ≡ other.now.compiled }
     requires within { c < length other.now.compiled.model.components }
@@ -32,7 +32,7 @@ fn has_same_sets(one: &Classes, other: &Classes, c: usize) -> bool
     one.rows()[c] == other.rows()[c] && one.chains()[c] == other.chains()[c]
 }
 
-/// Which components have the same sets.
+/// Flags of components. What is flagged has the same sets. The error is out of memory.
 fn same_sets(alloc: Global, one: &Classes, other: &Classes) -> Result<List<bool>, AllocError>
     requires { one.now.compiled ≡ other.now.compiled }
     ensures { IfOk result (λ flags. AreKeptTo one.now other.now flags 0) }
@@ -44,7 +44,8 @@ fn same_sets(alloc: Global, one: &Classes, other: &Classes) -> Result<List<bool>
     Ok(flags)
 }
 
-/// Which components' cells are right by the other classes too, where they are by the one.
+/// Flags of components. What is flagged stays right: where its cells are right by the one, they are by the other. The error
+/// is out of memory.
 pub(crate) fn kept(alloc: Global, one: &Classes, other: &Classes) -> Result<List<bool>, AllocError>
     requires { one.now.compiled ≡ other.now.compiled }
     ensures { IfOk result (AreKept one.now other.now) }

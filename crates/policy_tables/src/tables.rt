@@ -42,7 +42,8 @@ impl std::marker::Model for Tables {
 
     ghost view = { λ t. record { classes = t.classes; cells = map rc_value t.tables } };
 
-    ghost invariant = { λ t. IsTables (record { classes = t.classes; cells = map rc_value t.tables }) };
+    ghost invariant = { λ t.
+        IsTables (record { classes = t.classes; cells = map rc_value t.tables }) };
 }
 
 impl Tables {

@@ -9,7 +9,10 @@ returns-in-Settled-clause-turned c =
 
 pub returns-in-Splits-clause-turned : goal.returns-in-Splits-clause-turned
 returns-in-Splits-clause-turned c =
-    on_ok_weaker c.push_halves.result (turned_split c.args.query.now.model.now c.args.rows.now c.args.query.now.seen.now.pairs c.args.part c.args.parts.now c.push_halves.new.parts c.args.best.now) c.push_halves.ensures
+    let splits = rw c.in-Splits.is at c.in_ok-judge.ensures.judged in
+    on_ok_weaker c.push_halves.result
+    (turned_split c.args.query.now.model.now c.args.rows.now c.args.query.now.seen.now.pairs c.args.part c.args.parts.now c.push_halves.new.parts c.args.best.now c.in-Splits.at c.requires.parts c.requires.part splits.0)
+    c.push_halves.ensures.halves
 
 pub returns-in-First-clause-turned : goal.returns-in-First-clause-turned
 returns-in-First-clause-turned c =

@@ -1,5 +1,5 @@
 use Rattle.std.proofs.Common.{◌-◌}
-use Rattle.policy_tables.specs.Distances.{IsBetween}
+use Rattle.policy_tables.proofs.Halving.{IsBetween}
 use Rattle.policy_tables.proofs.near.distance.Given as goal
 
 abbrev pub invariant-halving : goal.invariant-halving

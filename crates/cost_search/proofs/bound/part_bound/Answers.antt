@@ -1,7 +1,7 @@
-use Rattle.std.proofs.Common.{◌≡◌, ◌↔◌, ◌<◌, ◌≤◌, ◌+◌, ℕ, Bool, true, false, length, get_or, sym, subst, ap, ◌∙◌, refl, arith, All, Some, None, List, Contains, IfSome, IsNone, IsTrue}
+use Rattle.std.proofs.Common.{◌≡◌, ◌↔◌, inl, inr, ◌<◌, ◌≤◌, ◌+◌, ℕ, Bool, true, false, length, get_or, sym, subst, ap, ◌∙◌, refl, arith, All, Some, None, List, Contains, IfSome, IsNone, IsTrue}
 use Rattle.std.proofs.lemmas.Bool.{false≢true}
 use Rattle.std.proofs.lemmas.List.{take_all}
-use Rattle.std.proofs.lemmas.List.Elements.{All-nil, All-more, Contains-get_or}
+use Rattle.std.proofs.lemmas.List.Elements.{All-contains, All-nil, All-more, Contains-get_or}
 use Rattle.std.proofs.lemmas.Slice.Zip.{AllZip-long}
 use Rattle.cca_base.specs.State.{Extends}
 use Rattle.cca_base.specs.declared.cube.Pair.{Pair}
@@ -10,13 +10,13 @@ use Rattle.cost_search.specs.Search.{IsUncut}
 use Rattle.cost_search.specs.Queue.{cost_of}
 use Rattle.cost_search.specs.SearchParts.{IsPart, box_of, heads}
 use Rattle.cost_search.specs.declared.part.Part.{Part}
-use Rattle.cost_search.specs.Bounds.{AreFree, IsBound, IsFixed, IsFree, IsHeld, IsLeastLeft, IsStep, IsTaken, charged}
+use Rattle.cost_search.specs.Bounds.{AreFree, IsFixed, IsFree, IsHeld, IsInHeldCut, IsLeastLeft, IsPartBound, IsStep, IsTaken, NamesComponent, charged}
 use Rattle.cost_search.proofs.Boxes.{length-modes, spans-long, length-box}
 use Rattle.cost_search.proofs.Charged.{affords_steps, affords_more, dead_is_empty, uncut_at}
 use Rattle.cost_search.proofs.RowChoices.{box_some}
-use Rattle.cost_search.proofs.Spending.{free_at, free_there, held_below, none_free, taken_spends}
-use Rattle.cost_search.proofs.bound.bound_of.Goals.{then-stands_in+in-Some, else-stands_in, in-None, in-Some-held}
-use Rattle.cost_search.proofs.bound.bound_of.Goals as goal
+use Rattle.cost_search.proofs.Spending.{free_at, free_there, held_below, none_free, some_free, taken_spends}
+use Rattle.cost_search.proofs.bound.part_bound.Goals.{then-stands_in+in-Some, else-stands_in, in-None, in-Some-held}
+use Rattle.cost_search.proofs.bound.part_bound.Goals as goal
 
 box_long : (rows : List (List Choice)) (p : Part) → IsPart rows p → length (box_of rows p) ≡ length rows
 box_long rows p is = length-box rows p.spans (spans-long rows p.spans is.each)
@@ -26,6 +26,10 @@ free_long rows p free is are = AllZip-long (λ (row : List Choice) f. IsTrue f �
 
 part_long : (rows : List (List Choice)) (p : Part) → IsPart rows p → length p.modes ≡ length rows
 part_long rows p is = length-modes rows p.cost p.modes p.spans is
+
+-- a cut that the first state lacks, or of which a component is free
+abbrev IsOpenCut : List (List Choice) → List Pair → Type 0
+IsOpenCut b cube = IsHeld b cube → All (λ p. IsFree b p.item → ⊥) cube → ⊥
 
 not_none : (o : ℕ) → IsNone (Some o) → ⊥
 not_none o e = false≢true (sym e)
@@ -38,7 +42,11 @@ loop-cube-init c =
     let costs : c.args.part.now.cost ≡ cost_of (heads b) = c.requires.part.costs in
     record {
       long = AllZip-long IsStep b steps c.in_ok-left.ensures ∙ box_long rows c.args.part.now c.requires.part;
-      named = c.in_ok-named.ensures;
+      named = c.in_ok-named.ensures.full;
+      counted = λ n some. absurd (omega (arith, some, c.in_ok-named.ensures.zeros n));
+      place = tt;
+      least = omega arith;
+      open_cuts = All-nil (IsOpenCut b);
       bound = λ picks each uncut.
           omega (arith, costs, affords_steps b c.args.cuts.now steps (box_some rows c.args.part.now.spans c.requires.rows.each c.requires.part.each) c.in_ok-left.ensures picks each uncut);
       within = tt;
@@ -58,8 +66,8 @@ least_left-requires-clause-within c =
     held_below c.as_slice.result.now c.cube-item.result c.as_slice-then-stands_in-3.result.now (length c.as_slice-then-stands_in-2.result.now) held c.as_slice-then-stands_in-3.ensures.pairs
     (omega (arith, ap length c.as_slice.ensures, ap length c.as_slice-then-stands_in-2.ensures, part_long c.args.rows.now c.args.part.now c.requires.part, c.loop-cube.invariant.long))
 
-pub returns-in_default-clause-none : goal.returns-in_default-clause-none
-returns-in_default-clause-none c e picks each uncut =
+pub returns-in_default-clause-fixed : goal.returns-in_default-clause-fixed
+returns-in_default-clause-fixed c e =
     let rows = c.args.rows.now in
     let b = box_of rows c.args.part.now in
     let cuts = c.args.cuts.now in
@@ -71,7 +79,12 @@ returns-in_default-clause-none c e picks each uncut =
     let least : IsLeastLeft c.as_slice-then-stands_in.result.now c.as_slice-then-stands_in-2.result.now c.as_slice-then-stands_in-3.result.now None = rw c.in_default.is at c.least_left.ensures in
     let fixed : All (IsFixed c.in_ok-free.free) cube =
     subst (λ f. All (IsFixed f) cube) c.as_slice-then-stands_in.ensures (subst (All (IsFixed c.as_slice-then-stands_in.result.now)) c.as_slice-then-stands_in-3.ensures.pairs least) in
-    dead_is_empty b cuts cube picks among first (none_free b c.in_ok-free.free cube c.in_ok-free.ensures fixed) each uncut
+    record { cube = cube; among = among; held = first; fixed = none_free b c.in_ok-free.free cube c.in_ok-free.ensures fixed }
+
+pub returns-in_default-clause-none : goal.returns-in_default-clause-none
+returns-in_default-clause-none c e picks each uncut =
+    let dead = returns-in_default-clause-fixed c e in
+    dead_is_empty (box_of c.args.rows.now c.args.part.now) c.args.cuts.now dead.cube picks dead.among dead.held dead.fixed each uncut
 
 pub take_amount-requires-clause-full : goal.take_amount-requires-clause-full
 take_amount-requires-clause-full c =
@@ -110,14 +123,22 @@ loop-cube-preserved c =
           let first : IsHeld b cube = subst (λ (s : List ℕ). Extends s cube) (c.as_slice.ensures ∙ c.requires.part.starts) held in
           let taken : IsTaken free old new amount cube =
           subst (λ f. IsTaken f old new amount cube) w.as_slice-then-stands_in-4.ensures (subst (IsTaken w.as_slice-then-stands_in-4.result.now old new amount) w.as_slice-then-stands_in-5.ensures.pairs w.take_amount.ensures) in
-          let more : IsBound b cuts (c.loop-cube.total + amount) new =
+          let more : IsPartBound b cuts (c.loop-cube.total + amount) new =
           affords_more b cuts cube c.loop-cube.total amount old new c.loop-cube.invariant.bound among first (taken_spends b free cube amount old new c.in_ok-free.ensures full taken) in
           let least = rw w.in-Some.is at w.least_left.ensures in
+          let named : NamesComponent cube at = subst (λ l. NamesComponent l at) w.as_slice-then-stands_in-3.ensures.pairs least.2 in
           let inside : at < length rows = omega (arith, least.0, ap length w.as_slice-then-stands_in-2.ensures, c.loop-cube.invariant.long) in
           let freed : get_or free at false ≡ true = subst (λ (f : List Bool). get_or f at false ≡ true) w.as_slice-then-stands_in.ensures least.1 in
           record {
             long = ap length w.left-is ∙ AllZip-long (λ a n. n ≤ a) old new taken.less ∙ c.loop-cube.invariant.long;
-            named = ap length w.named-is ∙ w.count_names.ensures ∙ c.loop-cube.invariant.named;
+            named = ap length w.named-is ∙ w.count_names.ensures.full ∙ c.loop-cube.invariant.named;
+            counted = λ n some. elim (w.count_names.ensures.counted n (subst (λ (l : List ℕ). 0 < get_or l n 0) w.named-is some)) [
+              | inl before ↦ c.loop-cube.invariant.counted n before
+              | inr names ↦ record { cube = cube; among = among; held = first; names = subst (λ l. NamesComponent l n) w.as_slice-then-stands_in-6.ensures.pairs names }
+            ];
+            place = subst (λ o. IfSome o (IsInHeldCut b cuts)) (sym w.held-is) (record { cube = cube; among = among; held = first; names = named });
+            least = omega (arith, w.total-is, w.saturating_add-total.ensures, c.loop-cube.invariant.least);
+            open_cuts = All-more (IsOpenCut b) cuts i cube c.loop-cube-test.true c.loop-cube.invariant.open_cuts (subst (IsOpenCut b) c.cube-item.is (λ is_held fixed. some_free b cube at named (free_there b free at c.in_ok-free.ensures freed) fixed));
             bound = λ picks each uncut. subst (λ l. c.if-stands_in.total + charged b picks l ≤ cost_of picks) (sym w.left-is) (omega (arith, w.total-is, w.saturating_add-total.ensures, more picks each uncut));
             within = subst (λ o. IfSome o (λ n. n < length rows)) (sym w.held-is) inside;
             free = subst (λ o. IfSome o (IsFree b)) (sym w.held-is) (free_there b free at c.in_ok-free.ensures freed);
@@ -126,9 +147,14 @@ loop-cube-preserved c =
           }
       | else-stands_in w ↦
           let lacks : Extends part.modes cube → ⊥ = λ h. false≢true (sym w.if-stands_in.false ∙ c.stands_in.ensures.1 (subst (λ (s : List ℕ). Extends s cube) (sym c.as_slice.ensures) h)) in
+          let unheld : IsHeld b cube → ⊥ = λ h. lacks (subst (λ (s : List ℕ). Extends s cube) (sym c.requires.part.starts) h) in
           record {
             long = ap length w.left-is ∙ c.loop-cube.invariant.long;
             named = ap length w.named-is ∙ c.loop-cube.invariant.named;
+            counted = λ n some. c.loop-cube.invariant.counted n (subst (λ (l : List ℕ). 0 < get_or l n 0) w.named-is some);
+            place = subst (λ o. IfSome o (IsInHeldCut b cuts)) (sym w.held-is) c.loop-cube.invariant.place;
+            least = omega (arith, w.total-is, c.loop-cube.invariant.least);
+            open_cuts = All-more (IsOpenCut b) cuts i cube c.loop-cube-test.true c.loop-cube.invariant.open_cuts (subst (IsOpenCut b) c.cube-item.is (λ is_held fixed. unheld is_held));
             bound = λ picks each uncut. subst (λ l. c.if-stands_in.total + charged b picks l ≤ cost_of picks) (sym w.left-is) (omega (arith, w.total-is, c.loop-cube.invariant.bound picks each uncut));
             within = subst (λ o. IfSome o (λ n. n < length rows)) (sym w.held-is) c.loop-cube.invariant.within;
             free = subst (λ o. IfSome o (IsFree b)) (sym w.held-is) c.loop-cube.invariant.free;
@@ -182,6 +208,27 @@ returns-clause-free c =
           let freed : get_or c.in_ok-free.free w.most_named.result false ≡ true = subst (λ (f : List Bool). get_or f w.most_named.result false ≡ true) w.as_slice-in-Some-held.ensures w.most_named.ensures.free in
           subst (λ o. IfSome o (IsFree b)) (sym w.at-is) (free_there b c.in_ok-free.free w.most_named.result c.in_ok-free.ensures freed)
     ]
+
+pub returns-clause-place : goal.returns-clause-place
+returns-clause-place c =
+    let b = box_of c.args.rows.now c.args.part.now in
+    let cuts = c.args.cuts.now in
+    elim c.match-held.branch [
+      | in-None w ↦ subst (λ o. IfSome o (IsInHeldCut b cuts)) (sym w.at-is) tt
+      | in-Some-held w ↦
+          let given : IsInHeldCut b cuts w.in-Some-held.given = rw w.in-Some-held.is at c.loop-cube.invariant.place in
+          let own : IsInHeldCut b cuts w.most_named.result = elim w.most_named.ensures.named [
+            | inl same ↦ subst (IsInHeldCut b cuts) (sym same) given
+            | inr some ↦ c.loop-cube.invariant.counted w.most_named.result (subst (λ (l : List ℕ). 0 < get_or l w.most_named.result 0) w.as_slice-in-Some-held-3.ensures some)
+          ] in
+          subst (λ o. IfSome o (IsInHeldCut b cuts)) (sym w.at-is) own
+    ]
+
+pub returns-clause-some : goal.returns-clause-some
+returns-clause-some c h =
+    let b = box_of c.args.rows.now c.args.part.now in
+    let each = subst (All (IsOpenCut b)) (take_all c.loop-cube.cube-index c.args.cuts.now (omega (arith, c.loop-cube-test.false))) c.loop-cube.invariant.open_cuts in
+    All-contains (IsOpenCut b) c.args.cuts.now h.cube each h.among h.held h.fixed
 
 pub returns-clause-uncut : goal.returns-clause-uncut
 returns-clause-uncut c e = elim c.match-held.branch [
