@@ -15,8 +15,11 @@ use cca_base::{Cube, Formula, List, Model};
 use prime_implicants::Primes;
 use std::alloc::{AllocError, Global};
 
+/// How many pairs of cubes are joined for one wish before it is taken as a whole: joining them takes more than a whole wish does.
+const MOST_PAIRS: usize = 65_536;
+
 /// The prime implicants of all parts together, in cube order. None, of which nothing is claimed, where a part, or the parts up
-/// to one, have more than `most`. The error is out of memory.
+/// to one, have more than `most` on the way, or there are too many pairs of cubes to be joined. The error is out of memory.
 pub(crate) fn wish_by_parts(
     alloc: Global,
     model: &Model,
@@ -33,10 +36,19 @@ pub(crate) fn wish_by_parts(
         IfSome r (AreImplicants model.now (all_of parts.now))) }
     ensures few { IfOk result (λ r. IfSome r (λ cubes. length cubes ≤ most)) }
 {
+    let mut pairs = MOST_PAIRS;
     let mut cubes = List::new(alloc);
     cubes.push(Cube::new(alloc))?;
     for part in parts {
-        match with_wish(alloc, model, rules, cubes.as_slice(), part, most)? {
+        match with_wish(
+            alloc,
+            model,
+            rules,
+            cubes.as_slice(),
+            part,
+            most,
+            &mut pairs,
+        )? {
             Some(more) => cubes = more,
             None => return Ok(None),
         }
@@ -47,7 +59,7 @@ pub(crate) fn wish_by_parts(
     Ok(Some(cubes))
 }
 
-// From the prime implicants of some parts those with one more.
+// From the prime implicants of some parts those with one more, while pairs of cubes may be joined.
 fn with_wish(
     alloc: Global,
     model: &Model,
@@ -55,6 +67,7 @@ fn with_wish(
     cubes: &[Cube],
     part: &Formula,
     most: u32,
+    pairs: &mut usize,
 ) -> Result<Option<List<Cube>>, AllocError>
     requires worlds { HasWorlds model.now }
     requires rules { AreRulesOf model.now rules.now }
@@ -65,6 +78,10 @@ fn with_wish(
 {
     match whole_wish(alloc, model, rules, part, most)? {
         Primes::Every(others) => {
+            *pairs = pairs.saturating_sub(cubes.len().saturating_mul(others.len()));
+            if *pairs == 0 {
+                return Ok(None);
+            }
             let all = least_unions(alloc, cubes, others.as_slice(), most as usize)?;
             Ok(all)
         }
