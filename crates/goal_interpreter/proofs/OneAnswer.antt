@@ -15,7 +15,7 @@ use Rattle.goal_interpreter.specs.declared.target.TheConstants.{MAX_IMPLICANTS}
 use Rattle.goal_interpreter.specs.Targets.{IsTargetFor}
 
 -- there are not both few implicants and many
-few_or_many : (m : PlantModel) (f : Formula) (most : ℕ) → HasFewImplicants m f most → HasManyImplicants m f most → ⊥
+pub few_or_many : (m : PlantModel) (f : Formula) (most : ℕ) → HasFewImplicants m f most → HasManyImplicants m f most → ⊥
 few_or_many m f most (cubes, are, few) many = not_many_implicants m f most cubes are few many
 
 -- a state has one goal

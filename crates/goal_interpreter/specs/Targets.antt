@@ -9,7 +9,7 @@ use Rattle.goal_interpreter.specs.declared.target.Target.{Target}
 use Rattle.goal_interpreter.specs.declared.target.Target.TheVariants.{Found, Nowhere, Many}
 use Rattle.goal_interpreter.specs.declared.target.TheConstants.{MAX_IMPLICANTS}
 
--- the wish has few implicants, and these are its target, the target's weight and the target's goal
+-- the wish has few implicants; the state is its target, with its weight and its goal
 pub record IsFound (b : CompiledModel) (weights : List (List ℕ)) (s : List ℕ) (f : Formula) (t : List ℕ) (total : ℕ) (pairs : List Pair) : Type 0 where
   pub few : HasFewImplicants b.model f MAX_IMPLICANTS
   pub target : IsTarget b.model weights s f t

@@ -22,7 +22,7 @@ arrow = symbol (codes "->")
 abbrev IsWritten : List Lexeme → Item → Type 0
 IsWritten ls i = (ls ≡ line_spelled i) × IsSpelled i
 
-number_read : (ls : List Lexeme) (x : List ℕ × List Lexeme) → number_at ls ≡ Some x → ls ≡ number x.0 ∷ x.1
+pub number_read : (ls : List Lexeme) (x : List ℕ × List Lexeme) → number_at ls ≡ Some x → ls ≡ number x.0 ∷ x.1
 number_read [] x e = absurd cc
 number_read (l ∷ ls) x e =
     let p = cond_found (same_kind l.0 Number) (Some (l.1, ls)) x e in

@@ -11,7 +11,7 @@ use Rattle.model_syntax.specs.Items.{Item, Header, Component, Variable, Rule, Mo
 use Rattle.model_syntax.specs.Lines.{Next, IsNextOfText, IsNextOfNumber, IsNextOfItem, IsNextOfForm, ModelSoFar, LineOutcome, outcome, LeadsByForm, LeadsByTokens, LeadOneWay, rule_next, move_next, failure_next}
 
 -- a number has one spelling, and no other number has it
-same_number : (n k : ℕ) → n < 2 ^ 128 → k < 2 ^ 128 → decimal n ≡ decimal k → n ≡ k
+pub same_number : (n k : ℕ) → n < 2 ^ 128 → k < 2 ^ 128 → decimal n ≡ decimal k → n ≡ k
 same_number n k small less e =
     sym (decimal_is_IsNumeral_wide n (omega arith)).1 ∙ ap (digits_value 10) e ∙ (decimal_is_IsNumeral_wide k (omega arith)).1
 

@@ -58,7 +58,7 @@ fn ended<'a, 'b>(item: Item<'a, 'b>, tokens: &[Token]) -> Option<Item<'a, 'b>>
 }
 
 /// The digits at the front of the tokens, and what stands behind them.
-fn number_at<'a, 'b>(tokens: &'b [Token<'a>]) -> Option<(&'a [u8], &'b [Token<'a>])>
+pub fn number_at<'a, 'b>(tokens: &'b [Token<'a>]) -> Option<(&'a [u8], &'b [Token<'a>])>
     ensures { option_map (λ r. (r.0.now, map lexeme_of r.1.now)) result
         ≡ number_at (map lexeme_of tokens.now) }
 {

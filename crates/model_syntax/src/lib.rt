@@ -22,7 +22,7 @@ mod token_lines;
 mod words;
 
 pub use formula_syntax::{read_formula, texts_are_read_one_way};
-pub use item::lines_are_spelled;
+pub use item::{lines_are_spelled, number_at};
 pub use laws::{lines_keep_models_good, lines_lead_one_way, repairs_have_codes};
 pub use line_end::LineEnd;
 pub use model_reader::ModelReader;

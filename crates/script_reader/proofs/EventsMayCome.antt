@@ -46,7 +46,7 @@ none_of test (x ∷ xs) h =
 others : (item : ℕ) (ps : List Pair) → has_item ps item ≡ false → All (λ p. p.item ≢ item) ps
 others item ps h = All-weaker (λ (p : Pair). p.item == item ≡ false) (λ (p : Pair). p.item ≢ item) (λ p e. eqb-false p.item item e) ps (none_of (λ (p : Pair). p.item == item) ps h)
 
-once_each : (ps : List Pair) → has_item_twice ps ≡ false → IsCube ps
+pub once_each : (ps : List Pair) → has_item_twice ps ≡ false → IsCube ps
 once_each [] h = λ i j d before within same. omega arith
 once_each (p ∷ ps) h =
     let parts = or_parts (has_item ps p.item) (has_item_twice ps) h in

@@ -1,5 +1,7 @@
 -- An item is read from its spelling, and from nothing else.
 use Rattle.std.proofs.Common.{◌≡◌, ℕ, ◌<◌, cond, codes, List, [], ◌∷◌, ◌++◌, length, Option, Some, None, refl, sym, ap, subst, ◌∙◌, append-nil, arith}
+use Rattle.std.specs.Option.{option_map}
+use Rattle.std.proofs.lemmas.Option.{same_Some}
 use Rattle.text_base.specs.Lexemes.{Lexeme, word, is_lexeme, name_word_at}
 use Rattle.text_base.specs.Lists.{ended}
 use Rattle.text_base.specs.Pairs.{NamedPair, pair_at, pairs_at, pair_spelled, pairs_spelled, pair_list_spelled, ArePairWords}
@@ -7,7 +9,7 @@ use Rattle.text_base.proofs.ChainLaws.{bind_some, then, after}
 use Rattle.text_base.proofs.FormGrammar.{ended_read, same_item, only, keyword}
 use Rattle.text_base.proofs.NameGrammar.{reads_name, name_read}
 use Rattle.text_base.proofs.PairGrammar.{pair_grammar, reads_pairs, pairs_read}
-use Rattle.script_reader.specs.Items.{Item, Goal, Clear, Observe, Fault, Mirror, Reset, Tick, pairs_item, fault_at, mirror_at, item_of, spelling, IsSpelled}
+use Rattle.script_reader.specs.Items.{Item, Goal, Clear, Observe, Fault, Mirror, Reset, Tick, only_pairs, pairs_item, fault_at, mirror_at, item_of, spelling, IsSpelled}
 
 -- this item is spelled so
 abbrev IsWritten : List Lexeme → Item → Type 0
@@ -15,23 +17,37 @@ IsWritten ls i = (ls ≡ spelling i) × IsSpelled i
 
 -- ---- lists of pairs
 
-module _ (form : List NamedPair → Item) where
-  abbrev pairs_then : List NamedPair × List Lexeme → Option Item
-  pairs_then pairs = ended (form pairs.0) pairs.1
+abbrev pairs_then : List NamedPair × List Lexeme → Option (List NamedPair)
+pairs_then pairs = ended pairs.0 pairs.1
 
+pub reads_only_pairs : (ps : List NamedPair) → 0 < length ps → ArePairWords ps → only_pairs (pair_list_spelled ps) ≡ Some ps
+unfolding only_pairs
+reads_only_pairs [] some h = absurd (omega (arith, some))
+reads_only_pairs (p ∷ ps) some h = then (ap pairs_at (sym (append-nil (pairs_spelled p ps))) ∙ reads_pairs p ps [] h refl) pairs_then
+
+pub only_pairs_read : (ls : List Lexeme) (ps : List NamedPair) → only_pairs ls ≡ Some ps → (ls ≡ pair_list_spelled ps) × (0 < length ps) × ArePairWords ps
+unfolding only_pairs
+only_pairs_read ls ps e =
+    let P : List NamedPair → Type 0 = λ qs. (ls ≡ pair_list_spelled qs) × (0 < length qs) × ArePairWords qs in
+    let a = bind_some (pairs_at ls) pairs_then ps e in
+    let d = ended_read a.0.0 ps a.0.1 a.2 in
+    let pairs = pairs_read ls a.0 a.1 in
+    subst P d.1 (pairs.0 ∙ ap (λ (x : List Lexeme). pair_list_spelled a.0.0 ++ x) d.0 ∙ append-nil (pair_list_spelled a.0.0), pairs.1, pairs.2)
+
+module _ (form : List NamedPair → Item) where
   reads_form : (ps : List NamedPair) → 0 < length ps → ArePairWords ps → pairs_item form (pair_list_spelled ps) ≡ Some (form ps)
-  unfolding pairs_item
-  reads_form [] some h = absurd (omega (arith, some))
-  reads_form (p ∷ ps) some h = then (ap pairs_at (sym (append-nil (pairs_spelled p ps))) ∙ reads_pairs p ps [] h refl) pairs_then
+  reads_form ps some h = ap (option_map form) (reads_only_pairs ps some h)
+
+  form_of : (o : Option (List NamedPair)) (i : Item) → option_map form o ≡ Some i → (ps : List NamedPair) × (o ≡ Some ps) × (form ps ≡ i)
+  form_of None i e = absurd cc
+  form_of (Some ps) i e = (ps, refl, same_Some (form ps) i e)
 
   -- the pairs of an item that was read so
   form_read : (ls : List Lexeme) (i : Item) → pairs_item form ls ≡ Some i → (ps : List NamedPair) × (form ps ≡ i) × (ls ≡ pair_list_spelled ps) × (0 < length ps) × ArePairWords ps
-  unfolding pairs_item
   form_read ls i e =
-      let a = bind_some (pairs_at ls) pairs_then i e in
-      let d = ended_read (form a.0.0) i a.0.1 a.2 in
-      let pairs = pairs_read ls a.0 a.1 in
-      (a.0.0, d.1, pairs.0 ∙ ap (λ (x : List Lexeme). pair_list_spelled a.0.0 ++ x) d.0 ∙ append-nil (pair_list_spelled a.0.0), pairs.1, pairs.2)
+      let a = form_of (only_pairs ls) i e in
+      let r = only_pairs_read ls a.0 a.1 in
+      (a.0, a.2, r.0, r.1, r.2)
 
   -- that item is written so behind its word
   form_written : (l : Lexeme) → ((ps : List NamedPair) → 0 < length ps → ArePairWords ps → IsWritten (l ∷ pair_list_spelled ps) (form ps)) → (ls : List Lexeme) (i : Item) → pairs_item form ls ≡ Some i → IsWritten (l ∷ ls) i

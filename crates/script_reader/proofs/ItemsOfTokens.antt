@@ -13,7 +13,8 @@ use Rattle.script_reader.specs.declared.item.Item.{Item as ItemOfCode}
 use Rattle.script_reader.specs.Items.{Item, item_of, shown_item}
 use Rattle.script_reader.specs.EventLines.{AnswersAs, as_event, by_form, by_tokens}
 
-lexemes : (ts : List Token) → map lexeme (map token_view ts) ≡ map lexeme_of ts
+-- the same tokens, seen alike
+pub lexemes : (ts : List Token) → map lexeme (map token_view ts) ≡ map lexeme_of ts
 lexemes [] = refl
 lexemes (t ∷ ts) = ap (λ (ls : List Lexeme). lexeme_of t ∷ ls) (lexemes ts)
 

@@ -1,5 +1,6 @@
 -- The forms of event lines.
-use Rattle.std.specs.Prelude.{◌≡◌, ◌<◌, length, ℕ, List, [], ◌∷◌, Option, Some, None, codes, map, if◌then◌else◌}
+use Rattle.std.specs.Prelude.{◌<◌, length, ℕ, List, [], ◌∷◌, Option, None, codes, map, if◌then◌else◌}
+use Rattle.std.specs.Option.{option_map}
 use Rattle.text_base.specs.Chain.{◌>>=◌}
 use Rattle.text_base.specs.Lexemes.{Lexeme, word, is_lexeme, name_word_at}
 use Rattle.text_base.specs.Lists.{ended, AreNameWords}
@@ -17,14 +18,13 @@ pub data Item : Type 0 where
   Reset : Item
   Tick : Item
 
--- behind the word goal or observe: pairs
-unfoldable pub pairs_item : (List NamedPair → Item) → List Lexeme → Option Item
-pairs_item form ls = pairs_at ls >>= λ pairs. ended (form pairs.0) pairs.1
+-- pairs, where nothing follows
+unfoldable pub only_pairs : List Lexeme → Option (List NamedPair)
+only_pairs ls = pairs_at ls >>= λ pairs. ended pairs.0 pairs.1
 
--- these pairs are all that stands there, or no pairs are
-abbrev pub AreOnlyPairs : List Lexeme → Option (List NamedPair) → Type 0
-AreOnlyPairs ls (Some pairs) = (form : List NamedPair → Item) → pairs_item form ls ≡ Some (form pairs)
-AreOnlyPairs ls None = (form : List NamedPair → Item) → pairs_item form ls ≡ None
+-- behind the word goal or observe: pairs
+abbrev pub pairs_item : (List NamedPair → Item) → List Lexeme → Option Item
+pairs_item form ls = option_map form (only_pairs ls)
 
 -- behind the word fault: a pair
 unfoldable pub fault_at : List Lexeme → Option Item

@@ -17,7 +17,7 @@ fn has_item(pairs: &[Pair], item: u16) -> bool
 }
 
 /// Whether two of the pairs are of one item.
-fn has_item_twice(pairs: &[Pair]) -> bool
+pub fn has_item_twice(pairs: &[Pair]) -> bool
     ensures { result ≡ has_item_twice pairs.now }
 {
     for (i, pair) in pairs.iter().enumerate() {

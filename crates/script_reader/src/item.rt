@@ -5,7 +5,7 @@ ghost use Rattle.std.specs.Option.{option_map};
 ghost use Rattle.text_base.specs.Lexemes.{lexeme_of};
 ghost use Rattle.text_base.specs.Lists.{ended};
 ghost use Rattle.text_base.specs.Pairs.{shown_pair};
-ghost use Rattle.script_reader.specs.Items.{AreOnlyPairs, pairs_item, fault_at, mirror_at, item_of, shown_item};
+ghost use Rattle.script_reader.specs.Items.{only_pairs, fault_at, mirror_at, item_of, shown_item};
 
 use std::alloc::{AllocError, Global};
 use text_base::{Kind, NamedPair, Token, is_lexeme, name_word_at, pair_at, pairs_at};
@@ -31,13 +31,14 @@ fn ended<'a>(item: Item<'a>, tokens: &[Token]) -> Option<Item<'a>>
 }
 
 /// The pairs, where nothing follows.
-#[tactic(auto, unfolding(crate::specs::Items::pairs_item))]
-fn only_pairs<'a>(
+#[tactic(auto, unfolding(crate::specs::Items::only_pairs))]
+pub fn only_pairs<'a>(
     alloc: Global,
     tokens: &[Token<'a>],
 ) -> Result<Option<Vec<NamedPair<'a>>>, AllocError>
-    ensures { IfOk result (λ read. AreOnlyPairs (map lexeme_of tokens.now)
-        (option_map (λ pairs. map shown_pair pairs.items) read)) }
+    ensures { IfOk result (λ read.
+        option_map (λ pairs. map shown_pair pairs.items) read
+        ≡ only_pairs (map lexeme_of tokens.now)) }
 {
     let Some((pairs, rest)) = pairs_at(alloc, tokens)? else {
         return Ok(None);

@@ -10,6 +10,9 @@ mod item;
 mod laws;
 mod named;
 
+pub use event_codes::has_item_twice;
 pub use event_line::{read_event, read_named_event};
 pub use formula_syntax::NamedModel;
+pub use item::only_pairs;
 pub use laws::{least_codes_are_answered, lines_are_spelled, lines_say_items};
+pub use named::{Naming, each_pair, stands_for};

@@ -8,5 +8,6 @@ pub mod Names
 pub mod ProofLines
 pub mod Refusals
 pub mod Reports
+pub mod TargetLines
 pub mod TraceLines
 pub mod Words

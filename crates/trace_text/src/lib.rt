@@ -15,6 +15,7 @@ mod read_parts;
 mod read_report;
 mod refusal;
 mod report;
+mod target;
 mod trace_line;
 mod words;
 
@@ -24,4 +25,5 @@ pub use limits::MAX_TRACE_LINE;
 pub use proof_lines::{route_lines, world_line};
 pub use refusal::refusal_line;
 pub use report::line_of;
+pub use target::target_lines;
 pub use trace_line::{LineFault, TraceLine, read_line};

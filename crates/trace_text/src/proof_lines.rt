@@ -80,7 +80,7 @@ fn push_plan(out: &mut Vec<u8>, names: &[Name], end: &PlanEnd) -> Result<(), All
 }
 
 /// The line of a plan that begins with the word.
-fn push_plan_line(
+pub fn push_plan_line(
     out: &mut Vec<u8>,
     word: &[u8],
     model: &Model,

@@ -11,7 +11,11 @@ use cca_base::{Component, List, Model, Reply, Shown, TickReport};
 use std::alloc::{AllocError, Global};
 
 /// Each component with its mode, each behind a space.
-fn push_modes(out: &mut Vec<u8>, components: &[Component], modes: &[u8]) -> Result<(), AllocError>
+pub fn push_modes(
+    out: &mut Vec<u8>,
+    components: &[Component],
+    modes: &[u8],
+) -> Result<(), AllocError>
     ensures { OnOk result (out.new.items
         ≡ out.old.items ++ behind_spaces (mode_words components.now modes.now)) }
 {

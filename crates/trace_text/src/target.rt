@@ -1,0 +1,33 @@
+//! The lines of a target and of the plan to it.
+
+ghost use Rattle.std.specs.Prelude.{◌≡◌, IfOk};
+ghost use Rattle.trace_text.specs.TargetLines.{target_text};
+
+use crate::names::push_number;
+use crate::proof_lines::push_plan_line;
+use crate::report::push_modes;
+use cca_base::{List, Model, PlanEnd, State};
+use std::alloc::{AllocError, Global};
+
+/// The line of a target state that weighs so much, and the line of the plan to it, each with its LF, by the model's names. The
+/// error is out of memory.
+#[tactic(auto, unfolding(crate::specs::TargetLines::target_text))]
+pub fn target_lines(
+    alloc: Global,
+    model: &Model,
+    weight: u64,
+    state: &State,
+    plan: &PlanEnd,
+) -> Result<List<u8>, AllocError>
+    ensures { IfOk result (λ text.
+        text ≡ target_text model.now weight state.now.modes plan.now) }
+{
+    let mut out = Vec::new(alloc);
+    out.extend_from_slice(b"target ")?;
+    push_number(alloc, &mut out, weight)?;
+    let components = model.components().as_slice();
+    push_modes(&mut out, components, state.modes.as_slice())?;
+    out.push(b'\n')?;
+    push_plan_line(&mut out, b"plan", model, plan)?;
+    Ok(List::of(out))
+}
