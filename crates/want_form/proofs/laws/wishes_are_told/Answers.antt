@@ -1,0 +1,5 @@
+use Rattle.want_form.proofs.WishesTold as told
+use Rattle.want_form.proofs.laws.wishes_are_told.Goals as goal
+
+pub returns : goal.returns
+returns c = told.wishes_are_told

@@ -1,0 +1,6 @@
+pub mod Answered
+pub mod OneStep
+pub mod WantLaws
+pub mod WantMeaning
+pub mod WishMachine
+pub mod Wishes

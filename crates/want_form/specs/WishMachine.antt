@@ -1,0 +1,90 @@
+-- The machine of the lines behind a model in which target states are asked for.
+use Rattle.std.specs.Prelude.{◌≡◌, ⊤, ℕ, false, List, [], Option, Some, None, Result, Ok, Err}
+use Rattle.cca_base.specs.Accepted.{CompiledModel, IsCompiled}
+use Rattle.cca_base.specs.Refusals.{bare}
+use Rattle.cca_base.specs.declared.codes.TheConstants.{MANY}
+use Rattle.cca_base.specs.declared.cube.Pair.{Pair}
+use Rattle.goal_interpreter.specs.Targets.{IsTargetFor}
+use Rattle.goal_interpreter.specs.declared.target.Target.{Target}
+use Rattle.goal_interpreter.specs.declared.target.Target.TheVariants.{Found, Nowhere, Many}
+use Rattle.line_machine.specs.Next.{Next, GoesOn}
+use Rattle.line_machine.specs.declared.machine.End.{End}
+use Rattle.line_machine.specs.declared.machine.End.TheVariants.{Ended}
+use Rattle.line_machine.specs.declared.machine.Machine.{Ghosts}
+use Rattle.model_form.specs.FormMachine.{form_machine}
+use Rattle.model_form.specs.FormStates.{FormState}
+use Rattle.model_form.specs.ModelSteps.{GoesOnIn, RefusesLine}
+use Rattle.model_form.specs.declared.form.ModelForm.{Ghosts as FormGhosts}
+use Rattle.model_form.specs.declared.limits.TheConstants.{MAX_LINE}
+use Rattle.trace_text.specs.Json.{refusal_text}
+use Rattle.want_lines.specs.Requests.{IsRequestOf}
+use Rattle.want_lines.specs.declared.request.Request.{Request}
+use Rattle.want_lines.specs.declared.request.Request.TheVariants.{Weight, At, Want}
+use Rattle.want_form.specs.Answered.{TargetText}
+use Rattle.want_form.specs.Wishes.{Settings, first_settings, put_in, with_weight}
+use Rattle.want_form.specs.declared.want.Want.{Want as WantForm}
+
+-- where the lines stand: the compiled model, what the modes weigh, and where the components stand
+pub record WishState : Type 0 where
+  pub compiled : CompiledModel
+  pub settings : Settings
+
+-- before the first line behind the model
+abbrev pub wish_first : CompiledModel → WishState
+wish_first b = record { compiled = b; settings = first_settings b.model }
+
+-- behind an accepted model its lines begin, and nothing is printed
+abbrev pub Begins : CompiledModel → ℕ → Next WishState → List ℕ → Type 0
+Begins b n u text = GoesOnIn (wish_first b) u text
+
+-- the pair's mode has this weight
+abbrev pub weighed : WishState → Pair → ℕ → WishState
+weighed x p weight = record { compiled = x.compiled; settings = record { weights = with_weight p weight x.settings.weights; modes = x.settings.modes } }
+
+-- the components of the pairs are in these modes
+abbrev pub put_at : WishState → List Pair → WishState
+put_at x pairs = record { compiled = x.compiled; settings = record { weights = x.settings.weights; modes = put_in x.settings.modes pairs } }
+
+-- the answer for a wish: a target or none is printed, and the state stays; a wish with too many implicants is refused
+abbrev pub AnswersBy : Target → WishState → ℕ → Next WishState → List ℕ → Type 0
+AnswersBy (Found state weight goal) x n u text = (u ≡ GoesOn x) × TargetText x.compiled x.settings.modes (Found state weight goal) text
+AnswersBy Nowhere x n u text = (u ≡ GoesOn x) × TargetText x.compiled x.settings.modes Nowhere text
+AnswersBy Many x n u text = RefusesLine false x.compiled.model n (bare MANY) u text
+
+-- what a request leads to: a weight or modes are set, or a wish is answered
+abbrev pub ServesRequest : Request → WishState → ℕ → Next WishState → List ℕ → Type 0
+ServesRequest (Weight p weight) x n u text = GoesOnIn (weighed x p weight) u text
+ServesRequest (At pairs) x n u text = GoesOnIn (put_at x pairs) u text
+ServesRequest (Want formula) x n u text = (target : Target) × IsTargetFor x.compiled x.settings.weights x.settings.modes formula target × AnswersBy target x n u text
+
+-- a line by what it asks for: it is served, says nothing, or is refused
+abbrev pub ServesBy : Result (Option Request) ℕ → WishState → ℕ → Next WishState → List ℕ → Type 0
+ServesBy (Err code) x n u text = RefusesLine false x.compiled.model n (bare code) u text
+ServesBy (Ok None) x n u text = GoesOnIn x u text
+ServesBy (Ok (Some request)) x n u text = ServesRequest request x n u text
+
+-- what a line leads to
+abbrev pub WantSteps : WishState → ℕ → List ℕ → Next WishState → List ℕ → Type 0
+WantSteps x n line u text = IsCompiled x.compiled × (said : Result (Option Request) ℕ) × IsRequestOf x.compiled.model line said × ServesBy said x n u text
+
+-- what the end of the input leads to: the lines may end anywhere
+abbrev pub WantCloses : End → List ℕ → Type 0
+WantCloses e text = (e ≡ Ended) × (text ≡ [])
+
+-- the machine of the lines
+abbrev pub wish_machine : Ghosts WishState
+wish_machine = record {
+  limit_of = λ x. MAX_LINE;
+  refusal = λ x n code. refusal_text false x.compiled.model n (bare code);
+  steps = WantSteps;
+  closes = λ x n. WantCloses;
+  awaits = λ x n. ⊤;
+}
+
+-- what the form says at the line `script`
+abbrev pub want_form : FormGhosts WantForm WishState
+want_form = record { is_json = λ f. false; begins = λ f. Begins }
+
+-- the machine
+abbrev pub want_machine : Ghosts (FormState WantForm WishState)
+want_machine = form_machine want_form wish_machine

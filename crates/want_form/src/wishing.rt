@@ -1,0 +1,228 @@
+//! The lines behind an accepted model, in which target states are asked for.
+
+ghost use Rattle.std.specs.Prelude.{All, IfOk, OnErr, OnOk, length, ◌<◌, ◌≡◌, ◌≤◌};
+ghost use Rattle.cca_base.specs.Model.{HasMode, IsFormula};
+ghost use Rattle.cca_base.specs.PlantModel.{PlantModel};
+ghost use Rattle.cca_base.specs.State.{IsState};
+ghost use Rattle.goal_interpreter.specs.declared.weights.TheConstants.{MAX_WEIGHT};
+ghost use Rattle.reversibility.specs.ClassParts.{CoversState};
+ghost use Rattle.want_form.specs.Wishes.{put_in};
+ghost use Rattle.goal_interpreter.specs.Targets.{IsTargetFor};
+ghost use Rattle.goal_interpreter.specs.declared.target.Target.{Target};
+ghost use Rattle.line_machine.specs.Next.{next_of};
+ghost use Rattle.want_lines.specs.Requests.{FitsModel};
+ghost use Rattle.want_form.specs.WishMachine.{AnswersBy, ServesRequest, WantSteps, put_at, weighed, wish_first};
+
+use crate::weights::{no_weights, set_weight};
+use cca_base::codes::MANY;
+use cca_base::{Compiled, Formula, List, Model, Name, Pair, Refusal, Subject};
+use formula_syntax::NamedModel;
+use goal_interpreter::{Target, Weights, interpret_by};
+use guard_compiler::{RuleClause, rules_of};
+use indexmap::IndexMap;
+use line_machine::{End, Machine, Said};
+use model_form::{Accepted, MAX_LINE, nothing, refusal_of, refuse_stop, refused};
+use plan_runner::whole_plan;
+use policy_tables::Tables;
+use reversibility::Classes;
+use std::alloc::{AllocError, Global};
+use std::rc::Rc;
+use successors::Plant;
+use trace_text::target_lines;
+use want_lines::{Request, read_request};
+
+/// An accepted model, its names, its rules as clauses, what its modes weigh, and where its components stand.
+#[derive(Drop)]
+pub struct Wishing {
+    names: IndexMap<Name, Subject>,
+    compiled: Rc<Compiled>,
+    rules: List<RuleClause>,
+    weights: Weights,
+    plant: Plant,
+}
+
+impl std::marker::Model for Wishing {
+    ghost use Rattle.cca_base.specs.State.{IsState};
+    ghost use Rattle.formula_syntax.specs.Lookups.{NamesFit};
+    ghost use Rattle.goal_interpreter.specs.Weights.{AreWeights};
+    ghost use Rattle.guard_compiler.specs.Rules.{AreRulesOf};
+    ghost use Rattle.want_form.specs.WishMachine.{WishState};
+    ghost use Rattle.cca_base.specs.Coded.{model_codes};
+
+    ghost Value = { WishState };
+
+    ghost coded = { Prim.hlevel model_codes };
+
+    ghost view = { λ w. record {
+      compiled = w.compiled.value;
+      settings = record { weights = w.weights.rows; modes = w.plant };
+    } };
+
+    ghost invariant = { λ w. NamesFit w.names w.compiled.value.model
+        × AreRulesOf w.compiled.value.model w.rules
+        × AreWeights w.compiled.value.model w.weights.rows
+        × IsState w.compiled.value.model w.plant };
+}
+
+/// Puts the components of the pairs into their modes.
+fn put_all(plant: &mut Plant, pairs: &[Pair])
+    requires { All (λ p. p.item < length plant.old) pairs.now }
+    ensures put { plant.new ≡ put_in plant.old pairs.now }
+    ensures fits { (m : PlantModel) → IsState m plant.old →
+        All (λ p. HasMode m p.item p.value) pairs.now → IsState m plant.new }
+{
+    for pair in pairs {
+        plant.fault(*pair);
+    }
+}
+
+impl Wishing {
+    /// Before the first line behind the model.
+    pub fn open(alloc: Global, accepted: Accepted) -> Result<Wishing, AllocError>
+        ensures { IfOk result (λ w. w ≡ wish_first accepted) }
+    {
+        let (compiled, names) = accepted.into_parts();
+        let rules = rules_of(alloc, compiled.model())?;
+        let weights = no_weights(alloc, compiled.model())?;
+        let plant = Plant::open(alloc, &compiled)?;
+        let compiled = Rc::new(alloc, compiled)?;
+        Ok(Wishing {
+            names,
+            compiled,
+            rules,
+            weights,
+            plant,
+        })
+    }
+
+    /// The pair's mode has this weight from now on. The error is out of memory, and then all is as it was.
+    fn weigh(&mut self, alloc: Global, pair: Pair, weight: u32) -> Result<(), AllocError>
+        requires pair { HasMode self.old.compiled.model pair.item pair.value }
+        requires small { weight ≤ MAX_WEIGHT }
+        ensures ok { OnOk result (self.new ≡ weighed self.old pair weight) }
+        ensures err { OnErr result (self.new ≡ self.old) }
+    {
+        set_weight(alloc, &mut self.weights, pair, weight)
+    }
+
+    /// The components are in these modes from now on.
+    fn put(&mut self, pairs: &[Pair])
+        requires { All (λ p. HasMode self.old.compiled.model p.item p.value) pairs.now }
+        ensures { self.new ≡ put_at self.old pairs.now }
+    {
+        put_all(&mut self.plant, pairs);
+    }
+
+    /// The tables of the classes around where the components stand. The error is out of memory.
+    fn tables(&self, alloc: Global) -> Result<Tables, AllocError>
+        ensures compiled { IfOk result (λ t. t.classes.compiled ≡ self.now.compiled) }
+        ensures covers { IfOk result (λ t. CoversState t.classes self.now.settings.modes) }
+    {
+        let classes = Classes::of(alloc, &self.compiled, self.plant.state())?;
+        Tables::of(alloc, classes)
+    }
+
+    /// Answers a wish.
+    fn answer(&self, alloc: Global, number: u64, formula: &Formula) -> Result<Said, AllocError>
+        requires formula { IsFormula self.now.compiled.model formula.now }
+        ensures { IfOk result (λ said. (target : Target)
+            × IsTargetFor self.now.compiled self.now.settings.weights self.now.settings.modes formula.now target
+            × AnswersBy target self.now number (next_of self.now said.end) said.text.items) }
+    {
+        let model = self.compiled.model();
+        let tables = self.tables(alloc)?;
+        let from = self.plant.state();
+        match interpret_by(alloc, &tables, &self.rules, from, formula, &self.weights)? {
+            Target::Found {
+                state,
+                weight,
+                goal,
+            } => {
+                let plan = whole_plan(alloc, &tables, from, &goal)?;
+                let text = target_lines(alloc, model, weight, &state, &plan)?;
+                Ok(Said {
+                    text: text.into_vec(),
+                    end: None,
+                })
+            }
+            Target::Nowhere => Ok(Said {
+                text: Vec::from_slice(alloc, b"none\n")?,
+                end: None,
+            }),
+            Target::Many => refused(alloc, false, model, number, &Refusal::bare(MANY)),
+        }
+    }
+
+    /// Serves a request.
+    fn serve(&mut self, alloc: Global, number: u64, request: &Request) -> Result<Said, AllocError>
+        requires fits { FitsModel self.old.compiled.model request.now }
+        ensures { IfOk result (λ said.
+            ServesRequest request.now self.old number (next_of self.new said.end) said.text.items) }
+    {
+        match request {
+            Request::Weight { pair, weight } => {
+                self.weigh(alloc, *pair, *weight)?;
+                Ok(nothing(alloc))
+            }
+            Request::At(pairs) => {
+                self.put(pairs.as_slice());
+                Ok(nothing(alloc))
+            }
+            Request::Want(formula) => self.answer(alloc, number, formula),
+        }
+    }
+
+    /// Takes a line behind the model.
+    fn line(&mut self, alloc: Global, number: u64, line: &[u8]) -> Result<Said, AllocError>
+        ensures { IfOk result (λ said. WantSteps self.old number line.now
+            (next_of self.new said.end) said.text.items) }
+    {
+        let model = NamedModel::new(self.compiled.model(), &self.names);
+        match read_request(alloc, line, &model) {
+            Ok(Some(request)) => self.serve(alloc, number, &request),
+            Ok(None) => Ok(nothing(alloc)),
+            Err(stop) => refuse_stop(alloc, false, self.compiled.model(), number, &stop),
+        }
+    }
+}
+
+// By the clauses of the trait a line gives `WantSteps`, and the end of the input `WantCloses` (specs/WishMachine.antt).
+impl Machine for Wishing {
+    ghost use Rattle.std.specs.Prelude.{⊤, false};
+    ghost use Rattle.cca_base.specs.Refusals.{bare};
+    ghost use Rattle.model_form.specs.declared.limits.TheConstants.{MAX_LINE};
+    ghost use Rattle.trace_text.specs.Json.{refusal_text};
+    ghost use Rattle.want_form.specs.WishMachine.{WantSteps, WantCloses};
+    ghost use Rattle.want_form.specs.OneStep.{steps_one, closes_one};
+
+    ghost limit_of = { λ x. MAX_LINE };
+
+    ghost refusal = { λ x n code. refusal_text false x.compiled.model n (bare code) };
+
+    ghost steps = { WantSteps };
+
+    ghost closes = { λ x n. WantCloses };
+
+    ghost awaits = { λ x n. ⊤ };
+
+    ghost steps_are_one = { steps_one };
+
+    ghost closes_are_one = { closes_one };
+
+    fn limit(&self) -> usize {
+        MAX_LINE
+    }
+
+    fn refuse(&self, alloc: Global, number: u64, code: u8) -> Result<Vec<u8>, AllocError> {
+        let refusal = Refusal::bare(code);
+        refusal_of(alloc, false, self.compiled.model(), number, &refusal)
+    }
+
+    fn step(&mut self, alloc: Global, number: u64, line: &[u8]) -> Result<Said, AllocError> {
+        self.line(alloc, number, line)
+    }
+
+    fn close(&mut self, alloc: Global, _count: u64) -> Result<(Vec<u8>, End), AllocError> {
+        Ok((Vec::new(alloc), End::Ended))
+    }
+}
