@@ -13,9 +13,11 @@ use Rattle.run_form.proofs.RunEnds.{run_never_rejected}
 use Rattle.check_form.proofs.CheckAgrees.{check_agrees}
 use Rattle.migrate_form.proofs.MigrateAgrees.{migrate_agrees}
 use Rattle.migrate_form.proofs.MigrateEnds.{migrate_never_rejected}
+use Rattle.want_form.proofs.WantAgrees.{want_agrees}
+use Rattle.want_form.proofs.WantEnds.{want_never_rejected}
 use Rattle.titan_top.specs.Meanings.{meaning_of}
 use Rattle.titan_top.specs.declared.words.Form.{Form}
-use Rattle.titan_top.specs.declared.words.Form.TheVariants.{Run, Show, Trial, Check, Migrate}
+use Rattle.titan_top.specs.declared.words.Form.TheVariants.{Run, Show, Trial, Check, Migrate, Want}
 use Rattle.model_form.specs.FormStates.{form_first}
 
 pub agrees : (form : Form) → FormAgrees (meaning_of form)
@@ -24,6 +26,7 @@ agrees Show = show_agrees
 agrees (Trial seed) = run_agrees _ _
 agrees Check = check_agrees
 agrees Migrate = migrate_agrees
+agrees Want = want_agrees
 
 -- a text that is printed, or surely comes, says No
 abbrev SaysNo : Form → List ℕ → List ℕ → Type 0
@@ -35,3 +38,4 @@ only_check_rejects Show bytes text h = absurd (show_never_rejected (form_first (
 only_check_rejects (Trial seed) bytes text h = absurd (run_never_rejected (run_first (Summary seed)) bytes text h)
 only_check_rejects Check bytes text h = refl
 only_check_rejects Migrate bytes text h = absurd (migrate_never_rejected (form_first (record {})) bytes text h)
+only_check_rejects Want bytes text h = absurd (want_never_rejected (form_first (record {})) bytes text h)

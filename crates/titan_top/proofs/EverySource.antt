@@ -1,4 +1,4 @@
--- What holds over every source: only a check is rejected, a run, a check and a migration are read to their end and what is shown to its script, and
+-- What holds over every source: only a check is rejected, a run, a check, a migration and wishes are read to their end and what is shown to its script, and
 -- show and check are silent before.
 use Rattle.std.proofs.Common.{◌≡◌, ℕ, ◌⊎◌, inl, inr, List, [], append-nil, Option, Some, None, Result, Ok, Err, refl, subst, ◌∙◌}
 use Rattle.std.specs.Io.KnownBytes.{prepend_known, IsAtEnd}
@@ -22,13 +22,15 @@ use Rattle.check_form.specs.CheckForm.{check_machine}
 use Rattle.check_form.proofs.NotBefore.{check_sure_not, check_is_quiet}
 use Rattle.migrate_form.specs.MigrateMachine.{migrate_machine}
 use Rattle.migrate_form.proofs.MigrateEnds.{migrate_sure_refused}
+use Rattle.want_form.specs.WishMachine.{want_machine}
+use Rattle.want_form.proofs.WantEnds.{want_sure_refused}
 use Rattle.titan_top.specs.Meanings.{meaning_of}
 use Rattle.titan_top.specs.Output.{NothingRefused}
 use Rattle.titan_top.specs.Statuses.{cut_status, status_of}
 use Rattle.titan_top.specs.Streams.{StreamedBy, StreamedFor}
 use Rattle.titan_top.specs.declared.status.Status.TheVariants.{Ended, Rejected, ReadFault}
 use Rattle.titan_top.specs.declared.words.Form.{Form}
-use Rattle.titan_top.specs.declared.words.Form.TheVariants.{Run, Show, Check, Migrate}
+use Rattle.titan_top.specs.declared.words.Form.TheVariants.{Run, Show, Check, Migrate, Want}
 use Rattle.titan_top.proofs.Agreements.{agrees, only_check_rejects}
 use Rattle.titan_top.proofs.FormStatuses.{no_cut_ended, no_cut_rejected, end_ended, end_rejected, end_not_fault}
 use Rattle.model_form.specs.FormStates.{form_first}
@@ -90,6 +92,12 @@ migration_never taken text h = let k : ends.Ended ≡ ends.Refused = migrate_sur
 
 pub migration_at_end : (form : Form) (left left' out out' : Option (List ℕ)) (r : Result End Cut) → form ≡ Migrate → StreamedFor form left left' out out' r → status_of r ≡ Ended → IsAtEnd left'
 migration_at_end form left left' out out' r is s h = ended_at_end migrate_machine (form_first (record {})) migration_never left left' out out' r (subst (λ (f : Form). StreamedFor f left left' out out' r) is s) h
+
+wishes_never : (taken text : List ℕ) → IsSure want_machine (form_first (record {})) taken (Stops ends.Ended) text → ⊥
+wishes_never taken text h = let k : ends.Ended ≡ ends.Refused = want_sure_refused (form_first (record {})) taken ends.Ended text h in absurd cc
+
+pub wishes_at_end : (form : Form) (left left' out out' : Option (List ℕ)) (r : Result End Cut) → form ≡ Want → StreamedFor form left left' out out' r → status_of r ≡ Ended → IsAtEnd left'
+wishes_at_end form left left' out out' r is s h = ended_at_end want_machine (form_first (record {})) wishes_never left left' out out' r (subst (λ (f : Form). StreamedFor f left left' out out' r) is s) h
 
 -- ---- what was shown was read to its script
 

@@ -14,6 +14,7 @@ pub mod ProvenTicks
 pub mod SeedWords
 pub mod TraceIsChecked
 pub mod TracesOfWords
+pub mod WishesOfWords
 pub mod TrialRuns
 pub mod WordExamples
 pub mod WordsOfForms

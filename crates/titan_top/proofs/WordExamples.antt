@@ -10,8 +10,10 @@ words_are_forms = record {
   show = refl;
   check = refl;
   migrate = refl;
+  want = refl;
   no_word = refl;
   another = refl;
   one_more = refl;
   migrate_more = refl;
+  want_more = refl;
 }

@@ -15,6 +15,7 @@ ghost use Rattle.titan_top.specs.OwnTraces.{HasOwnTrace};
 ghost use Rattle.titan_top.specs.Streams.{HasRoomForWords, IsDrivenAs, OfInput, StreamsAs};
 ghost use Rattle.titan_top.specs.Wire.{Writes, WritesAs};
 ghost use Rattle.titan_top.specs.Words.{asked, IsForm};
+ghost use Rattle.want_form.specs.WantMeaning.{IsWishesAnswer};
 
 use crate::status::{Status, status_of};
 use crate::trial::drive_trial;
@@ -26,6 +27,7 @@ use run_form::{RunMachine, open_run};
 use show_form::{ShowMachine, open_show};
 use std::alloc::Global;
 use titan_wire::{PutEnd, Sink, Source, put_all};
+use want_form::{WantMachine, open_want};
 
 /// Drives the machine of a form of words. The source is asked by an intake, so that the order of reads and writes can be said.
 fn drive_form<S, K: Sink, I: Intake<S, K>>(
@@ -61,6 +63,7 @@ fn drive_form<S, K: Sink, I: Intake<S, K>>(
             source,
             sink,
         ),
+        Form::Want => drive_opened::<WantMachine, S, K, I>(alloc, open_want(alloc), source, sink),
     }
 }
 
@@ -133,6 +136,12 @@ pub fn titan<S: Source, K: Sink>(
         (o : Outcome) → IsOutcome words.now.items input o → o.status ≡ Status.Ended →
         IsMigrated input o.text) }
 
+    // What is printed of wishes is the text of their targets: for each line `want` of an accepted model the lightest settled state that holds
+    // the wish, with the plan to it, or that there is none; and then comes the line of a refusal, if there is one, which a wish with too many
+    // prime implicants has, whether or not there is such a state.
+    ensures wished { IsForm words.now.items Form.Want → IfSome (S.left source.old) (λ input.
+        (o : Outcome) → IsOutcome words.now.items input o → OfAnswer (IsWishesAnswer input) o) }
+
     // The input has no line that is refused, or its first one is named. A check has no No either, or its first one comes first.
     ensures ended { result ≡ Status.Ended →
         OfInput (asked words.now.items) (S.left source.old)
@@ -196,13 +205,15 @@ pub fn titan<S: Source, K: Sink>(
     // Only a check rejects anything.
     ensures only_check { result ≡ Status.Rejected → IsForm words.now.items Form.Check }
 
-    // A run, a check or a migration that ended has read its input to the end; what is shown was read to the line `script`. Before the end `show` and
+    // A run, a check, a migration or wishes that ended have read its input to the end; what is shown was read to the line `script`. Before the end `show` and
     // `check` write nothing.
     ensures whole { (notation : Notation) → IsForm words.now.items (Form.Run notation) →
         result ≡ Status.Ended → IsAtEnd (S.left source.new) }
     ensures whole_check { IsForm words.now.items Form.Check → result ≡ Status.Ended →
         IsAtEnd (S.left source.new) }
     ensures whole_migration { IsForm words.now.items Form.Migrate → result ≡ Status.Ended →
+        IsAtEnd (S.left source.new) }
+    ensures whole_wishes { IsForm words.now.items Form.Want → result ≡ Status.Ended →
         IsAtEnd (S.left source.new) }
     ensures to_script { IsForm words.now.items Form.Show → result ≡ Status.Ended →
         (taken : List ℕ) × (S.left source.old ≡ prepend_known taken (S.left source.new))

@@ -19,6 +19,8 @@ pub enum Form {
     Check,
     /// Reads a document and prints it as one of version 2.
     Migrate,
+    /// Reads a model and wishes, and prints the target of each.
+    Want,
 }
 
 /// The number of 64 bits that the word says, if it says one.
@@ -49,6 +51,8 @@ pub fn form_of(words: &[String]) -> Option<Form>
                 Some(Form::Check)
             } else if a.as_str() == "migrate" {
                 Some(Form::Migrate)
+            } else if a.as_str() == "want" {
+                Some(Form::Want)
             } else {
                 None
             }
