@@ -41,6 +41,8 @@ mod trials;
 #[cfg(test)]
 mod wire;
 #[cfg(test)]
+mod wishes;
+#[cfg(test)]
 mod worlds;
 
 pub use limits::line_limits;
