@@ -18,7 +18,6 @@ use Rattle.script_reader.proofs.NamedItems.{mode_names, twice_named}
 use Rattle.want_lines.specs.Items.{Item, Weight, At, Want}
 use Rattle.want_lines.specs.Requests.{Answers, FitsModel, IsRequestOf, IsTaken}
 use Rattle.want_lines.specs.declared.request.Request.{Request}
-use Rattle.want_lines.specs.declared.request.Request.TheVariants as request
 use Rattle.want_lines.proofs.OneText.{formula_of}
 
 -- a test is false where its being true is absurd

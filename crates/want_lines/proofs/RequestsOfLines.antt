@@ -1,6 +1,5 @@
 -- What a line asks for, by its tokens.
-use Rattle.std.proofs.Common.{◌≡◌, ℕ, List, [], ◌∷◌, map, Option, Some, None, Result, Ok, Err, inl, inr, refl, sym, subst, ◌∙◌, arith}
-use Rattle.cca_base.specs.declared.codes.TheConstants.{MALFORMED}
+use Rattle.std.proofs.Common.{◌≡◌, ℕ, List, [], ◌∷◌, map, Option, Some, None, Result, Ok, Err, inl, inr, sym, subst, ◌∙◌, arith}
 use Rattle.cca_base.specs.PlantModel.{PlantModel}
 use Rattle.cca_base.specs.declared.events.Stop.{Stop}
 use Rattle.cca_base.specs.declared.events.Stop.TheVariants as stops
@@ -34,10 +33,6 @@ module _ (m : PlantModel) (line : List ℕ) where
       go [] (Err code) e h = absurd (omega (arith, h.0))
       go (t ∷ ts) (Err code) e (some, inl (is, none)) = inl (is, inr (token_view t, map token_view ts, e, λ i s. none i (spelled (map token_view (t ∷ ts)) i e s)))
       go (t ∷ ts) (Err code) e (some, inr (i, s, h)) = inr (i, spells (map token_view (t ∷ ts)) i e s, h)
-
-  -- a byte that belongs to nothing
-  pub bad_byte : (at : ℕ) → tokens_of line ≡ Err at → IsRequestOf m line (Err MALFORMED)
-  bad_byte at e = inl (refl, inl (at, e))
 
   -- the same of what a call answered
   pub line_answer : (ts : List Token) (r : Result (Option Request) Stop) → tokens_of line ≡ Ok (map token_view ts) → Answers r (IsRequestOfTokens m (map lexeme_of ts)) → Answers r (IsRequestOf m line)

@@ -13,7 +13,6 @@ use Rattle.formula_syntax.specs.Answers.{AnswersFormula, IsFormulaOf, formula_or
 use Rattle.formula_syntax.specs.Grammar.{Whole}
 use Rattle.formula_syntax.specs.Meanings.{names_unknown, is_deep, whole_formula}
 use Rattle.text_base.specs.Lexemes.{Lexeme, word, is_lexeme}
-use Rattle.text_base.proofs.LexemeLaws.{lexeme_is}
 use Rattle.text_base.specs.Pairs.{NamedPair}
 use Rattle.script_reader.specs.EventCodes.{has_item_twice}
 use Rattle.script_reader.specs.Named.{mode_pair, each_pair}
@@ -156,17 +155,3 @@ module _ (m : PlantModel) where
   pub wanted_stop : (ls : List Lexeme) (stop : Stop) → AnswersFormula (Err stop) (IsFormulaOf m ls) → Answers (let r : Result Request Stop = Err stop in r) (IsRequestOfWords m (want_word ∷ ls))
   wanted_stop ls stops.Memory h = tt
   wanted_stop ls (stops.Refused refusal) h = (says_wanted ls (Err refusal.code) h.0, h.1)
-
-  -- ---- the first word
-
-  -- where a word is tested for
-  pub by_word : (k : Lexeme) (l : Lexeme) (ls : List Lexeme) (r : Result Request Stop) → is_lexeme k l ≡ true → Answers r (IsRequestOfWords m (k ∷ ls)) → Answers r (IsRequestOfWords m (l ∷ ls))
-  by_word k l ls r e h = subst (λ (x : Lexeme). Answers r (IsRequestOfWords m (x ∷ ls))) (sym (lexeme_is k l e)) h
-
-  other_word : (l : Lexeme) (ls : List Lexeme) → is_lexeme weight_word l ≡ false → is_lexeme at_word l ≡ false → is_lexeme want_word l ≡ false → (i : Item) → AreSpelling (l ∷ ls) i → ⊥
-  other_word l ls a b c (Weight p n) (e, h) = let first : l ≡ weight_word = head_is l weight_word ls _ e in no (ap (is_lexeme weight_word) (sym first) ∙ a)
-  other_word l ls a b c (At ps) (e, h) = let first : l ≡ at_word = head_is l at_word ls _ e in no (ap (is_lexeme at_word) (sym first) ∙ b)
-  other_word l ls a b c (Want text) (e, h) = let first : l ≡ want_word = head_is l want_word ls _ e in no (ap (is_lexeme want_word) (sym first) ∙ c)
-
-  pub says_malformed : (l : Lexeme) (ls : List Lexeme) → is_lexeme weight_word l ≡ false → is_lexeme at_word l ≡ false → is_lexeme want_word l ≡ false → IsRequestOfWords m (l ∷ ls) (Err MALFORMED)
-  says_malformed l ls a b c = inl (refl, other_word l ls a b c)
