@@ -7,12 +7,12 @@ use Rattle.line_machine.specs.declared.machine.End.{End}
 use Rattle.line_machine.specs.declared.machine.End.TheVariants as ends
 use Rattle.line_machine.proofs.EndsSo.{same_end, not_end, sure_so}
 use Rattle.model_form.specs.FormStates.{FormState}
+use Rattle.model_form.specs.declared.lines.OfLines.{OfLines}
 use Rattle.model_form.proofs.FormEnds.{form_steps_so, form_is_quiet}
 use Rattle.check_form.specs.CheckForm.{check_form, check_machine}
-use Rattle.check_form.specs.CheckMachine.{CheckState, InScript, InTrace, Begins, ScriptSteps, TraceSteps, CheckSteps, checking_machine}
+use Rattle.check_form.specs.CheckMachine.{CheckState, InScript, InTrace, ScriptSteps, TraceSteps, CheckSteps, checking_machine}
 use Rattle.check_form.specs.CheckScript.{ScriptSoFar, ScriptOutcome, Reads, Ends, Refuses, no_events}
 use Rattle.check_form.specs.CheckTrace.{TraceSoFar, TraceOutcome, Follows, Fails}
-use Rattle.check_form.specs.declared.check.Check.{Check}
 
 abbrev IsNotEnded : End → Type 0
 IsNotEnded e = e ≡ ends.Ended → ⊥
@@ -29,7 +29,7 @@ rejected_not e h k = absurd (clash (sym h ∙ k))
     clash : ends.Rejected ≡ ends.Ended → ⊥
     clash c = absurd cc
 
-begins_not : (f : Check) (b : CompiledModel) (n : ℕ) (e : End) (text : List ℕ) → Begins b n (Stops e) text → IsNotEnded e
+begins_not : (f : OfLines) (b : CompiledModel) (n : ℕ) (e : End) (text : List ℕ) → check_form.begins f b n (Stops e) text → IsNotEnded e
 begins_not f b n e text h = absurd (not_end e (InScript b no_events) h.0)
 
 script_not : (o : ScriptOutcome) (b : CompiledModel) (s : ScriptSoFar) (n : ℕ) (e : End) (text : List ℕ) → ScriptSteps o b s n (Stops e) text → IsNotEnded e
@@ -45,7 +45,7 @@ steps_not : (s : CheckState) (n : ℕ) (l : List ℕ) (e : End) (text : List ℕ
 steps_not (InScript b s) n l e text (compiled, o, leads, h) = script_not o b s n e text h
 steps_not (InTrace b x) n l e text (compiled, o, leads, h) = trace_not o b x e text h
 
-pub check_sure_not : (first : FormState Check CheckState) (bytes : List ℕ) (e : End) (text : List ℕ) → IsSure check_machine first bytes (Stops e) text → IsNotEnded e
+pub check_sure_not : (first : FormState OfLines CheckState) (bytes : List ℕ) (e : End) (text : List ℕ) → IsSure check_machine first bytes (Stops e) text → IsNotEnded e
 check_sure_not = sure_so check_machine IsNotEnded (refused_not ends.Refused refl) (form_steps_so check_form checking_machine IsNotEnded (refused_not ends.Refused refl) begins_not steps_not)
 
 -- ---- nothing is printed before the end

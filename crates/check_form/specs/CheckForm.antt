@@ -8,19 +8,20 @@ use Rattle.model_form.specs.Answers.{Answer, answer, refused_answer}
 use Rattle.model_form.specs.FormMachine.{form_machine}
 use Rattle.model_form.specs.FormStates.{FormState, form_first}
 use Rattle.model_form.specs.ModelTexts.{ModelText, EndsModel}
+use Rattle.model_form.specs.LineMachines.{form_of_lines}
 use Rattle.model_form.specs.declared.form.ModelForm.{Ghosts as FormGhosts}
+use Rattle.model_form.specs.declared.lines.OfLines.{OfLines}
 use Rattle.check_form.specs.CheckEnds.{EndsByModel}
-use Rattle.check_form.specs.CheckMachine.{CheckState, Begins, checking_machine}
+use Rattle.check_form.specs.CheckMachine.{CheckState, check_first, checking_machine}
 use Rattle.check_form.specs.CheckTrace.{CheckEnd, AllYes, FirstNo, FirstRefusal}
 use Rattle.check_form.specs.Verdicts.{no_line, checked_line}
-use Rattle.check_form.specs.declared.check.Check.{Check}
 
 -- what the form says at the line `script`
-abbrev pub check_form : FormGhosts Check CheckState
-check_form = record { is_json = λ f. false; begins = λ f. Begins }
+abbrev pub check_form : FormGhosts OfLines CheckState
+check_form = form_of_lines check_first
 
 -- the machine
-abbrev pub check_machine : Ghosts (FormState Check CheckState)
+abbrev pub check_machine : Ghosts (FormState OfLines CheckState)
 check_machine = form_machine check_form checking_machine
 
 -- what is printed of how a check ends

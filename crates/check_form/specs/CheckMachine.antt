@@ -34,9 +34,9 @@ abbrev pub limit_in : CheckState → ℕ
 limit_in (InScript b s) = MAX_LINE
 limit_in (InTrace b x) = MAX_TRACE_LINE
 
--- behind an accepted model its script begins, and nothing is printed
-abbrev pub Begins : CompiledModel → ℕ → Next CheckState → List ℕ → Type 0
-Begins b n u text = GoesOnIn (InScript b no_events) u text
+-- before the first line of the script
+abbrev pub check_first : CompiledModel → CheckState
+check_first b = InScript b no_events
 
 -- by what a line makes of the script: behind the line `trace` the events up to the first tick are made
 abbrev pub ScriptSteps : ScriptOutcome → CompiledModel → ScriptSoFar → ℕ → Next CheckState → List ℕ → Type 0

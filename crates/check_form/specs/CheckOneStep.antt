@@ -23,7 +23,7 @@ use Rattle.trace_laws.specs.Events.{AsGiven, IsTick}
 use Rattle.trace_laws.proofs.PendingKnown.{one_pending}
 use Rattle.trace_text.specs.declared.trace_line.TraceLine.{TraceLine}
 use Rattle.trace_text.proofs.OneTextEach.{lines_are_told_apart}
-use Rattle.check_form.specs.CheckMachine.{CheckState, InScript, InTrace, Begins, ScriptSteps, TraceSteps, CheckSteps, TraceCloses, CheckCloses}
+use Rattle.check_form.specs.CheckMachine.{CheckState, InScript, InTrace, ScriptSteps, TraceSteps, CheckSteps, TraceCloses, CheckCloses}
 use Rattle.check_form.specs.CheckScript.{ScriptSoFar, ScriptOutcome, Reads, Ends, Refuses, EventLeads, LeadsUnless, ScriptLeads, is_trace_line, with_event}
 use Rattle.check_form.specs.CheckTrace.{TraceSoFar, TraceOutcome, Follows, Fails, ComesTo, SaysLine, ByVerdict, ByLines, LeadsBehind, TraceLeads, with_said}
 use Rattle.check_form.specs.TickLines.{TickLines, NotNext, More, Whole}
@@ -124,9 +124,6 @@ pub trace_leads_once : (m : PlantModel) → WellFormed m → (x : TraceSoFar) (l
 trace_leads_once m good x l o p h k = behind_once x.behind m good x l o p h k
 
 -- ---- the machine
-
-pub begins_one_way : (b : CompiledModel) (n : ℕ) (u v : Next CheckState) (a c : List ℕ) → Begins b n u a → Begins b n v c → AreOne u v a c
-begins_one_way b n u v a c h k = (h.0 ∙ sym k.0, h.1 ∙ sym k.1)
 
 script_step_one : (o : ScriptOutcome) (b : CompiledModel) (s : ScriptSoFar) (n : ℕ) (u v : Next CheckState) (a c : List ℕ) → ScriptSteps o b s n u a → ScriptSteps o b s n v c → AreOne u v a c
 script_step_one (Reads t) b s n u v a c h k = (h.0 ∙ sym k.0, h.1 ∙ sym k.1)

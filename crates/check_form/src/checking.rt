@@ -1,15 +1,17 @@
 //! The machine of a check behind its model: it reads a script, and then judges a printed trace of it, line by line.
 
-ghost use Rattle.std.specs.Prelude.{◌≡◌};
-ghost use Rattle.check_form.specs.CheckMachine.{InScript, model_of};
-ghost use Rattle.check_form.specs.CheckScript.{no_events};
+ghost use Rattle.std.specs.Prelude.{◌≡◌, IfOk};
+ghost use Rattle.check_form.specs.CheckMachine.{model_of};
+ghost use Rattle.model_form.specs.FormStates.{form_first};
 
 use crate::check_script::{ScriptEnd, ScriptEvents};
 use crate::check_trace::TraceCheck;
 use cca_base::codes::ENDS_EARLY;
 use cca_base::{Model, Refusal};
 use line_machine::{End, Machine, Said};
-use model_form::{Accepted, MAX_LINE, nothing, refusal_of, refuse_stop};
+use model_form::{
+    Accepted, BehindModel, MAX_LINE, OfLines, WithModel, nothing, refusal_of, refuse_stop,
+};
 use std::alloc::{AllocError, Global};
 use std::mem;
 use trace_text::MAX_TRACE_LINE;
@@ -44,17 +46,20 @@ impl std::marker::Model for Checking {
     ghost invariant = { λ c. KeepsPart c.accepted.model c.part };
 }
 
-impl Checking {
-    /// Before the first line of the script.
-    pub fn open(alloc: Global, accepted: Accepted) -> Checking
-        ensures { result ≡ InScript accepted no_events }
-    {
-        Checking {
+impl BehindModel for Checking {
+    ghost use Rattle.check_form.specs.CheckMachine.{check_first};
+
+    ghost first = { check_first };
+
+    fn open(alloc: Global, accepted: Accepted) -> Result<Checking, AllocError> {
+        Ok(Checking {
             accepted,
             part: Part::Script(ScriptEvents::new(alloc)),
-        }
+        })
     }
+}
 
+impl Checking {
     /// The model.
     fn model(&self) -> &Model
         ensures { result.now ≡ model_of self.now }
@@ -125,4 +130,14 @@ impl Machine for Checking {
             }
         }
     }
+}
+
+/// The form `check`: behind the model stand a script, a line `trace`, and a printed trace.
+pub type CheckMachine = WithModel<OfLines, Checking>;
+
+/// The form before the first line.
+pub fn open_check(alloc: Global) -> Result<CheckMachine, AllocError>
+    ensures { IfOk result (λ w. w ≡ form_first (record {})) }
+{
+    WithModel::open(alloc, OfLines)
 }

@@ -2,7 +2,6 @@
 //! nine tests. Its text is that of how the input is judged: a Yes to every tick, the first No, or the first line that is refused.
 #![tactic(auto)]
 
-mod check;
 mod check_script;
 mod check_trace;
 mod checking;
@@ -10,6 +9,5 @@ mod laws;
 mod tick_lines;
 mod verdicts;
 
-pub use check::{Check, CheckMachine, open_check};
-pub use checking::Checking;
+pub use checking::{CheckMachine, Checking, open_check};
 pub use laws::checks_are_judged;

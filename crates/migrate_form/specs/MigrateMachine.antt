@@ -7,17 +7,14 @@ use Rattle.cca_base.specs.Refusals.{bare}
 use Rattle.cca_base.specs.declared.cube.Pair.{Pair}
 use Rattle.cca_base.specs.declared.events.Event.{Event}
 use Rattle.line_machine.specs.Next.{Next, GoesOn}
-use Rattle.line_machine.specs.declared.machine.End.{End}
-use Rattle.line_machine.specs.declared.machine.End.TheVariants.{Ended}
 use Rattle.line_machine.specs.declared.machine.Machine.{Ghosts}
 use Rattle.model_form.specs.FormMachine.{form_machine}
 use Rattle.model_form.specs.FormStates.{FormState}
+use Rattle.model_form.specs.LineMachines.{machine_of_lines}
 use Rattle.model_form.specs.ModelSteps.{GoesOnIn, RefusesLine}
 use Rattle.model_form.specs.declared.form.ModelForm.{Ghosts as FormGhosts}
-use Rattle.model_form.specs.declared.limits.TheConstants.{MAX_LINE}
 use Rattle.script_reader.specs.EventLines.{event_line}
 use Rattle.trace_laws.specs.Events.{PendingAfter, mirrored_after}
-use Rattle.trace_text.specs.Json.{refusal_text}
 use Rattle.migrate_form.specs.Migrated.{migrated_model}
 use Rattle.migrate_form.specs.declared.migrate.Migrate.{Migrate}
 
@@ -47,19 +44,9 @@ KeepsBy (Ok (Some e)) x n line u text =
 abbrev pub MigrateSteps : ScriptSoFar → ℕ → List ℕ → Next ScriptSoFar → List ℕ → Type 0
 MigrateSteps x n line u text = KeepsBy (event_line x.model x.pending x.mirrored line) x n line u text
 
--- what the end of the input leads to: a script may end anywhere
-abbrev pub MigrateCloses : End → List ℕ → Type 0
-MigrateCloses e text = (e ≡ Ended) × (text ≡ [])
-
--- the machine of the script
+-- the machine of the script, which may end anywhere
 abbrev pub script_machine : Ghosts ScriptSoFar
-script_machine = record {
-  limit_of = λ x. MAX_LINE;
-  refusal = λ x n code. refusal_text false x.model n (bare code);
-  steps = MigrateSteps;
-  closes = λ x n. MigrateCloses;
-  awaits = λ x n. ⊤;
-}
+script_machine = machine_of_lines (λ x. x.model) MigrateSteps (λ x n. ⊤)
 
 -- what the form says at the line `script`
 abbrev pub migrate_form : FormGhosts Migrate ScriptSoFar

@@ -77,14 +77,15 @@ impl ScriptInSecond {
     }
 }
 
-// By the clauses of the trait a line gives `MigrateSteps`, and the end of the input `MigrateCloses` (specs/MigrateMachine.antt).
+// By the clauses of the trait a line gives `MigrateSteps`, and the end of the input `EndsAtEnd` (specs/MigrateMachine.antt).
 impl Machine for ScriptInSecond {
     ghost use Rattle.std.specs.Prelude.{⊤, false};
     ghost use Rattle.cca_base.specs.Refusals.{bare};
+    ghost use Rattle.model_form.specs.NoLines.{EndsAtEnd, end_one_way};
     ghost use Rattle.model_form.specs.declared.limits.TheConstants.{MAX_LINE};
     ghost use Rattle.trace_text.specs.Json.{refusal_text};
-    ghost use Rattle.migrate_form.specs.MigrateMachine.{MigrateSteps, MigrateCloses};
-    ghost use Rattle.migrate_form.specs.OneStep.{steps_one, closes_one};
+    ghost use Rattle.migrate_form.specs.MigrateMachine.{MigrateSteps};
+    ghost use Rattle.migrate_form.specs.OneStep.{steps_one};
 
     ghost limit_of = { λ x. MAX_LINE };
 
@@ -92,13 +93,13 @@ impl Machine for ScriptInSecond {
 
     ghost steps = { MigrateSteps };
 
-    ghost closes = { λ x n. MigrateCloses };
+    ghost closes = { λ x n. EndsAtEnd };
 
     ghost awaits = { λ x n. ⊤ };
 
     ghost steps_are_one = { steps_one };
 
-    ghost closes_are_one = { closes_one };
+    ghost closes_are_one = { λ x n e f a c h k. end_one_way h k };
 
     fn limit(&self) -> usize {
         MAX_LINE

@@ -1,10 +1,14 @@
+pub mod Agreeing
 pub mod AtScript
 pub mod Behind
 pub mod Following
 pub mod FormEnds
+pub mod LinesAgree
 pub mod NeverRejected
+pub mod OneReading
 pub mod OneModelText
 pub mod PrintedLimits
 pub mod PrintedLines
+pub mod RefusedOnly
 pub mod SameAnswer
 pub mod TextsAreAnswers

@@ -1,5 +1,5 @@
 -- What a form of words means, and that its machine does it: one record of each for every form.
-use Rattle.std.specs.Prelude.{◌≡◌, ℕ, List, Option}
+use Rattle.std.specs.Prelude.{◌≡◌, ℕ, List, Option, None}
 use Rattle.line_machine.specs.Runs.{IsText}
 use Rattle.line_machine.specs.declared.machine.End.{End}
 use Rattle.line_machine.specs.declared.machine.End.TheVariants as ends
@@ -18,6 +18,11 @@ pub record FormMeaning : Type 1 where
   pub nothing_refused : List ℕ → Type 0
   pub some_refused : List ℕ → Type 0
   pub some_rejected : List ℕ → Type 0
+
+-- a form that reads the source and rejects nothing: by its machine and first state, what it says, and when nothing is refused, or something is
+abbrev pub reading : {S : Type 0} → Ghosts S → S → (ModelText → End → List ℕ → Type 0) → (List ℕ → Type 0) → (List ℕ → Type 0) → FormMeaning
+reading {S} m first says whole refused =
+    record { State = S; machine = m; first = first; made = None; says = says; nothing_refused = whole; some_refused = refused; some_rejected = λ input. ⊥ }
 
 -- its texts are what it says, both ways; each line leads one way; and its end tells what was refused or rejected, both ways
 pub record FormAgrees (k : FormMeaning) : Type 0 where

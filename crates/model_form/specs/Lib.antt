@@ -5,6 +5,8 @@ pub mod FormMeaning
 pub mod FormStages
 pub mod FormStates
 pub mod Limits
+pub mod LineMachines
+pub mod LinesEnds
 pub mod ModelEnds
 pub mod ModelSteps
 pub mod ModelTexts

@@ -1,9 +1,9 @@
 -- What becomes of an input's model.
-use Rattle.std.specs.Prelude.{◌≡◌, ℕ}
+use Rattle.std.specs.Prelude.{◌≡◌, ℕ, List}
 use Rattle.cca_base.specs.Accepted.{CompiledModel}
 use Rattle.cca_base.specs.declared.events.Refusal.{Refusal}
 use Rattle.model_form.specs.Acceptance.{AcceptedAs, RefusedFor, IsAcceptanceOf}
-use Rattle.model_form.specs.ModelTexts.{ModelText, WholeModel, RefusedModel}
+use Rattle.model_form.specs.ModelTexts.{ModelText, WholeModel, RefusedModel, EndsModel}
 
 -- the model came to its script, and is accepted
 abbrev pub IsAcceptedEnd : ModelText → Type 0
@@ -14,3 +14,11 @@ IsAcceptedEnd (RefusedModel m line r) = ⊥
 abbrev pub IsRefusedEnd : ModelText → ℕ → Refusal → Type 0
 IsRefusedEnd (WholeModel m n ls) line r = (line ≡ n) × IsAcceptanceOf m (RefusedFor r)
 IsRefusedEnd (RefusedModel m n s) line r = (line ≡ n) × (r ≡ s)
+
+-- a line of the model is refused, or the model itself at its script, for some reason
+abbrev pub IsRefused : ModelText → Type 0
+IsRefused end = (line : ℕ) × (refusal : Refusal) × IsRefusedEnd end line refusal
+
+-- the model of the input ends so
+abbrev pub HasEnd : (ModelText → Type 0) → List ℕ → Type 0
+HasEnd EndsSo input = (end : ModelText) × EndsModel input end × EndsSo end

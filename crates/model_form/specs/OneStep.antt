@@ -15,7 +15,7 @@ use Rattle.model_syntax.specs.Lines.{ModelSoFar, LineOutcome, Reads, Refuses as 
 use Rattle.model_form.specs.Acceptance.{Acceptance, AcceptedAs, RefusedFor, IsCompiledFrom, IsAcceptanceOf}
 use Rattle.model_form.specs.FormMachine.{BeginsBy, AtScript, FormAtScript, FormSteps, FormCloses}
 use Rattle.model_form.specs.FormStates.{FormState, InModel, Behind, behind_next}
-use Rattle.model_form.specs.ModelSteps.{StepsBy, ModelSteps}
+use Rattle.model_form.specs.ModelSteps.{GoesOnIn, StepsBy, ModelSteps}
 use Rattle.model_form.specs.declared.form.ModelForm.{Ghosts as FormGhosts}
 
 -- ---- one thing becomes of a model
@@ -46,6 +46,10 @@ acceptance_is_one m (RefusedFor r) (RefusedFor q) h k = ap (λ (x : Refusal). Re
 -- two answers are one
 abbrev pub AreOne : {A B : Type 0} → A → A → B → B → Type 0
 AreOne u v a c = (u ≡ v) × (a ≡ c)
+
+-- a machine goes on in one state, and prints nothing
+pub goes_on_one_way : {S : Type 0} {s : S} {u v : Next S} {a c : List ℕ} → GoesOnIn s u a → GoesOnIn s v c → AreOne u v a c
+goes_on_one_way h k = (h.0 ∙ sym k.0, h.1 ∙ sym k.1)
 
 module _ {S : Type 0} (json : Bool) (stage : ModelSoFar → S) (at_script : PlantModel → ℕ → Next S → List ℕ → Type 0) where
   outcome_one : (o : LineOutcome) (s : ModelSoFar) (n : ℕ) (u v : Next S) (a c : List ℕ) → (at_script s.model n u a → at_script s.model n v c → AreOne u v a c) →

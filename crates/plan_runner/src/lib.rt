@@ -1,13 +1,9 @@
 //! Whole plans, and the ways back.
 #![tactic(auto)]
 
-mod back;
 mod goal_back;
-mod route;
+mod plans;
 mod step;
 mod walked;
-mod whole;
 
-pub use back::way_back;
-pub use route::route_of;
-pub use whole::whole_plan;
+pub use plans::{route_of, way_back, whole_plan};

@@ -4,5 +4,6 @@ pub mod PairsSoFar
 pub mod ItemGrammar
 pub mod EventsMayCome
 pub mod NamedItems
+pub mod OneSaid
 pub mod TableOfCodes
 pub mod LinesSayItems

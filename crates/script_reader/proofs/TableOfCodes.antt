@@ -1,7 +1,7 @@
 -- The answer to an item is the one of the table: its least code, or the event that it names.
 use Rattle.std.proofs.Common.{Contains, ◌≡◌, ◌⊎◌, ◌↔◌, ◌<◌, ℕ, Bool, true, false, not, ◌||◌, ◌==◌, List, [], ◌∷◌, Option, Some, None, Result, Ok, Err, inl, inr, refl, sym, ap, subst, ◌∙◌, arith}
 use Rattle.std.specs.List.{list_any}
-use Rattle.std.proofs.lemmas.Bool.{cases_order, not-true, not_from_false, eqb-true, eq-eqb, or_left, or_right}
+use Rattle.std.proofs.lemmas.Bool.{not-true, not_from_false, eqb-true, eq-eqb, or_left, or_right}
 use Rattle.std.proofs.lemmas.Option.{same_Some}
 use Rattle.list_laws.proofs.Tests.{either}
 use Rattle.cca_base.specs.declared.codes.TheConstants.{MALFORMED, NAME_UNKNOWN, NOT_SENSED, BROKEN_GOAL, REPEATED_PAIR, MIRRORED}
@@ -17,6 +17,7 @@ use Rattle.script_reader.specs.Items.{Item, Goal, Clear, Observe, Fault, Mirror,
 use Rattle.script_reader.specs.Named.{component_of, variable_of, mode_pair, stands_for, each_pair}
 use Rattle.script_reader.specs.EventCodes.{has_item, has_item_twice, is_sensed, is_broken_pair, goal_code, observe_code, mirror_code}
 use Rattle.script_reader.specs.EventLines.{unless, named_event, event_of}
+use Rattle.script_reader.proofs.OneSaid.{one_least}
 use Rattle.script_reader.specs.Laws.{NamesUnknown, NamesVariable, NamesUnsensed, WantsBroken, NamesTwice, NamesPending, NamesMirrored, Applies, IsLeastCode, IsNamed}
 use Rattle.script_reader.proofs.EachPair.{missing, comes_from, goes_to}
 use Rattle.script_reader.proofs.NamedItems.{found, found_by, twice_named, named_twice, mode_names, value_names}
@@ -211,19 +212,9 @@ module _ (m : PlantModel) (pending : List Pair) (mirrored : ℕ) where
   says Reset = plain Reset event.Reset (λ x. x) (λ x. x.1) (λ x. x) (λ x. elim x [ inl t ↦ t | inr (v, p, never, among, same) ↦ never ]) (λ x. x.1) refl
   says Tick = plain Tick event.Tick (λ x. x) (λ x. x.1) (λ x. x) (λ x. elim x [ inl t ↦ t | inr (v, p, never, among, same) ↦ never ]) (λ x. x.1) refl
 
-  -- two least codes are one
-  one_least : (i : Item) (a b : ℕ) → IsLeastCode m pending mirrored i a → IsLeastCode m pending mirrored i b → a ≡ b
-  one_least i a b h k = elim (cases_order a b) [
-    | inl same ↦ same
-    | inr other ↦ elim other [
-      | inl less ↦ absurd (k.1 a less h.0)
-      | inr more ↦ absurd (h.1 b more k.0)
-    ]
-  ]
-
   refused_by : (i : Item) (code : ℕ) (r : Result Event ℕ) → Says i r → IsLeastCode m pending mirrored i code → r ≡ Err code
   refused_by i code (Ok e) h least = absurd (h.1 code least.0)
-  refused_by i code (Err other) h least = ap (λ (c : ℕ). Err c) (one_least i other code h least)
+  refused_by i code (Err other) h least = ap (λ (c : ℕ). Err c) (one_least (Applies m pending mirrored i) other code h least)
 
   -- the words of a line name one event
   one_named : (i : Item) (e f : Event) → IsNamed m i e → IsNamed m i f → e ≡ f

@@ -1,5 +1,5 @@
 -- The table of codes of event lines, in words of the names that stand in a line.
-use Rattle.std.specs.Prelude.{◌≡◌, ◌⊎◌, ◌<◌, ℕ, true, false, List, [], ◌∷◌, map, Some, None, Ok, Err, Contains}
+use Rattle.std.specs.Prelude.{◌≡◌, ◌⊎◌, ℕ, true, false, List, [], ◌∷◌, map, Some, None, Ok, Err, Contains}
 use Rattle.text_base.specs.Tokens.{Tok, tokens_of}
 use Rattle.text_base.specs.Lexemes.{lexeme}
 use Rattle.text_base.specs.Pairs.{NamedPair}
@@ -13,6 +13,7 @@ use Rattle.cca_base.specs.Sets.{has}
 use Rattle.script_reader.specs.Items.{Item, Goal, Clear, Observe, Fault, Mirror, Reset, Tick, spelling, IsSpelled}
 use Rattle.script_reader.specs.Named.{variable_of, mode_pair, value_pair, each_pair}
 use Rattle.script_reader.specs.EventCodes.{is_sensed}
+use Rattle.script_reader.specs.SaidLines.{IsLeast}
 
 -- the tokens of the line spell the item
 abbrev pub Spells : List ℕ → Item → Type 0
@@ -90,7 +91,7 @@ Applies m pending mirrored item code =
 
 -- the code applies, and none that is less
 abbrev pub IsLeastCode : PlantModel → List Pair → ℕ → Item → ℕ → Type 0
-IsLeastCode m pending mirrored item code = Applies m pending mirrored item code × ((less : ℕ) → less < code → Applies m pending mirrored item less → ⊥)
+IsLeastCode m pending mirrored item code = IsLeast (Applies m pending mirrored item) code
 
 -- the event is the one that the line's words name
 abbrev pub IsNamed : PlantModel → Item → Event → Type 0

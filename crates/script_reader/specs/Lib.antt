@@ -3,3 +3,4 @@ pub mod EventLines
 pub mod Items
 pub mod Laws
 pub mod Named
+pub mod SaidLines

@@ -1,5 +1,5 @@
 -- What is shown is never rejected, and nothing is printed before the end.
-use Rattle.std.proofs.Common.{◌≡◌, ◌⊎◌, ℕ, List, sym}
+use Rattle.std.proofs.Common.{◌⊎◌, ℕ, List, sym}
 use Rattle.line_machine.specs.Next.{Stops}
 use Rattle.line_machine.specs.Runs.{IsQuiet, IsSure, IsText}
 use Rattle.line_machine.specs.declared.machine.End.TheVariants.{Ended, Rejected}

@@ -1,6 +1,5 @@
 -- What `show` prints for an input.
-use Rattle.std.specs.Prelude.{◌≡◌, ℕ, false, List}
-use Rattle.line_machine.specs.declared.machine.End.{End}
+use Rattle.std.specs.Prelude.{◌≡◌, false}
 use Rattle.line_machine.specs.declared.machine.End.TheVariants.{Ended}
 use Rattle.line_machine.specs.declared.machine.Machine.{Ghosts}
 use Rattle.trace_text.specs.Compiled.{show_text}

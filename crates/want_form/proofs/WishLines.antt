@@ -16,13 +16,14 @@ use Rattle.line_machine.specs.declared.machine.End.{End}
 use Rattle.line_machine.specs.declared.machine.End.TheVariants.{Refused}
 use Rattle.line_machine.proofs.RunLines.{first_line, line_first, at_stop, stops, at_end, ends}
 use Rattle.model_form.specs.Limits.{line_code}
+use Rattle.model_form.specs.LinesEnds.{AllRead, SaysByCode, ReadsBy, ending, refused_at, with_item}
 use Rattle.trace_text.specs.Json.{refusal_text}
 use Rattle.want_lines.specs.Requests.{IsRequestOf}
 use Rattle.want_lines.specs.declared.request.Request.{Request}
 use Rattle.want_lines.specs.declared.request.Request.TheVariants.{Weight, At, Want}
-use Rattle.want_form.specs.Answered.{TargetText, WishText, WishesText, ending}
+use Rattle.want_form.specs.Answered.{TargetText, WishText, WishesText}
 use Rattle.want_form.specs.WishMachine.{WishState, AnswersBy, ServesBy, wish_machine}
-use Rattle.want_form.specs.Wishes.{Settings, Wishes, AllRead, AsksByCode, ReadsBy, ReadsWishes, refused_at, with_wish, with_weight, put_in}
+use Rattle.want_form.specs.Wishes.{Settings, Wishes, IsAsked, FollowsBy, ReadsWishes, with_weight, put_in}
 
 module _ (b : CompiledModel) (compiled : IsCompiled b) where
   -- the machine with these settings
@@ -34,7 +35,7 @@ module _ (b : CompiledModel) (compiled : IsCompiled b) where
     pub wishes : Wishes
     pub told : List ℕ
     pub reads : ReadsWishes b.model x n ls wishes
-    pub are : WishesText b wishes.wishes told
+    pub are : WishesText b wishes.items told
     pub end : e ≡ (ending b.model wishes.ending).end
     pub parts : text ≡ told ++ (ending b.model wishes.ending).text
 
@@ -48,11 +49,11 @@ module _ (b : CompiledModel) (compiled : IsCompiled b) where
 
     -- the line asks so
     abbrev Asks : Result (Option Request) ℕ → Type 0
-    Asks said = AsksByCode b.model (line_code (n + 1) l) l said
+    Asks said = SaysByCode (IsAsked b.model) (FollowsBy b.model) (line_code (n + 1) l) x l said
 
     -- ---- from the machine to the wishes
 
-    refused_prints : (said : Result (Option Request) ℕ) (code : ℕ) (e : End) (rest : List ℕ) (u : Next WishState) (a : List ℕ) → Asks said → ReadsBy b.model said x (n + 1) Later (refused_at (n + 1) code)
+    refused_prints : (said : Result (Option Request) ℕ) (code : ℕ) (e : End) (rest : List ℕ) (u : Next WishState) (a : List ℕ) → Asks said → ReadsBy (IsAsked b.model) (FollowsBy b.model) said x (n + 1) Later (refused_at (n + 1) code)
         → (u ≡ Stops Refused) × (a ≡ line_text code) → Completes wish_machine u (n + 1) ls e rest → Prints x n (l ∷ ls) e (a ++ rest)
     refused_prints said code e rest u a asks by is d =
         let p = at_stop wish_machine Refused (n + 1) ls e rest (subst (λ (v : Next WishState). Completes wish_machine v (n + 1) ls e rest) is.0 d) in
@@ -66,7 +67,7 @@ module _ (b : CompiledModel) (compiled : IsCompiled b) where
         }
 
     -- nothing is printed of the line, and it leaves these settings
-    silent_prints : (said : Result (Option Request) ℕ) (y : Settings) (e : End) (rest : List ℕ) (u : Next WishState) (a : List ℕ) → Asks said → ((r : Wishes) → Later y r → ReadsBy b.model said x (n + 1) Later r)
+    silent_prints : (said : Result (Option Request) ℕ) (y : Settings) (e : End) (rest : List ℕ) (u : Next WishState) (a : List ℕ) → Asks said → ((r : Wishes) → Later y r → ReadsBy (IsAsked b.model) (FollowsBy b.model) said x (n + 1) Later r)
         → (u ≡ GoesOn (at y)) × (a ≡ []) → Completes wish_machine u (n + 1) ls e rest
         → ((z : Settings) → Completes wish_machine (GoesOn (at z)) (n + 1) ls e rest → Prints z (n + 1) ls e rest) → Prints x n (l ∷ ls) e (a ++ rest)
     silent_prints said y e rest u a asks by is d on =
@@ -87,7 +88,7 @@ module _ (b : CompiledModel) (compiled : IsCompiled b) where
     answered_prints formula target e rest u a asks is few by d on =
         let p = on x (subst (λ (v : Next WishState). Completes wish_machine v (n + 1) ls e rest) by.0 d) in
         record {
-          wishes = with_wish (record { settings = x; formula = formula }) p.wishes;
+          wishes = with_item (record { settings = x; formula = formula }) p.wishes;
           told = a ++ p.told;
           reads = (Ok (Some (Want formula)), asks, inr (few, p.wishes, p.reads, refl));
           are = (a, p.told, (target, is, by.1), p.are, refl);
@@ -104,11 +105,11 @@ module _ (b : CompiledModel) (compiled : IsCompiled b) where
 
     line_prints : (o : Option ℕ) (u : Next WishState) (a : List ℕ) (e : End) (rest : List ℕ) → o ≡ line_code (n + 1) l → TransitionByCode wish_machine o (at x) (n + 1) l u a → Completes wish_machine u (n + 1) ls e rest
         → ((z : Settings) → Completes wish_machine (GoesOn (at z)) (n + 1) ls e rest → Prints z (n + 1) ls e rest) → Prints x n (l ∷ ls) e (a ++ rest)
-    line_prints (Some code) u a e rest f takes d on = refused_prints (Err code) code e rest u a (subst (λ (o : Option ℕ). AsksByCode b.model o l (Err code)) f refl) refl takes d
+    line_prints (Some code) u a e rest f takes d on = refused_prints (Err code) code e rest u a (subst (λ (o : Option ℕ). SaysByCode (IsAsked b.model) (FollowsBy b.model) o x l (Err code)) f refl) refl takes d
     line_prints None u a e rest f (_, said, is, serves) d on = by said is serves
       where
         asked : (said : Result (Option Request) ℕ) → IsRequestOf b.model l said → Asks said
-        asked said is = subst (λ (o : Option ℕ). AsksByCode b.model o l said) f is
+        asked said is = subst (λ (o : Option ℕ). SaysByCode (IsAsked b.model) (FollowsBy b.model) o x l said) f is
 
         by : (said : Result (Option Request) ℕ) → IsRequestOf b.model l said → ServesBy said (at x) (n + 1) u a → Prints x n (l ∷ ls) e (a ++ rest)
         by (Err code) is h = refused_prints (Err code) code e rest u a (asked (Err code) is) refl h d
@@ -123,7 +124,7 @@ module _ (b : CompiledModel) (compiled : IsCompiled b) where
   pub prints : (ls : List (List ℕ)) (x : Settings) (n : ℕ) (e : End) (text : List ℕ) → Completes wish_machine (GoesOn (at x)) n ls e text → Prints x n ls e text
   prints [] x n e text d =
       let p = at_end wish_machine (GoesOn (at x)) n e text d in
-      record { wishes = record { wishes = []; ending = AllRead }; told = []; reads = refl; are = refl; end = p.0; parts = p.1 }
+      record { wishes = record { items = []; ending = AllRead }; told = []; reads = refl; are = refl; end = p.0; parts = p.1 }
   prints (l ∷ ls) x n e text d =
       let t = first_line wish_machine (at x) n l ls e text d in
       subst (λ (z : List ℕ). Prints x n (l ∷ ls) e z) (sym t.parts)
@@ -148,23 +149,23 @@ module _ (b : CompiledModel) (compiled : IsCompiled b) where
     run_by u a rest text e takes d is = line_first wish_machine (at x) n l ls e text record { next = u; first = a; takes = takes; rest = rest; completes = d; parts = is }
 
     -- a refused line
-    refused_runs : (code : ℕ) (r : Wishes) (told : List ℕ) → r ≡ refused_at (n + 1) code → WishesText b r.wishes told → Takes (Stops Refused) (refusal_text false b.model (n + 1) (bare code))
+    refused_runs : (code : ℕ) (r : Wishes) (told : List ℕ) → r ≡ refused_at (n + 1) code → WishesText b r.items told → Takes (Stops Refused) (refusal_text false b.model (n + 1) (bare code))
         → Completes wish_machine (GoesOn (at x)) n (l ∷ ls) (end_of r) (told ++ last_text r)
     refused_runs code r told is are takes =
-        let none : told ≡ [] = subst (λ (w : Wishes). WishesText b w.wishes told) is are in
+        let none : told ≡ [] = subst (λ (w : Wishes). WishesText b w.items told) is are in
         let text : told ++ last_text r ≡ refusal_text false b.model (n + 1) (bare code) = (λ i. none i ++ last_text (is i)) in
         subst (λ (e : End). Completes wish_machine (GoesOn (at x)) n (l ∷ ls) e (told ++ last_text r)) (sym (ap end_of is))
         (run_by (Stops Refused) (refusal_text false b.model (n + 1) (bare code)) [] (told ++ last_text r) Refused takes (stops wish_machine Refused (n + 1) ls) (text ∙ sym (append-nil (refusal_text false b.model (n + 1) (bare code)))))
 
     -- the later lines run so
     abbrev Runs : Settings → Wishes → Type 0
-    Runs y r = (told : List ℕ) → WishesText b r.wishes told → Completes wish_machine (GoesOn (at y)) (n + 1) ls (end_of r) (told ++ last_text r)
+    Runs y r = (told : List ℕ) → WishesText b r.items told → Completes wish_machine (GoesOn (at y)) (n + 1) ls (end_of r) (told ++ last_text r)
 
     -- an answered wish
-    wish_runs : (formula : Formula) (rest r : Wishes) (told : List ℕ) → r ≡ with_wish (record { settings = x; formula = formula }) rest → WishesText b r.wishes told → Runs x rest
+    wish_runs : (formula : Formula) (rest r : Wishes) (told : List ℕ) → r ≡ with_item (record { settings = x; formula = formula }) rest → WishesText b r.items told → Runs x rest
         → ((u : Next WishState) (a : List ℕ) → ServesBy (Ok (Some (Want formula))) (at x) (n + 1) u a → Takes u a) → Completes wish_machine (GoesOn (at x)) n (l ∷ ls) (end_of r) (told ++ last_text r)
     wish_runs formula rest r told is are on takes =
-        let (a, more, text, later, parts) = subst (λ (w : Wishes). WishesText b w.wishes told) is are in
+        let (a, more, text, later, parts) = subst (λ (w : Wishes). WishesText b w.items told) is are in
         let whole : told ++ last_text r ≡ a ++ (more ++ last_text rest) = (λ i. parts i ++ last_text (is i)) ∙ append_assoc a more (last_text rest) in
         subst (λ (e : End). Completes wish_machine (GoesOn (at x)) n (l ∷ ls) e (told ++ last_text r)) (sym (ap end_of is))
         (run_by (GoesOn (at x)) a (more ++ last_text rest) (told ++ last_text r) (end_of rest) (takes (GoesOn (at x)) a (answered text)) (on more later) whole)
@@ -177,11 +178,11 @@ module _ (b : CompiledModel) (compiled : IsCompiled b) where
         answered : {a : List ℕ} → WishText b (record { settings = x; formula = formula }) a → ServesBy (Ok (Some (Want formula))) (at x) (n + 1) (GoesOn (at x)) a
         answered {a} (target, is, text) = (target, is, by_target a target text)
 
-    line_runs : (o : Option ℕ) (said : Result (Option Request) ℕ) (r : Wishes) (told : List ℕ) → o ≡ line_code (n + 1) l → AsksByCode b.model o l said
-        → ReadsBy b.model said x (n + 1) (λ y rest. ReadsWishes b.model y (n + 1) ls rest) r → WishesText b r.wishes told
+    line_runs : (o : Option ℕ) (said : Result (Option Request) ℕ) (r : Wishes) (told : List ℕ) → o ≡ line_code (n + 1) l → SaysByCode (IsAsked b.model) (FollowsBy b.model) o x l said
+        → ReadsBy (IsAsked b.model) (FollowsBy b.model) said x (n + 1) (λ y rest. ReadsWishes b.model y (n + 1) ls rest) r → WishesText b r.items told
         → ((y : Settings) (w : Wishes) → ReadsWishes b.model y (n + 1) ls w → Runs y w) → Completes wish_machine (GoesOn (at x)) n (l ∷ ls) (end_of r) (told ++ last_text r)
     line_runs (Some code) said r told f asks by are on =
-        refused_runs code r told (subst (λ (v : Result (Option Request) ℕ). ReadsBy b.model v x (n + 1) (λ y rest. ReadsWishes b.model y (n + 1) ls rest) r) asks by) are
+        refused_runs code r told (subst (λ (v : Result (Option Request) ℕ). ReadsBy (IsAsked b.model) (FollowsBy b.model) v x (n + 1) (λ y rest. ReadsWishes b.model y (n + 1) ls rest) r) asks by) are
         (subst (λ (o : Option ℕ). TransitionByCode wish_machine o (at x) (n + 1) l (Stops Refused) (refusal_text false b.model (n + 1) (bare code))) f (refl, refl))
     line_runs None said r told f asks by are on = serve said asks by
       where
@@ -191,7 +192,7 @@ module _ (b : CompiledModel) (compiled : IsCompiled b) where
         silent : (y : Settings) → Takes (GoesOn (at y)) [] → ReadsWishes b.model y (n + 1) ls r → Completes wish_machine (GoesOn (at x)) n (l ∷ ls) (end_of r) (told ++ last_text r)
         silent y takes later = run_by (GoesOn (at y)) [] (told ++ last_text r) (told ++ last_text r) (end_of r) takes (on y r later told are) refl
 
-        serve : (said : Result (Option Request) ℕ) → IsRequestOf b.model l said → ReadsBy b.model said x (n + 1) (λ y rest. ReadsWishes b.model y (n + 1) ls rest) r
+        serve : (said : Result (Option Request) ℕ) → IsRequestOf b.model l said → ReadsBy (IsAsked b.model) (FollowsBy b.model) said x (n + 1) (λ y rest. ReadsWishes b.model y (n + 1) ls rest) r
             → Completes wish_machine (GoesOn (at x)) n (l ∷ ls) (end_of r) (told ++ last_text r)
         serve (Err code) is h = refused_runs code r told h are (taken (Err code) is (Stops Refused) (refusal_text false b.model (n + 1) (bare code)) (refl, refl))
         serve (Ok None) is h = silent x (taken (Ok None) is (GoesOn (at x)) [] (refl, refl)) h
@@ -202,10 +203,10 @@ module _ (b : CompiledModel) (compiled : IsCompiled b) where
         serve (Ok (Some (Want formula))) is (inr (few, rest, later, same)) = wish_runs formula rest r told same are (on x rest later) (taken (Ok (Some (Want formula))) is)
 
   -- what the lines ask for is what the machine prints
-  pub runs : (ls : List (List ℕ)) (x : Settings) (n : ℕ) (r : Wishes) (told : List ℕ) → ReadsWishes b.model x n ls r → WishesText b r.wishes told
+  pub runs : (ls : List (List ℕ)) (x : Settings) (n : ℕ) (r : Wishes) (told : List ℕ) → ReadsWishes b.model x n ls r → WishesText b r.items told
       → Completes wish_machine (GoesOn (at x)) n ls (end_of r) (told ++ last_text r)
   runs [] x n r told is are =
-      let none : told ≡ [] = subst (λ (w : Wishes). WishesText b w.wishes told) is are in
+      let none : told ≡ [] = subst (λ (w : Wishes). WishesText b w.items told) is are in
       ends wish_machine (GoesOn (at x)) n (end_of r) (told ++ last_text r) (ap end_of is, λ i. none i ++ last_text (is i))
   runs (l ∷ ls) x n r told (said, asks, by) are =
       line_runs n l ls x (line_code (n + 1) l) said r told refl asks by are (λ y w later more texts. runs ls y (n + 1) w more later texts)

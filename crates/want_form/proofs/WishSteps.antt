@@ -12,7 +12,8 @@ use Rattle.line_machine.specs.declared.machine.End.{End}
 use Rattle.line_machine.specs.declared.machine.End.TheVariants.{Refused}
 use Rattle.line_machine.specs.declared.machine.Said.{Said}
 use Rattle.trace_text.specs.Json.{refusal_text}
-use Rattle.want_lines.specs.Requests.{Answers, IsRequestOf}
+use Rattle.script_reader.specs.SaidLines.{Answers}
+use Rattle.want_lines.specs.Requests.{IsRequestOf}
 use Rattle.want_lines.specs.declared.request.Request.{Request}
 use Rattle.want_form.specs.WishMachine.{WishState, ServesBy, ServesRequest, WantSteps}
 

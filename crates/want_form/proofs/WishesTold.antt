@@ -5,15 +5,16 @@ use Rattle.line_machine.specs.Completes.{Completes}
 use Rattle.line_machine.specs.Next.{Next, GoesOn}
 use Rattle.line_machine.specs.declared.machine.End.{End}
 use Rattle.model_form.specs.Answers.{PrintsBehind}
+use Rattle.model_form.specs.LinesEnds.{ending}
+use Rattle.model_form.specs.declared.lines.OfLines.{OfLines}
 use Rattle.model_form.proofs.Following.{are_told}
-use Rattle.want_form.specs.Answered.{SaysWishes, ending}
+use Rattle.want_form.specs.Answered.{SaysWishes}
 use Rattle.want_form.specs.WantLaws.{WishesAreTold}
 use Rattle.want_form.specs.WishMachine.{WishState, want_form, wish_first, wish_machine}
 use Rattle.want_form.specs.Wishes.{first_settings}
-use Rattle.want_form.specs.declared.want.Want.{Want}
 use Rattle.want_form.proofs.WishLines.{prints, runs}
 
-module _ (f : Want) (b : CompiledModel) (n : ℕ) (ls : List (List ℕ)) (e : End) (text : List ℕ) (compiled : IsCompiled b) where
+module _ (f : OfLines) (b : CompiledModel) (n : ℕ) (ls : List (List ℕ)) (e : End) (text : List ℕ) (compiled : IsCompiled b) where
   told : PrintsBehind want_form wish_machine f b n ls e text → SaysWishes b n ls e text
   told p =
       let q = prints b compiled ls (first_settings b.model) n e p.rest (subst (λ (v : Next WishState). Completes wish_machine v n ls e p.rest) p.begins.0 p.completes) in

@@ -1,19 +1,17 @@
 -- What is printed of wishes.
-use Rattle.std.specs.Prelude.{◌≡◌, ℕ, false, List, [], ◌∷◌, ◌++◌, codes}
+use Rattle.std.specs.Prelude.{◌≡◌, ℕ, List, [], ◌∷◌, ◌++◌, codes}
 use Rattle.cca_base.specs.Accepted.{CompiledModel}
-use Rattle.cca_base.specs.PlantModel.{PlantModel}
 use Rattle.cca_base.specs.Plans.{ShowsPlan, Whole}
-use Rattle.cca_base.specs.Refusals.{bare}
 use Rattle.cca_base.specs.Steps.{AllowedPlan}
 use Rattle.cca_base.specs.declared.cube.Pair.{Pair}
 use Rattle.cca_base.specs.declared.events.PlanEnd.{PlanEnd}
 use Rattle.goal_interpreter.specs.Targets.{IsTargetFor}
 use Rattle.goal_interpreter.specs.declared.target.Target.{Target}
 use Rattle.goal_interpreter.specs.declared.target.Target.TheVariants.{Found, Nowhere, Many}
-use Rattle.line_machine.specs.declared.machine.End.TheVariants.{Ended}
-use Rattle.model_form.specs.Answers.{Answer, answer, refused_answer, Saying}
+use Rattle.model_form.specs.Answers.{Saying}
+use Rattle.model_form.specs.LinesEnds.{ending}
 use Rattle.trace_text.specs.TargetLines.{target_text}
-use Rattle.want_form.specs.Wishes.{LinesEnd, AllRead, RefusedAt, Wish, Wishes, ReadsWishes, first_settings}
+use Rattle.want_form.specs.Wishes.{Wish, Wishes, ReadsWishes, first_settings}
 
 -- the picked commands for the goal, shown so: an allowed plan that ends in exactly the state
 pub record ShowsWayTo (b : CompiledModel) (s t : List ℕ) (goal : List Pair) (shown : PlanEnd) : Type 0 where
@@ -41,13 +39,8 @@ abbrev pub WishesText : CompiledModel → List Wish → List ℕ → Type 0
 WishesText b [] text = text ≡ []
 WishesText b (w ∷ ws) text = (first rest : List ℕ) × WishText b w first × WishesText b ws rest × (text ≡ first ++ rest)
 
--- what is printed for the end of the lines
-abbrev pub ending : PlantModel → LinesEnd → Answer
-ending m AllRead = answer Ended []
-ending m (RefusedAt line code) = refused_answer false m line (bare code)
-
 -- what is printed of the lines behind the line `script`, which is of this number: the texts of their wishes, and the line of a refusal comes last
 abbrev pub SaysWishes : Saying
 SaysWishes b n ls e text =
-    (r : Wishes) × (told : List ℕ) × ReadsWishes b.model (first_settings b.model) n ls r × WishesText b r.wishes told
+    (r : Wishes) × (told : List ℕ) × ReadsWishes b.model (first_settings b.model) n ls r × WishesText b r.items told
     × (e ≡ (ending b.model r.ending).end) × (text ≡ told ++ (ending b.model r.ending).text)

@@ -1,4 +1,4 @@
--- A state and a line lead to one state and one text, and so does the end of the input. The proofs stand here since a machine names them.
+-- A state and a line lead to one state and one text. The proofs stand here since a machine names them.
 use Rattle.std.proofs.Common.{◌≡◌, ℕ, List, Option, Some, None, Result, Ok, Err, refl, sym, ap, subst, ◌∙◌, arith}
 use Rattle.cca_base.specs.Accepted.{CompiledModel, IsCompiled}
 use Rattle.cca_base.specs.declared.cube.Pair.{Pair}
@@ -9,7 +9,6 @@ use Rattle.goal_interpreter.proofs.OneAnswer.{one_answer}
 use Rattle.goal_interpreter.specs.declared.target.Target.{Target}
 use Rattle.goal_interpreter.specs.declared.target.Target.TheVariants.{Found, Nowhere, Many}
 use Rattle.line_machine.specs.Next.{Next}
-use Rattle.line_machine.specs.declared.machine.End.{End}
 use Rattle.model_form.specs.OneStep.{AreOne}
 use Rattle.reach_laws.proofs.Picks.{one_whole}
 use Rattle.trace_text.specs.TargetLines.{target_text}
@@ -17,7 +16,7 @@ use Rattle.want_lines.proofs.OneRequest.{requests_are_one}
 use Rattle.want_lines.specs.declared.request.Request.{Request}
 use Rattle.want_lines.specs.declared.request.Request.TheVariants.{Weight, At, Want}
 use Rattle.want_form.specs.Answered.{ShowsWayTo, TargetText}
-use Rattle.want_form.specs.WishMachine.{WishState, Begins, AnswersBy, ServesRequest, ServesBy, WantSteps, WantCloses}
+use Rattle.want_form.specs.WishMachine.{WishState, AnswersBy, ServesRequest, ServesBy, WantSteps}
 
 -- a list is shown in one way
 shown_one : (p q : PlanEnd) (ks : List ℕ) → ShowsPlan p ks → ShowsPlan q ks → p ≡ q
@@ -40,9 +39,6 @@ module _ (b : CompiledModel) (compiled : IsCompiled b) where
   one_target_text s Nowhere a c h k = h ∙ sym k
   one_target_text s Many a c h k = absurd h
 
-pub begins_one_way : (b : CompiledModel) (n : ℕ) (u v : Next WishState) (a c : List ℕ) → Begins b n u a → Begins b n v c → AreOne u v a c
-begins_one_way b n u v a c h k = (h.0 ∙ sym k.0, h.1 ∙ sym k.1)
-
 answers_one : (target : Target) (x : WishState) (n : ℕ) (u v : Next WishState) (a c : List ℕ) → IsCompiled x.compiled → AnswersBy target x n u a → AnswersBy target x n v c → AreOne u v a c
 answers_one (Found state weight goal) x n u v a c compiled h k = (h.0 ∙ sym k.0, one_target_text x.compiled compiled x.settings.modes (Found state weight goal) a c h.1 k.1)
 answers_one Nowhere x n u v a c compiled h k = (h.0 ∙ sym k.0, h.1 ∙ sym k.1)
@@ -64,6 +60,3 @@ pub steps_one : (x : WishState) (n : ℕ) (l : List ℕ) (u v : Next WishState) 
 steps_one x n l u v a c (compiled, said, is, h) (compiled', other, was, k) =
     let same = requests_are_one x.compiled.model l said other is was in
     serves_one other x n u v a c compiled (subst (λ (z : Result (Option Request) ℕ). ServesBy z x n u a) same h) k
-
-pub closes_one : (x : WishState) (n : ℕ) (e f : End) (a c : List ℕ) → WantCloses e a → WantCloses f c → AreOne e f a c
-closes_one x n e f a c h k = (h.0 ∙ sym k.0, h.1 ∙ sym k.1)

@@ -1,5 +1,5 @@
 -- The machine of the lines behind a model in which target states are asked for.
-use Rattle.std.specs.Prelude.{◌≡◌, ⊤, ℕ, false, List, [], Option, Some, None, Result, Ok, Err}
+use Rattle.std.specs.Prelude.{◌≡◌, ⊤, ℕ, false, List, Option, Some, None, Result, Ok, Err}
 use Rattle.cca_base.specs.Accepted.{CompiledModel, IsCompiled}
 use Rattle.cca_base.specs.Refusals.{bare}
 use Rattle.cca_base.specs.declared.codes.TheConstants.{MANY}
@@ -8,21 +8,18 @@ use Rattle.goal_interpreter.specs.Targets.{IsTargetFor}
 use Rattle.goal_interpreter.specs.declared.target.Target.{Target}
 use Rattle.goal_interpreter.specs.declared.target.Target.TheVariants.{Found, Nowhere, Many}
 use Rattle.line_machine.specs.Next.{Next, GoesOn}
-use Rattle.line_machine.specs.declared.machine.End.{End}
-use Rattle.line_machine.specs.declared.machine.End.TheVariants.{Ended}
 use Rattle.line_machine.specs.declared.machine.Machine.{Ghosts}
 use Rattle.model_form.specs.FormMachine.{form_machine}
 use Rattle.model_form.specs.FormStates.{FormState}
+use Rattle.model_form.specs.LineMachines.{form_of_lines, machine_of_lines}
 use Rattle.model_form.specs.ModelSteps.{GoesOnIn, RefusesLine}
 use Rattle.model_form.specs.declared.form.ModelForm.{Ghosts as FormGhosts}
-use Rattle.model_form.specs.declared.limits.TheConstants.{MAX_LINE}
-use Rattle.trace_text.specs.Json.{refusal_text}
+use Rattle.model_form.specs.declared.lines.OfLines.{OfLines}
 use Rattle.want_lines.specs.Requests.{IsRequestOf}
 use Rattle.want_lines.specs.declared.request.Request.{Request}
 use Rattle.want_lines.specs.declared.request.Request.TheVariants.{Weight, At, Want}
 use Rattle.want_form.specs.Answered.{TargetText}
 use Rattle.want_form.specs.Wishes.{Settings, first_settings, put_in, with_weight}
-use Rattle.want_form.specs.declared.want.Want.{Want as WantForm}
 
 -- where the lines stand: the compiled model, what the modes weigh, and where the components stand
 pub record WishState : Type 0 where
@@ -32,10 +29,6 @@ pub record WishState : Type 0 where
 -- before the first line behind the model
 abbrev pub wish_first : CompiledModel → WishState
 wish_first b = record { compiled = b; settings = first_settings b.model }
-
--- behind an accepted model its lines begin, and nothing is printed
-abbrev pub Begins : CompiledModel → ℕ → Next WishState → List ℕ → Type 0
-Begins b n u text = GoesOnIn (wish_first b) u text
 
 -- the pair's mode has this weight
 abbrev pub weighed : WishState → Pair → ℕ → WishState
@@ -67,24 +60,14 @@ ServesBy (Ok (Some request)) x n u text = ServesRequest request x n u text
 abbrev pub WantSteps : WishState → ℕ → List ℕ → Next WishState → List ℕ → Type 0
 WantSteps x n line u text = IsCompiled x.compiled × (said : Result (Option Request) ℕ) × IsRequestOf x.compiled.model line said × ServesBy said x n u text
 
--- what the end of the input leads to: the lines may end anywhere
-abbrev pub WantCloses : End → List ℕ → Type 0
-WantCloses e text = (e ≡ Ended) × (text ≡ [])
-
--- the machine of the lines
+-- the machine of the lines, which may end anywhere
 abbrev pub wish_machine : Ghosts WishState
-wish_machine = record {
-  limit_of = λ x. MAX_LINE;
-  refusal = λ x n code. refusal_text false x.compiled.model n (bare code);
-  steps = WantSteps;
-  closes = λ x n. WantCloses;
-  awaits = λ x n. ⊤;
-}
+wish_machine = machine_of_lines (λ x. x.compiled.model) WantSteps (λ x n. ⊤)
 
 -- what the form says at the line `script`
-abbrev pub want_form : FormGhosts WantForm WishState
-want_form = record { is_json = λ f. false; begins = λ f. Begins }
+abbrev pub want_form : FormGhosts OfLines WishState
+want_form = form_of_lines wish_first
 
 -- the machine
-abbrev pub want_machine : Ghosts (FormState WantForm WishState)
+abbrev pub want_machine : Ghosts (FormState OfLines WishState)
 want_machine = form_machine want_form wish_machine

@@ -3,10 +3,8 @@
 #![tactic(auto)]
 
 mod laws;
-mod want;
 mod weights;
 mod wishing;
 
 pub use laws::wishes_are_told;
-pub use want::{Want, WantMachine, open_want};
-pub use wishing::Wishing;
+pub use wishing::{WantMachine, Wishing, open_want};

@@ -10,8 +10,9 @@ ghost use Rattle.want_form.specs.Wishes.{put_in};
 ghost use Rattle.goal_interpreter.specs.Targets.{IsTargetFor};
 ghost use Rattle.goal_interpreter.specs.declared.target.Target.{Target};
 ghost use Rattle.line_machine.specs.Next.{next_of};
+ghost use Rattle.model_form.specs.FormStates.{form_first};
 ghost use Rattle.want_lines.specs.Requests.{FitsModel};
-ghost use Rattle.want_form.specs.WishMachine.{AnswersBy, ServesRequest, WantSteps, put_at, weighed, wish_first};
+ghost use Rattle.want_form.specs.WishMachine.{AnswersBy, ServesRequest, WantSteps, put_at, weighed};
 
 use crate::weights::{no_weights, set_weight};
 use cca_base::codes::MANY;
@@ -21,7 +22,9 @@ use goal_interpreter::{Target, Weights, interpret_by};
 use guard_compiler::{RuleClause, rules_of};
 use indexmap::IndexMap;
 use line_machine::{End, Machine, Said};
-use model_form::{Accepted, MAX_LINE, nothing, refusal_of, refuse_stop, refused};
+use model_form::{
+    Accepted, BehindModel, MAX_LINE, OfLines, WithModel, nothing, refusal_of, refuse_stop, refused,
+};
 use plan_runner::whole_plan;
 use policy_tables::Tables;
 use reversibility::Classes;
@@ -76,11 +79,12 @@ fn put_all(plant: &mut Plant, pairs: &[Pair])
     }
 }
 
-impl Wishing {
-    /// Before the first line behind the model.
-    pub fn open(alloc: Global, accepted: Accepted) -> Result<Wishing, AllocError>
-        ensures { IfOk result (λ w. w ≡ wish_first accepted) }
-    {
+impl BehindModel for Wishing {
+    ghost use Rattle.want_form.specs.WishMachine.{wish_first};
+
+    ghost first = { wish_first };
+
+    fn open(alloc: Global, accepted: Accepted) -> Result<Wishing, AllocError> {
         let (compiled, names) = accepted.into_parts();
         let rules = rules_of(alloc, compiled.model())?;
         let weights = no_weights(alloc, compiled.model())?;
@@ -94,7 +98,9 @@ impl Wishing {
             plant,
         })
     }
+}
 
+impl Wishing {
     /// The pair's mode has this weight from now on. The error is out of memory, and then all is as it was.
     fn weigh(&mut self, alloc: Global, pair: Pair, weight: u32) -> Result<(), AllocError>
         requires pair { HasMode self.old.compiled.model pair.item pair.value }
@@ -186,14 +192,15 @@ impl Wishing {
     }
 }
 
-// By the clauses of the trait a line gives `WantSteps`, and the end of the input `WantCloses` (specs/WishMachine.antt).
+// By the clauses of the trait a line gives `WantSteps`, and the end of the input `EndsAtEnd` (specs/WishMachine.antt).
 impl Machine for Wishing {
     ghost use Rattle.std.specs.Prelude.{⊤, false};
     ghost use Rattle.cca_base.specs.Refusals.{bare};
+    ghost use Rattle.model_form.specs.NoLines.{EndsAtEnd, end_one_way};
     ghost use Rattle.model_form.specs.declared.limits.TheConstants.{MAX_LINE};
     ghost use Rattle.trace_text.specs.Json.{refusal_text};
-    ghost use Rattle.want_form.specs.WishMachine.{WantSteps, WantCloses};
-    ghost use Rattle.want_form.specs.OneStep.{steps_one, closes_one};
+    ghost use Rattle.want_form.specs.WishMachine.{WantSteps};
+    ghost use Rattle.want_form.specs.OneStep.{steps_one};
 
     ghost limit_of = { λ x. MAX_LINE };
 
@@ -201,13 +208,13 @@ impl Machine for Wishing {
 
     ghost steps = { WantSteps };
 
-    ghost closes = { λ x n. WantCloses };
+    ghost closes = { λ x n. EndsAtEnd };
 
     ghost awaits = { λ x n. ⊤ };
 
     ghost steps_are_one = { steps_one };
 
-    ghost closes_are_one = { closes_one };
+    ghost closes_are_one = { λ x n e f a c h k. end_one_way h k };
 
     fn limit(&self) -> usize {
         MAX_LINE
@@ -225,4 +232,14 @@ impl Machine for Wishing {
     fn close(&mut self, alloc: Global, _count: u64) -> Result<(Vec<u8>, End), AllocError> {
         Ok((Vec::new(alloc), End::Ended))
     }
+}
+
+/// The form `want`: behind the model stand lines that ask for target states.
+pub type WantMachine = WithModel<OfLines, Wishing>;
+
+/// The form before the first line.
+pub fn open_want(alloc: Global) -> Result<WantMachine, AllocError>
+    ensures { IfOk result (λ w. w ≡ form_first (record {})) }
+{
+    WithModel::open(alloc, OfLines)
 }

@@ -2,6 +2,5 @@ pub mod LineGrammar
 pub mod OneRequest
 pub mod OneText
 pub mod RequestsFit
-pub mod RequestsOfLines
 pub mod RequestsOfWords
 pub mod TableOfCodes

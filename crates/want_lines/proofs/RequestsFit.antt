@@ -15,8 +15,9 @@ use Rattle.script_reader.specs.Named.{component_of, mode_pair}
 use Rattle.script_reader.proofs.EachPair.{comes_from}
 use Rattle.script_reader.proofs.EventsMayCome.{mode_is, once_each}
 use Rattle.script_reader.proofs.NamedItems.{mode_names, twice_named}
+use Rattle.script_reader.specs.SaidLines.{Answers}
 use Rattle.want_lines.specs.Items.{Item, Weight, At, Want}
-use Rattle.want_lines.specs.Requests.{Answers, FitsModel, IsRequestOf, IsTaken}
+use Rattle.want_lines.specs.Requests.{FitsModel, IsRequestOf, IsTaken}
 use Rattle.want_lines.specs.declared.request.Request.{Request}
 use Rattle.want_lines.proofs.OneText.{formula_of}
 

@@ -18,8 +18,9 @@ use Rattle.script_reader.specs.EventCodes.{has_item_twice}
 use Rattle.script_reader.specs.Named.{mode_pair, each_pair}
 use Rattle.script_reader.proofs.ItemGrammar.{only_pairs_read, reads_only_pairs}
 use Rattle.script_reader.specs.Items.{only_pairs}
-use Rattle.want_lines.specs.Items.{Item, Weight, At, Want, AreSpelling, line_spelled}
-use Rattle.want_lines.specs.Requests.{Answers, IsLeastCode, IsRequestOfWords, IsTaken}
+use Rattle.script_reader.specs.SaidLines.{Answers, AreSpelling}
+use Rattle.want_lines.specs.Items.{Item, Weight, At, Want, grammar, line_spelled}
+use Rattle.want_lines.specs.Requests.{IsLeastCode, IsRequestOfWords, IsTaken}
 use Rattle.want_lines.specs.Words.{weight_at}
 use Rattle.want_lines.specs.declared.request.Request.{Request}
 use Rattle.want_lines.specs.declared.request.Request.TheVariants as request
@@ -51,7 +52,7 @@ want_word = word (codes "want")
 -- ---- weights
 
 -- an item behind the word weight is a weight, and its words are read so
-weight_only : (ls : List Lexeme) (i : Item) → AreSpelling (weight_word ∷ ls) i → (p : NamedPair) × (n : ℕ) × (n < 2 ^ 128) × (weight_at ls ≡ Some (p, decimal n))
+weight_only : (ls : List Lexeme) (i : Item) → AreSpelling grammar (weight_word ∷ ls) i → (p : NamedPair) × (n : ℕ) × (n < 2 ^ 128) × (weight_at ls ≡ Some (p, decimal n))
 weight_only ls (Weight p n) (e, h) =
     let same = tail_is weight_word weight_word ls (weight_spelled p (decimal n)) e in
     (p, n, h.1, ap weight_at same ∙ reads_weight p (decimal n) h.0.0)
@@ -69,7 +70,7 @@ module _ (m : PlantModel) (ls : List Lexeme) where
   weight_no_number p digits e none = inl (refl, λ i s. let w = weight_only ls i s in none w.1 w.2 (digits_are p w.0 digits (decimal w.1) (e ∙ w.3)))
 
   module _ (p : NamedPair) (digits : List ℕ) (n : ℕ) (e : Some (p, digits) ≡ weight_at ls) (small : n < 2 ^ 128) (is : digits ≡ decimal n) where
-    weight_written : AreSpelling (weight_word ∷ ls) (Weight p n)
+    weight_written : AreSpelling grammar (weight_word ∷ ls) (Weight p n)
     weight_written =
         let w = weight_read ls (p, digits) (sym e) in
         (ap (λ (y : List Lexeme). weight_word ∷ y) (w.0 ∙ ap (weight_spelled p) is), ((w.1, tt), small))
@@ -85,7 +86,7 @@ module _ (m : PlantModel) (ls : List Lexeme) where
 
 -- ---- pairs
 
-at_only : (ls : List Lexeme) (i : Item) → AreSpelling (at_word ∷ ls) i → (ps : List NamedPair) × (only_pairs ls ≡ Some ps)
+at_only : (ls : List Lexeme) (i : Item) → AreSpelling grammar (at_word ∷ ls) i → (ps : List NamedPair) × (only_pairs ls ≡ Some ps)
 at_only ls (Weight p n) (e, h) = apart at_word weight_word ls _ refl refl e
 at_only ls (At ps) (e, h) =
     let same = tail_is at_word at_word ls _ e in
@@ -97,7 +98,7 @@ module _ (m : PlantModel) (ls : List Lexeme) where
   at_unformed e = inl (refl, λ i s. let w = at_only ls i s in let both : None ≡ Some w.0 = e ∙ w.1 in absurd cc)
 
   module _ (ps : List NamedPair) (e : Some ps ≡ only_pairs ls) where
-    at_written : AreSpelling (at_word ∷ ls) (At ps)
+    at_written : AreSpelling grammar (at_word ∷ ls) (At ps)
     at_written = let r = only_pairs_read ls ps (sym e) in (ap (λ (y : List Lexeme). at_word ∷ y) r.0, (r.1, r.2))
 
     pub says_at_unknown : None ≡ each_pair (mode_pair m) ps → IsRequestOfWords m (at_word ∷ ls) (Err NAME_UNKNOWN)
@@ -131,11 +132,11 @@ module _ (m : PlantModel) where
   pub asks : (text : Whole) → AsksFor text (wanted (formula_or_code m text))
   asks text = asks_by text (names_unknown m text) (is_deep text) refl refl
 
-  of_text : (ls : List Lexeme) (text : Whole) (r : Result Request ℕ) → AreSpelling (want_word ∷ ls) (Want text) → AsksFor text r → IsRequestOfWords m (want_word ∷ ls) r
+  of_text : (ls : List Lexeme) (text : Whole) (r : Result Request ℕ) → AreSpelling grammar (want_word ∷ ls) (Want text) → AsksFor text r → IsRequestOfWords m (want_word ∷ ls) r
   of_text ls text (Ok r) s h = (Want text, s, h)
   of_text ls text (Err code) s h = inr (Want text, s, h)
 
-  want_only : (ls : List Lexeme) (i : Item) → AreSpelling (want_word ∷ ls) i → (text : Whole) × (want_word ∷ ls ≡ line_spelled (Want text))
+  want_only : (ls : List Lexeme) (i : Item) → AreSpelling grammar (want_word ∷ ls) i → (text : Whole) × (want_word ∷ ls ≡ line_spelled (Want text))
   want_only ls (Weight p n) (e, h) = apart want_word weight_word ls _ refl refl e
   want_only ls (At ps) (e, h) = apart want_word at_word ls _ refl refl e
   want_only ls (Want text) (e, h) = (text, e)
@@ -144,7 +145,7 @@ module _ (m : PlantModel) where
   pub says_wanted : (ls : List Lexeme) (read : Result Formula ℕ) → IsFormulaOf m ls read → IsRequestOfWords m (want_word ∷ ls) (wanted read)
   says_wanted ls read h = elim h.or_none [
     | inl (text, e) ↦
-        let spelled : AreSpelling (want_word ∷ ls) (Want text) = (ap (λ (y : List Lexeme). want_word ∷ y) e, tt) in
+        let spelled : AreSpelling grammar (want_word ∷ ls) (Want text) = (ap (λ (y : List Lexeme). want_word ∷ y) e, tt) in
         subst (λ (r : Result Formula ℕ). IsRequestOfWords m (want_word ∷ ls) (wanted r)) (sym (h.of_text text e)) (of_text ls text (wanted (formula_or_code m text)) spelled (asks text))
     | inr (none, e) ↦
         subst (λ (r : Result Formula ℕ). IsRequestOfWords m (want_word ∷ ls) (wanted r)) (sym e)

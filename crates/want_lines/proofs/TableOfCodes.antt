@@ -1,6 +1,5 @@
 -- What is wrong with an item, by the rows of the table of codes.
 use Rattle.std.proofs.Common.{◌≡◌, ◌<◌, ◌≤◌, ℕ, true, false, List, Some, None, inl, inr, refl, sym, ◌∙◌, arith}
-use Rattle.std.proofs.lemmas.Bool.{cases_order}
 use Rattle.cca_base.specs.declared.codes.TheConstants.{NAME_UNKNOWN, LIMIT, REPEATED_PAIR}
 use Rattle.cca_base.specs.declared.cube.Pair.{Pair}
 use Rattle.cca_base.specs.declared.limits.TheConstants.{MAX_COST}
@@ -38,16 +37,6 @@ module _ (m : PlantModel) where
 
   pub none_applies : (i : Item) → (NamesUnknown m i → ⊥) → (PassesLimit i → ⊥) → (NamesTwice i → ⊥) → (code : ℕ) → Applies m i code → ⊥
   none_applies i known within once code a = by_row i code a (λ c x. known x) (λ c x. within x) (λ c x. once x)
-
-  -- two least codes are one
-  pub one_least : (i : Item) (a b : ℕ) → IsLeastCode m i a → IsLeastCode m i b → a ≡ b
-  one_least i a b h k = elim (cases_order a b) [
-    | inl same ↦ same
-    | inr other ↦ elim other [
-      | inl less ↦ absurd (k.1 a less h.0)
-      | inr more ↦ absurd (h.1 b more k.0)
-    ]
-  ]
 
   -- ---- pairs
 

@@ -1,10 +1,10 @@
 -- The forms of lines that ask for target states.
-use Rattle.std.specs.Prelude.{◌≡◌, ◌⊎◌, ◌<◌, ◌^◌, ℕ, List, [], ◌∷◌, ◌++◌, length, map, codes, Ok, Err}
+use Rattle.std.specs.Prelude.{◌<◌, ◌^◌, ℕ, List, [], ◌∷◌, ◌++◌, length, codes}
 use Rattle.std.specs.Fmt.{decimal}
-use Rattle.text_base.specs.Tokens.{Tok, tokens_of}
-use Rattle.text_base.specs.Lexemes.{Lexeme, lexeme, word, number}
+use Rattle.text_base.specs.Lexemes.{Lexeme, word, number}
 use Rattle.text_base.specs.Pairs.{NamedPair, pair_spelled, pair_list_spelled, ArePairWords}
 use Rattle.formula_syntax.specs.Grammar.{Whole, spelling}
+use Rattle.script_reader.specs.SaidLines.{Grammar}
 
 -- what a line says, by words in place of names
 pub data Item : Type 0 where
@@ -24,14 +24,6 @@ IsSpelled (Weight pair weight) = ArePairWords (pair ∷ []) × (weight < 2 ^ 128
 IsSpelled (At pairs) = (0 < length pairs) × ArePairWords pairs
 IsSpelled (Want formula) = Unit {0}
 
--- these lexemes spell the item
-abbrev pub AreSpelling : List Lexeme → Item → Type 0
-AreSpelling ls i = (ls ≡ line_spelled i) × IsSpelled i
-
--- the tokens of the line spell the item
-abbrev pub Spells : List ℕ → Item → Type 0
-Spells line i = (ts : List Tok) × (tokens_of line ≡ Ok ts) × AreSpelling (map lexeme ts) i
-
--- the line has a byte that belongs to nothing, or it has tokens that spell no item
-abbrev pub IsMalformed : List ℕ → Type 0
-IsMalformed line = ((at : ℕ) × (tokens_of line ≡ Err at)) ⊎ ((t : Tok) × (ts : List Tok) × (tokens_of line ≡ Ok (t ∷ ts)) × ((i : Item) → Spells line i → ⊥))
+-- the grammar of lines
+abbrev pub grammar : Grammar Item
+grammar = record { spelled = line_spelled; IsSpelled = IsSpelled }

@@ -1,13 +1,9 @@
 -- What a line asks for, and the table of codes, in words of the names that stand in a line.
-use Rattle.std.specs.Prelude.{◌≡◌, ◌⊎◌, ◌<◌, ◌≤◌, ℕ, true, List, [], Option, Some, None, Result, Ok, Err, All, Contains, length}
-use Rattle.text_base.specs.Tokens.{tokens_of}
+use Rattle.std.specs.Prelude.{◌≡◌, ◌⊎◌, ◌<◌, ◌≤◌, ℕ, true, List, Option, Some, None, Result, All, Contains}
 use Rattle.text_base.specs.Lexemes.{Lexeme}
 use Rattle.text_base.specs.Pairs.{NamedPair}
-use Rattle.cca_base.specs.declared.codes.TheConstants.{MALFORMED, NAME_UNKNOWN, LIMIT, REPEATED_PAIR}
+use Rattle.cca_base.specs.declared.codes.TheConstants.{NAME_UNKNOWN, LIMIT, REPEATED_PAIR}
 use Rattle.cca_base.specs.declared.cube.Pair.{Pair}
-use Rattle.cca_base.specs.declared.events.Detail.TheVariants.{Nothing}
-use Rattle.cca_base.specs.declared.events.Stop.{Stop}
-use Rattle.cca_base.specs.declared.events.Stop.TheVariants as stops
 use Rattle.cca_base.specs.declared.limits.TheConstants.{MAX_COST}
 use Rattle.cca_base.specs.Cube.{IsCube}
 use Rattle.cca_base.specs.Model.{HasMode, IsFormula}
@@ -15,7 +11,8 @@ use Rattle.cca_base.specs.PlantModel.{PlantModel}
 use Rattle.formula_syntax.specs.Meanings.{names_unknown, is_deep, whole_formula}
 use Rattle.script_reader.specs.Laws.{HaveNameTwice}
 use Rattle.script_reader.specs.Named.{mode_pair, each_pair}
-use Rattle.want_lines.specs.Items.{Item, Weight, At, Want, AreSpelling, Spells, IsMalformed}
+use Rattle.script_reader.specs.SaidLines.{IsLeast, SaidByLine, SaidByWords, SaidByTokens}
+use Rattle.want_lines.specs.Items.{Item, Weight, At, Want, grammar}
 use Rattle.want_lines.specs.declared.request.Request.{Request}
 use Rattle.want_lines.specs.declared.request.Request.TheVariants as request
 
@@ -43,7 +40,7 @@ Applies m i code = ((code ≡ NAME_UNKNOWN) × NamesUnknown m i) ⊎ (((code ≡
 
 -- the code applies, and none that is less
 abbrev pub IsLeastCode : PlantModel → Item → ℕ → Type 0
-IsLeastCode m i code = Applies m i code × ((less : ℕ) → less < code → Applies m i less → ⊥)
+IsLeastCode m i code = IsLeast (Applies m i) code
 
 -- the request is the one that the line's words name
 abbrev pub IsNamed : PlantModel → Item → Request → Type 0
@@ -55,11 +52,9 @@ IsNamed m (Want formula) r = r ≡ request.Want (whole_formula m formula)
 abbrev pub IsTaken : PlantModel → Item → Request → Type 0
 IsTaken m i r = IsNamed m i r × ((code : ℕ) → Applies m i code → ⊥)
 
--- what the line asks for: nothing where it has no tokens, or the request of the item that it spells; or its code, where malformed comes first
+-- what the line asks for, or its least code
 abbrev pub IsRequestOf : PlantModel → List ℕ → Result (Option Request) ℕ → Type 0
-IsRequestOf m line (Ok None) = tokens_of line ≡ Ok []
-IsRequestOf m line (Ok (Some r)) = (i : Item) × Spells line i × IsTaken m i r
-IsRequestOf m line (Err code) = ((code ≡ MALFORMED) × IsMalformed line) ⊎ ((i : Item) × Spells line i × IsLeastCode m i code)
+IsRequestOf m line said = SaidByLine grammar (IsNamed m) (Applies m) line said
 
 -- a line asks for one thing, or has one code
 abbrev pub RequestsAreOne : Type 0
@@ -69,22 +64,13 @@ RequestsAreOne = (m : PlantModel) (line : List ℕ) (a b : Result (Option Reques
 
 -- what lexemes ask for, a first word among them
 abbrev pub IsRequestOfWords : PlantModel → List Lexeme → Result Request ℕ → Type 0
-IsRequestOfWords m ls (Ok r) = (i : Item) × AreSpelling ls i × IsTaken m i r
-IsRequestOfWords m ls (Err code) = ((code ≡ MALFORMED) × ((i : Item) → AreSpelling ls i → ⊥)) ⊎ ((i : Item) × AreSpelling ls i × IsLeastCode m i code)
+IsRequestOfWords m ls said = SaidByWords grammar (IsNamed m) (Applies m) ls said
 
 -- the same where there may be none
 abbrev pub IsRequestOfTokens : PlantModel → List Lexeme → Result (Option Request) ℕ → Type 0
-IsRequestOfTokens m ls (Ok None) = ls ≡ []
-IsRequestOfTokens m ls (Ok (Some r)) = IsRequestOfWords m ls (Ok r)
-IsRequestOfTokens m ls (Err code) = (0 < length ls) × IsRequestOfWords m ls (Err code)
+IsRequestOfTokens m ls said = SaidByTokens grammar (IsNamed m) (Applies m) ls said
 
 -- ---- what a call answers
-
--- what a call answered is so, or it refused with this code alone; out of memory says nothing
-abbrev pub Answers : {X : Type 0} → Result X Stop → (Result X ℕ → Type 0) → Type 0
-Answers (Ok x) Is = Is (Ok x)
-Answers (Err stops.Memory) Is = Unit {0}
-Answers (Err (stops.Refused refusal)) Is = Is (Err refusal.code) × (refusal.detail ≡ Nothing)
 
 -- the request speaks of the model's components, modes, variables and values, within their limits
 abbrev pub FitsModel : PlantModel → Request → Type 0

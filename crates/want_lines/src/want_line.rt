@@ -3,7 +3,8 @@
 ghost use Rattle.std.specs.Prelude.{◌≡◌, ◌∷◌, Ok, codes, map, IfOk, IfSome};
 ghost use Rattle.text_base.specs.Tokens.{token_view};
 ghost use Rattle.text_base.specs.Lexemes.{lexeme_of, word};
-ghost use Rattle.want_lines.specs.Requests.{Answers, FitsModel, IsRequestOf, IsRequestOfTokens, IsRequestOfWords};
+ghost use Rattle.script_reader.specs.SaidLines.{Answers};
+ghost use Rattle.want_lines.specs.Requests.{FitsModel, IsRequestOf, IsRequestOfTokens, IsRequestOfWords};
 
 use crate::request::Request;
 use crate::words::weight_at;

@@ -2,7 +2,7 @@ use Rattle.std.proofs.Common.{subst, refl}
 use Rattle.planner_step.proofs.Replies.{goal_inside}
 use Rattle.plan_runner.specs.Walked.{IsWalked}
 use Rattle.planner_step.proofs.Along.{plan_of}
-use Rattle.plan_runner.proofs.whole.whole_plan.Goals as goal
+use Rattle.plan_runner.proofs.plans.whole_plan.Goals as goal
 
 pub walk-requires-clause-inside : goal.walk-requires-clause-inside
 walk-requires-clause-inside c =

@@ -2,7 +2,7 @@ use Rattle.std.proofs.lemmas.Result.{IfOk-weaker}
 use Rattle.plan_runner.specs.Plans.{IsWholePlan}
 use Rattle.plan_runner.specs.WaysBack.{IsWholeWayBack}
 use Rattle.plan_runner.proofs.ThereAndBack.{goal_back, reached_back, way_of}
-use Rattle.plan_runner.proofs.back.way_back.Goals as goal
+use Rattle.plan_runner.proofs.plans.way_back.Goals as goal
 
 pub whole_plan-requires-clause-goal : goal.whole_plan-requires-clause-goal
 whole_plan-requires-clause-goal c =

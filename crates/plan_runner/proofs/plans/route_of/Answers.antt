@@ -2,7 +2,7 @@ use Rattle.std.proofs.Common.{subst}
 use Rattle.planner_step.proofs.Replies.{goal_inside}
 use Rattle.plan_runner.specs.Walked.{IsWalked}
 use Rattle.plan_runner.proofs.ThereAndBack.{covers_end, still_stuck, ended_back, endless, endless_back}
-use Rattle.plan_runner.proofs.route.route_of.Goals as goal
+use Rattle.plan_runner.proofs.plans.route_of.Goals as goal
 
 pub walk-requires-clause-inside : goal.walk-requires-clause-inside
 walk-requires-clause-inside c =

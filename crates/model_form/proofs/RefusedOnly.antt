@@ -1,0 +1,32 @@
+-- A form that ends behind a line only where that is refused, and else at the end of its input.
+use Rattle.std.proofs.Common.{◌≡◌, ◌⊎◌, ℕ, List, refl}
+use Rattle.cca_base.specs.Accepted.{CompiledModel}
+use Rattle.line_machine.specs.Next.{Stops}
+use Rattle.line_machine.specs.Runs.{IsSure, IsText}
+use Rattle.line_machine.specs.declared.machine.End.{End}
+use Rattle.line_machine.specs.declared.machine.End.TheVariants.{Ended, Rejected, Refused}
+use Rattle.line_machine.specs.declared.machine.Machine.{Ghosts}
+use Rattle.line_machine.proofs.EndsSo.{sure_so}
+use Rattle.model_form.specs.FormMachine.{FormSteps, form_machine}
+use Rattle.model_form.specs.FormStates.{FormState}
+use Rattle.model_form.specs.declared.form.ModelForm.{Ghosts as FormGhosts}
+use Rattle.model_form.proofs.FormEnds.{form_steps_so}
+use Rattle.model_form.proofs.NeverRejected.{refused_not, ended_not, never_rejected}
+
+abbrev pub IsRefused : End → Type 0
+IsRefused e = e ≡ Refused
+
+module _ {F B : Type 0} (form : FormGhosts F B) (m : Ghosts B)
+    (begins_refused : (f : F) (b : CompiledModel) (n : ℕ) (e : End) (text : List ℕ) → form.begins f b n (Stops e) text → IsRefused e)
+    (steps_refused : (s : B) (n : ℕ) (l : List ℕ) (e : End) (text : List ℕ) → m.steps s n l (Stops e) text → IsRefused e) where
+  form_refused : (s : FormState F B) (n : ℕ) (l : List ℕ) (e : End) (text : List ℕ) → FormSteps form m s n l (Stops e) text → IsRefused e
+  form_refused = form_steps_so form m IsRefused refl begins_refused steps_refused
+
+  -- what is sure before the end of the input is a refusal
+  pub sure_refused : (first : FormState F B) (bytes : List ℕ) (e : End) (text : List ℕ) → IsSure (form_machine form m) first bytes (Stops e) text → IsRefused e
+  sure_refused = sure_so (form_machine form m) IsRefused refl form_refused
+
+  pub never_rejects : ((s : B) (n : ℕ) (e : End) (text : List ℕ) → m.closes s n e text → e ≡ Ended) → (first : FormState F B) (bytes text : List ℕ)
+      → IsText (form_machine form m) first bytes Rejected text ⊎ IsSure (form_machine form m) first bytes (Stops Rejected) text → ⊥
+  never_rejects ends =
+      never_rejected form m (λ f b n e text h. refused_not e (begins_refused f b n e text h)) (λ s n l e text h. refused_not e (steps_refused s n l e text h)) (λ s n e text h. ended_not e (ends s n e text h))
