@@ -1,0 +1,18 @@
+use Rattle.window_laws.proofs.Tracked.{one_tracking}
+use Rattle.window_laws.proofs.TickNumbers.{tracks_on, start_keeps, answers_are_best, numbers_go_on}
+use Rattle.window_laws.proofs.tracking.Goals as goal
+
+pub returns-clause-one : goal.returns-clause-one
+returns-clause-one c = one_tracking
+
+pub returns-clause-on : goal.returns-clause-on
+returns-clause-on c = tracks_on
+
+pub returns-clause-start : goal.returns-clause-start
+returns-clause-start c = start_keeps
+
+pub returns-clause-best : goal.returns-clause-best
+returns-clause-best c = answers_are_best
+
+pub returns-clause-numbers : goal.returns-clause-numbers
+returns-clause-numbers c = numbers_go_on

@@ -1,0 +1,7 @@
+pub mod Trajectories
+pub mod Ticks
+pub mod Laws
+pub mod TrackerLaws
+pub mod Columns
+pub mod Counts
+pub mod Examples

@@ -1,0 +1,65 @@
+//! Laws of trajectories over a window of records.
+#![tactic(auto)]
+
+ghost use Rattle.window_laws.specs.Counts.{CountsAdd, CountsSome};
+ghost use Rattle.window_laws.specs.Examples.{Examples};
+ghost use Rattle.window_laws.specs.Laws.{OneBest, TailsAreBest, OneRecord, AddsAtEnd, OldestDecides, ClashesCut};
+ghost use Rattle.window_laws.specs.TrackerLaws.{TicksKeep, OneTick, SlidesKeepBest, WindowFills, ShowsLatest, RevisedByTick, NothingToRevise, OneTracking, TracksOn, StartKeeps, AnswersAreBest, NumbersGoOn};
+ghost use Rattle.window_laws.specs.Columns.{ColumnsAreLess, BoxesGiveBest, PathsAreTrajectory, GatesAreHeld, GatesAreShut, BestStep, NoStep};
+
+/// What best trajectories are.
+pub fn best_trajectories()
+    ensures one { OneBest }
+    ensures tails { TailsAreBest }
+    ensures record { OneRecord }
+    ensures adds { AddsAtEnd }
+    ensures oldest { OldestDecides }
+{}
+
+/// What a tick keeps, finds and revises.
+pub fn ticks()
+    ensures keep { TicksKeep }
+    ensures one { OneTick }
+    ensures slides { SlidesKeepBest }
+    ensures fills { WindowFills }
+    ensures latest { ShowsLatest }
+    ensures revised { RevisedByTick }
+    ensures nothing { NothingToRevise }
+{}
+
+/// What calls one after the other answer.
+pub fn tracking()
+    ensures one { OneTracking }
+    ensures on { TracksOn }
+    ensures start { StartKeeps }
+    ensures best { AnswersAreBest }
+    ensures numbers { NumbersGoOn }
+{}
+
+/// What the words of a tracker say of small ones.
+#[tactic(auto, using(crate::proofs::SmallTrackers::examples))]
+pub fn examples()
+    ensures { Examples }
+{}
+
+/// How a search by boxes finds the best trajectory.
+pub fn searches()
+    ensures clashes { ClashesCut }
+    ensures less { ColumnsAreLess }
+    ensures boxes { BoxesGiveBest }
+    ensures paths { PathsAreTrajectory }
+    ensures counts { CountsAdd }
+    ensures some { CountsSome }
+{}
+
+/// When a command moves something.
+pub fn gates()
+    ensures held { GatesAreHeld }
+    ensures shut { GatesAreShut }
+{}
+
+/// How a component's best modes are found, from the last record to the first.
+pub fn columns()
+    ensures step { BestStep }
+    ensures none { NoStep }
+{}
