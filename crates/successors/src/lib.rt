@@ -9,4 +9,5 @@ mod sent;
 
 pub use options::choices;
 pub use plant::Plant;
+pub use row::{change, least_costs};
 pub use sent::{nominal, obey};

@@ -82,7 +82,7 @@ pub fn least_costs(
 }
 
 /// What the change to a mode costs, if there is one, where failures to it cost this at least.
-fn change(to: u8, nominal: u8, failure: Option<u32>) -> Option<u64>
+pub fn change(to: u8, nominal: u8, failure: Option<u32>) -> Option<u64>
     ensures same { to ≡ nominal → result ≡ Some 0 }
     ensures other { to ≢ nominal → result ≡ failure }
 {

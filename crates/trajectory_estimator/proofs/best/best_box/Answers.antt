@@ -1,0 +1,58 @@
+use Rattle.std.proofs.Common.{List, ◌++◌, refl, sym, subst, ◌∙◌}
+use Rattle.std.specs.BinaryHeap.{heap_items}
+use Rattle.trajectory_estimator.specs.Boxes.{IsBox}
+use Rattle.trajectory_estimator.specs.Splits.{IsSearched, IsSplit}
+use Rattle.trajectory_estimator.specs.declared.limit.Limit.{Limit}
+use Rattle.trajectory_estimator.specs.declared.window_box.WindowBox.{WindowBox}
+use Rattle.trajectory_estimator.proofs.Searching.{fewer_left, first_best, first_fits, no_length, none_left, searched_on}
+use Rattle.trajectory_estimator.proofs.best.best_box.Goals as goal
+
+pub loop-first-init : goal.loop-first-init
+loop-first-init c = record { searched = c.in_ok-boxes.ensures; noted = c.in_ok-clashes.ensures }
+
+pub reason_against-requires-clause-whole : goal.reason_against-requires-clause-whole
+reason_against-requires-clause-whole c =
+    first_fits c.args.query.now (heap_items c.loop-first.boxes) (heap_items c.pop.new.self) c.in-Some.first c.loop-first.invariant.searched c.in-Some.ensures.permutation
+
+pub reason_against-requires-clause-clashes : goal.reason_against-requires-clause-clashes
+reason_against-requires-clause-clashes c = c.loop-first.invariant.noted
+
+pub returns-in-None : goal.returns-in-None
+returns-in-None c =
+    let its = c.alloc-alloc.ensures in
+    let trajectory = rw c.in-None.is at c.in_ok-reason_against.ensures.none in
+    first_best c.args.query.now (heap_items c.loop-first.boxes) (heap_items c.pop.new.self) c.in-Some.first its.model its.anchor c.loop-first.invariant.searched c.in-Some.ensures.permutation
+    (c.in-Some.ensures.below_top c.loop-first.invariant.searched.heap) (trajectory refl)
+
+pub push_pieces-requires-clause-whole : goal.push_pieces-requires-clause-whole
+push_pieces-requires-clause-whole c =
+    first_fits c.args.query.now (heap_items c.loop-first.boxes) (heap_items c.pop.new.self) c.in-Some.first c.loop-first.invariant.searched c.in-Some.ensures.permutation
+
+pub loop-first-smaller : goal.loop-first-smaller
+loop-first-smaller c =
+    let q = c.args.query.now in
+    let first : WindowBox = c.in-Some.first in
+    let reason : List Limit = c.in-Some-2.reason in
+    let rest : List WindowBox = heap_items c.pop.new.self in
+    let new : List WindowBox = heap_items c.push_pieces.new.boxes in
+    let whole : IsBox q first = first_fits q (heap_items c.loop-first.boxes) rest first c.loop-first.invariant.searched c.in-Some.ensures.permutation in
+    fewer_left q (heap_items c.loop-first.boxes) rest new first reason whole c.in-Some.ensures.permutation (rw c.in-Some-2.is at c.in_ok-reason_against.ensures.some)
+    (subst (λ l. IsSplit q first.limits (first.limits ++ l) rest new) c.as_slice.ensures c.in_ok-push_pieces-in-Some-2.ensures.split)
+
+pub loop-first-preserved : goal.loop-first-preserved
+loop-first-preserved c =
+    let q = c.args.query.now in
+    let first : WindowBox = c.in-Some.first in
+    let reason : List Limit = c.in-Some-2.reason in
+    let rest : List WindowBox = heap_items c.pop.new.self in
+    let new : List WindowBox = heap_items c.push_pieces.new.boxes in
+    record {
+      searched = searched_on q (heap_items c.loop-first.boxes) rest new first reason c.loop-first.invariant.searched c.in-Some.ensures.permutation
+          (c.in_ok-push_pieces-in-Some-2.ensures.heap (c.in-Some.ensures.heap_order c.loop-first.invariant.searched.heap).0) (rw c.in-Some-2.is at c.in_ok-reason_against.ensures.some)
+          (subst (λ l. IsSplit q first.limits (first.limits ++ l) rest new) c.as_slice.ensures c.in_ok-push_pieces-in-Some-2.ensures.split);
+      noted = c.in_ok-reason_against.ensures.clashes;
+    }
+
+pub returns : goal.returns
+returns c =
+    none_left c.args.query.now (subst (IsSearched c.args.query.now) (no_length (heap_items c.loop-first.boxes) (sym c.loop-first.boxes.data.ok.0 ∙ c.in_default.ensures.none)) c.loop-first.invariant.searched)

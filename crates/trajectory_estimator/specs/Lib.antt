@@ -1,0 +1,12 @@
+pub mod Asked
+pub mod BoxOrder
+pub mod Boxes
+pub mod Changes
+pub mod Columns
+pub mod Limits
+pub mod Pieces
+pub mod Queries
+pub mod Reasons
+pub mod Splits
+pub mod Steps
+pub mod Tracked
