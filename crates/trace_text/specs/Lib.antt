@@ -10,4 +10,5 @@ pub mod Refusals
 pub mod Reports
 pub mod TargetLines
 pub mod TraceLines
+pub mod WindowLines
 pub mod Words

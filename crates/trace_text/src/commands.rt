@@ -1,6 +1,6 @@
 //! Commands by their names: one by one among a model's commands, or by a map where many are looked for.
 
-ghost use Rattle.std.specs.Prelude.{◌≡◌, ◌<◌, Some, All, length, map, nat_eq, IfOk, IfSome, OnOk};
+ghost use Rattle.std.specs.Prelude.{◌≡◌, ◌<◌, ◌≤◌, ◌^◌, Some, All, length, map, nat_eq, IfOk, IfSome, OnOk};
 ghost use Rattle.std.specs.Cmp.Lexicographic.{pointwise};
 ghost use Rattle.indexmap.specs.IndexMap.{Updates};
 ghost use Rattle.cca_base.specs.Names.{AreNames};
@@ -59,6 +59,25 @@ fn place_by(model: &Model, places: Option<&IndexMap<Name, usize>>, word: &[u8]) 
                 places.get(&Name::of(word)).copied()
             }
         }
+    }
+}
+
+/// The place of each command of the model. The error is out of memory.
+pub fn command_places(alloc: Global, model: &Model) -> Result<IndexMap<Name, usize>, AllocError>
+    ensures { IfOk result (λ places. NumbersFit places model.now.commands) }
+{
+    places_of(alloc, model.commands().as_slice())
+}
+
+/// The number of the command of the name, by the map of the places.
+pub fn command_of(model: &Model, places: &IndexMap<Name, usize>, word: &[u8]) -> Option<u16>
+    requires fit { NumbersFit places.now model.now.commands }
+    requires few { length model.now.commands ≤ 2 ^ 16 }
+    ensures { result ≡ place_of model.now.commands word.now }
+{
+    match place_by(model, Some(places), word) {
+        Some(place) => Some(place as u16),
+        None => None,
     }
 }
 

@@ -17,8 +17,10 @@ mod refusal;
 mod report;
 mod target;
 mod trace_line;
+mod window;
 mod words;
 
+pub use commands::{command_of, command_places};
 pub use compiled::show_lines;
 pub use json::json_of;
 pub use limits::MAX_TRACE_LINE;
@@ -27,3 +29,4 @@ pub use refusal::refusal_line;
 pub use report::line_of;
 pub use target::target_lines;
 pub use trace_line::{LineFault, TraceLine, read_line};
+pub use window::{WindowReport, window_line};

@@ -1,0 +1,6 @@
+pub mod Answered
+pub mod Calls
+pub mod OneStep
+pub mod WatchLaws
+pub mod WatchMachine
+pub mod WatchMeaning

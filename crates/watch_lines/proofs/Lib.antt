@@ -1,0 +1,4 @@
+pub mod EventsFit
+pub mod EventsOfWords
+pub mod LineGrammar
+pub mod OneWatchEvent
