@@ -39,6 +39,8 @@ mod traces;
 #[cfg(test)]
 mod trials;
 #[cfg(test)]
+mod windows;
+#[cfg(test)]
 mod wire;
 #[cfg(test)]
 mod wishes;

@@ -15,9 +15,11 @@ use Rattle.migrate_form.proofs.MigrateAgrees.{migrate_agrees}
 use Rattle.migrate_form.proofs.MigrateEnds.{migrate_never_rejected}
 use Rattle.want_form.proofs.WantAgrees.{want_agrees}
 use Rattle.want_form.proofs.WantEnds.{want_never_rejected}
+use Rattle.watch_form.proofs.WatchAgrees.{watch_agrees}
+use Rattle.watch_form.proofs.WatchEnds.{watch_never_rejected}
 use Rattle.titan_top.specs.Meanings.{meaning_of}
 use Rattle.titan_top.specs.declared.words.Form.{Form}
-use Rattle.titan_top.specs.declared.words.Form.TheVariants.{Run, Show, Trial, Check, Migrate, Want}
+use Rattle.titan_top.specs.declared.words.Form.TheVariants.{Run, Show, Trial, Check, Migrate, Want, Watch}
 use Rattle.model_form.specs.FormStates.{form_first}
 
 pub agrees : (form : Form) → FormAgrees (meaning_of form)
@@ -27,6 +29,7 @@ agrees (Trial seed) = run_agrees _ _
 agrees Check = check_agrees
 agrees Migrate = migrate_agrees
 agrees Want = want_agrees
+agrees Watch = watch_agrees
 
 -- a text that is printed, or surely comes, says No
 abbrev SaysNo : Form → List ℕ → List ℕ → Type 0
@@ -39,3 +42,4 @@ only_check_rejects (Trial seed) bytes text h = absurd (run_never_rejected (run_f
 only_check_rejects Check bytes text h = refl
 only_check_rejects Migrate bytes text h = absurd (migrate_never_rejected (form_first (record {})) bytes text h)
 only_check_rejects Want bytes text h = absurd (want_never_rejected (form_first (record {})) bytes text h)
+only_check_rejects Watch bytes text h = absurd (watch_never_rejected (form_first (record {})) bytes text h)

@@ -16,5 +16,6 @@ pub mod TraceIsChecked
 pub mod TracesOfWords
 pub mod WishesOfWords
 pub mod TrialRuns
+pub mod WatchedByWords
 pub mod WordExamples
 pub mod WordsOfForms

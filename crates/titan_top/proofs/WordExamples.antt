@@ -11,9 +11,11 @@ words_are_forms = record {
   check = refl;
   migrate = refl;
   want = refl;
+  watch = refl;
   no_word = refl;
   another = refl;
   one_more = refl;
   migrate_more = refl;
   want_more = refl;
+  watch_more = refl;
 }

@@ -16,6 +16,7 @@ ghost use Rattle.titan_top.specs.Streams.{HasRoomForWords, IsDrivenAs, OfInput, 
 ghost use Rattle.titan_top.specs.Wire.{Writes, WritesAs};
 ghost use Rattle.titan_top.specs.Words.{asked, IsForm};
 ghost use Rattle.want_form.specs.WantMeaning.{IsWishesAnswer};
+ghost use Rattle.watch_form.specs.WatchMeaning.{IsWatchAnswer};
 
 use crate::status::{Status, status_of};
 use crate::trial::drive_trial;
@@ -28,6 +29,7 @@ use show_form::{ShowMachine, open_show};
 use std::alloc::Global;
 use titan_wire::{PutEnd, Sink, Source, put_all};
 use want_form::{WantMachine, open_want};
+use watch_form::{WatchMachine, open_watch};
 
 /// Drives the machine of a form of words. The source is asked by an intake, so that the order of reads and writes can be said.
 fn drive_form<S, K: Sink, I: Intake<S, K>>(
@@ -64,6 +66,12 @@ fn drive_form<S, K: Sink, I: Intake<S, K>>(
             sink,
         ),
         Form::Want => drive_opened::<WantMachine, S, K, I>(alloc, open_want(alloc), source, sink),
+        Form::Watch => drive_opened::<WatchMachine, S, K, I>(
+            alloc,
+            open_watch(alloc),
+            source,
+            sink,
+        ),
     }
 }
 
@@ -142,6 +150,14 @@ pub fn titan<S: Source, K: Sink>(
     ensures wished { IsForm words.now.items Form.Want → IfSome (S.left source.old) (λ input.
         (o : Outcome) → IsOutcome words.now.items input o → OfAnswer (IsWishesAnswer input) o) }
 
+    // What is printed of a watched plant are the answers of a tracker to its ticks: how many records its window has, the best trajectory of
+    // these by its cost and its last state, and the first tick that it revises; or that none explains what was seen, and from then on
+    // that it is holding; and then comes the line of a refusal, if there is one. No other trajectory of the window from its anchor costs less
+    // than the printed one: `IsWatchAnswer` has `SaysWatch`, whose answers are those of `Tracks`, each by `Ticks`; there a trajectory that is found
+    // is `Best`, and its field `least` says so.
+    ensures watched { IsForm words.now.items Form.Watch → IfSome (S.left source.old) (λ input.
+        (o : Outcome) → IsOutcome words.now.items input o → OfAnswer (IsWatchAnswer input) o) }
+
     // The input has no line that is refused, or its first one is named. A check has no No either, or its first one comes first.
     ensures ended { result ≡ Status.Ended →
         OfInput (asked words.now.items) (S.left source.old)
@@ -205,8 +221,8 @@ pub fn titan<S: Source, K: Sink>(
     // Only a check rejects anything.
     ensures only_check { result ≡ Status.Rejected → IsForm words.now.items Form.Check }
 
-    // A run, a check, a migration or wishes that ended have read its input to the end; what is shown was read to the line `script`. Before the end `show` and
-    // `check` write nothing.
+    // A run, a check, a migration, wishes or a watch that ended have read their input to the end; what is shown was read to the line `script`. Before
+    // the end `show` and `check` write nothing.
     ensures whole { (notation : Notation) → IsForm words.now.items (Form.Run notation) →
         result ≡ Status.Ended → IsAtEnd (S.left source.new) }
     ensures whole_check { IsForm words.now.items Form.Check → result ≡ Status.Ended →
@@ -214,6 +230,8 @@ pub fn titan<S: Source, K: Sink>(
     ensures whole_migration { IsForm words.now.items Form.Migrate → result ≡ Status.Ended →
         IsAtEnd (S.left source.new) }
     ensures whole_wishes { IsForm words.now.items Form.Want → result ≡ Status.Ended →
+        IsAtEnd (S.left source.new) }
+    ensures whole_watch { IsForm words.now.items Form.Watch → result ≡ Status.Ended →
         IsAtEnd (S.left source.new) }
     ensures to_script { IsForm words.now.items Form.Show → result ≡ Status.Ended →
         (taken : List ℕ) × (S.left source.old ≡ prepend_known taken (S.left source.new))

@@ -21,6 +21,8 @@ pub enum Form {
     Migrate,
     /// Reads a model and wishes, and prints the target of each.
     Want,
+    /// Reads a model and what was commanded and observed, and prints the best trajectory of the last ticks at each tick.
+    Watch,
 }
 
 /// The number of 64 bits that the word says, if it says one.
@@ -53,6 +55,8 @@ pub fn form_of(words: &[String]) -> Option<Form>
                 Some(Form::Migrate)
             } else if a.as_str() == "want" {
                 Some(Form::Want)
+            } else if a.as_str() == "watch" {
+                Some(Form::Watch)
             } else {
                 None
             }
