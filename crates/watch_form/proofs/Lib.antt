@@ -2,6 +2,7 @@ pub mod FewCommands
 pub mod OneCalls
 pub mod WatchAgrees
 pub mod WatchEnds
+mod WatchExamples
 pub mod WatchLines
 pub mod WatchSteps
 pub mod WatchTold

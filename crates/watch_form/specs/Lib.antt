@@ -1,6 +1,7 @@
 pub mod Answered
 pub mod Calls
 pub mod OneStep
+pub mod WatchExamples
 pub mod WatchLaws
 pub mod WatchMachine
 pub mod WatchMeaning

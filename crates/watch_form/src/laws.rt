@@ -1,9 +1,17 @@
 //! What `watch` prints are the answers of a tracker.
 
+ghost use Rattle.watch_form.specs.WatchExamples.{BothPending, LinesOfValve, NothingFirst};
 ghost use Rattle.watch_form.specs.WatchLaws.{WatchIsTold};
 
 /// What the machine prints for an input is the text of the answers of a tracker, and the other way round.
 #[tactic(auto, using(crate::proofs::WatchTold::watch_is_told))]
 pub fn watch_is_told()
     ensures { WatchIsTold }
+{}
+
+/// What lines say of answers, and what is pending.
+pub fn watch_examples()
+    ensures lines { LinesOfValve }
+    ensures nothing { NothingFirst }
+    ensures both { BothPending }
 {}

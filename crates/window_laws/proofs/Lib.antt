@@ -7,4 +7,5 @@ pub mod Counting
 mod ShortPaths
 mod Windows
 mod TickNumbers
+mod Latest
 mod SmallTrackers

@@ -1,10 +1,10 @@
 -- Laws of a tracker's ticks.
-use Rattle.std.specs.Prelude.{◌≡◌, ◌≢◌, ◌<◌, ◌≤◌, ◌+◌, ℕ, false, List, [], ◌∷◌, ◌++◌, length, drop, slice_get, min, Option, Some, None, Contains}
+use Rattle.std.specs.Prelude.{◌≡◌, ◌≢◌, ◌⊎◌, ◌<◌, ◌≤◌, ◌+◌, ℕ, false, List, [], ◌∷◌, ◌++◌, length, map, drop, slice_get, min, Option, Some, None, Contains}
 use Rattle.cca_base.specs.PlantModel.{PlantModel}
 use Rattle.cca_base.specs.State.{IsState, start_modes}
 use Rattle.cca_base.specs.Shown.{CanShow}
 use Rattle.window_laws.specs.Trajectories.{Entry, Best}
-use Rattle.window_laws.specs.Ticks.{TrackerState, Answer, Ticks, Found, FindsBest, KeepsBest, window, going, next_anchor, start, TrackerCall, Numbered, Tracks}
+use Rattle.window_laws.specs.Ticks.{TrackerState, Answer, Ticks, Found, Unexplained, Holding, FindsBest, KeepsBest, window, going, next_anchor, start, TrackerCall, Tick, Reset, Numbered, Tracks}
 
 -- a tick keeps what a tracker keeps
 abbrev pub TicksKeep : Type 0
@@ -48,7 +48,31 @@ abbrev pub NothingToRevise : Type 0
 NothingToRevise = (m : PlantModel) (ticks : ℕ) (entry : Entry) (y : TrackerState) (states : List (List ℕ)) (cost : ℕ) (revised : Option ℕ)
     → Ticks m (start m ticks) entry y (Found states cost revised) → revised ≡ None
 
+-- at the start no tick holds
+abbrev pub StartsAwake : Type 0
+StartsAwake = (m : PlantModel) (ticks : ℕ) (entry : Entry) (y : TrackerState) → Ticks m (start m ticks) entry y Holding → ⊥
+
+-- what is known of the next ticks is of no account once a tick is unexplained or holds: the next one holds
+abbrev pub HoldsOn : Type 0
+HoldsOn = (m : PlantModel) (x y z : TrackerState) (first second : Entry) (a b : Answer) → (a ≡ Unexplained) ⊎ (a ≡ Holding)
+    → Ticks m x first y a → Ticks m y second z b → b ≡ Holding
+
+-- a tick holds only behind one that was unexplained or held
+abbrev pub HoldsBehind : Type 0
+HoldsBehind = (m : PlantModel) (x y z : TrackerState) (first second : Entry) (a : Answer) → Ticks m x first y a → Ticks m y second z Holding → (a ≡ Unexplained) ⊎ (a ≡ Holding)
+
 -- ---- many calls
+
+-- what was before a reset is of no account behind it, but for the number of ticks
+abbrev pub ResetsForget : Type 0
+ResetsForget = (m : PlantModel) (x o y : TrackerState) (calls : List TrackerCall) (answers : List Numbered) → x.ticks ≡ o.ticks
+    → Tracks m x (Reset ∷ calls) y answers → Tracks m o (Reset ∷ calls) y answers
+
+-- behind a start and ticks that don't end in holding the records are what is known of the last ticks, eight of them or all, and the anchor is the start while no tick is gone
+abbrev pub KeepsLatest : Type 0
+KeepsLatest = (m : PlantModel) (ticks : ℕ) (entries : List Entry) (y : TrackerState) (answers : List Numbered) → Tracks m (start m ticks) (map Tick entries) y answers → y.holding ≡ false
+    → ((gone : List Entry) × (entries ≡ gone ++ y.records)) × (length y.records ≡ min window (length entries))
+    × (length entries ≤ window → y.anchor ≡ start_modes m)
 
 -- so calls have one list of answers at most
 abbrev pub OneTracking : Type 0

@@ -4,7 +4,7 @@
 ghost use Rattle.window_laws.specs.Counts.{CountsAdd, CountsSome};
 ghost use Rattle.window_laws.specs.Examples.{Examples};
 ghost use Rattle.window_laws.specs.Laws.{OneBest, TailsAreBest, OneRecord, AddsAtEnd, OldestDecides, ClashesCut};
-ghost use Rattle.window_laws.specs.TrackerLaws.{TicksKeep, OneTick, SlidesKeepBest, WindowFills, ShowsLatest, RevisedByTick, NothingToRevise, OneTracking, TracksOn, StartKeeps, AnswersAreBest, NumbersGoOn};
+ghost use Rattle.window_laws.specs.TrackerLaws.{TicksKeep, OneTick, SlidesKeepBest, WindowFills, ShowsLatest, RevisedByTick, NothingToRevise, StartsAwake, HoldsOn, HoldsBehind, OneTracking, ResetsForget, KeepsLatest, TracksOn, StartKeeps, AnswersAreBest, NumbersGoOn};
 ghost use Rattle.window_laws.specs.Columns.{ColumnsAreLess, BoxesGiveBest, PathsAreTrajectory, GatesAreHeld, GatesAreShut, BestStep, NoStep};
 
 /// What best trajectories are.
@@ -25,6 +25,9 @@ pub fn ticks()
     ensures latest { ShowsLatest }
     ensures revised { RevisedByTick }
     ensures nothing { NothingToRevise }
+    ensures awake { StartsAwake }
+    ensures on { HoldsOn }
+    ensures behind { HoldsBehind }
 {}
 
 /// What calls one after the other answer.
@@ -34,6 +37,8 @@ pub fn tracking()
     ensures start { StartKeeps }
     ensures best { AnswersAreBest }
     ensures numbers { NumbersGoOn }
+    ensures resets { ResetsForget }
+    ensures latest { KeepsLatest }
 {}
 
 /// What the words of a tracker say of small ones.

@@ -1,6 +1,7 @@
 use Rattle.window_laws.proofs.Tracked.{ticks_keep, one_tick}
 use Rattle.window_laws.proofs.Windows.{slides_keep_best, window_fills, shows_latest}
 use Rattle.window_laws.proofs.TickNumbers.{revised_by_tick, nothing_to_revise}
+use Rattle.window_laws.proofs.Latest.{starts_awake, holds_on, holds_behind}
 use Rattle.window_laws.proofs.ticks.Goals as goal
 
 pub returns-clause-keep : goal.returns-clause-keep
@@ -23,3 +24,12 @@ returns-clause-revised c = λ m x y entry states cost revised keeps few finds. r
 
 pub returns-clause-nothing : goal.returns-clause-nothing
 returns-clause-nothing c = nothing_to_revise
+
+pub returns-clause-awake : goal.returns-clause-awake
+returns-clause-awake c = starts_awake
+
+pub returns-clause-on : goal.returns-clause-on
+returns-clause-on c = holds_on
+
+pub returns-clause-behind : goal.returns-clause-behind
+returns-clause-behind c = holds_behind

@@ -1,5 +1,6 @@
 use Rattle.window_laws.proofs.Tracked.{one_tracking}
 use Rattle.window_laws.proofs.TickNumbers.{tracks_on, start_keeps, answers_are_best, numbers_go_on}
+use Rattle.window_laws.proofs.Latest.{resets_forget, keeps_latest}
 use Rattle.window_laws.proofs.tracking.Goals as goal
 
 pub returns-clause-one : goal.returns-clause-one
@@ -16,3 +17,9 @@ returns-clause-best c = answers_are_best
 
 pub returns-clause-numbers : goal.returns-clause-numbers
 returns-clause-numbers c = numbers_go_on
+
+pub returns-clause-resets : goal.returns-clause-resets
+returns-clause-resets c = resets_forget
+
+pub returns-clause-latest : goal.returns-clause-latest
+returns-clause-latest c = keeps_latest
