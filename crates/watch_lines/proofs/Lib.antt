@@ -2,3 +2,4 @@ pub mod EventsFit
 pub mod EventsOfWords
 pub mod LineGrammar
 pub mod OneWatchEvent
+mod SentCodes

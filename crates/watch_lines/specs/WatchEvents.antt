@@ -76,3 +76,9 @@ module _ (m : PlantModel) (pending : List Pair) (sent : Bool) where
 abbrev pub WatchEventsAreOne : Type 0
 WatchEventsAreOne =
     (m : PlantModel) (pending : List Pair) (sent : Bool) (line : List ℕ) (a b : Result (Option WatchEvent) ℕ) → IsWatchEventOf m pending sent line a → IsWatchEventOf m pending sent line b → a ≡ b
+
+-- `sent` of a command that isn't declared has the code 2, also where a command is pending, and of a declared one 15, only where one is pending
+abbrev pub SentCodes : Type 0
+SentCodes =
+    (m : PlantModel) (pending : List Pair) (sent : Bool) (command : List ℕ) (code : ℕ) → IsLeastCode m pending sent (Sent command) code
+    → ((place_of m.commands command ≡ None) × (code ≡ 2)) ⊎ ((k : ℕ) × (place_of m.commands command ≡ Some k) × (code ≡ 15) × (sent ≡ true))
