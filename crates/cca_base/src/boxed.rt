@@ -45,4 +45,11 @@ impl<T: Drop> Boxed<T> {
             inner: Box::new(alloc, value)?,
         })
     }
+
+    /// Puts a value in the place of the one in the box.
+    pub fn set(&mut self, value: T)
+        ensures { self.new ≡ value }
+    {
+        *self.inner = value;
+    }
 }

@@ -108,7 +108,8 @@ impl MoveIndex {
 
     /// The mode that the repairs of the component's mode lead to, where there are such.
     pub fn next_mode(&self, component: usize, mode: usize) -> Option<u8>
-        ensures { result ≡ slice_index_or (slice_index_or self.now.next.items component []) mode None }
+        ensures { result
+            ≡ slice_index_or (slice_index_or self.now.next.items component []) mode None }
     {
         if component >= self.next.len() {
             return None;

@@ -74,7 +74,7 @@ pub struct Model {
     commands: List<Name>,
     moves: List<Move>,
     failures: List<Failure>,
-    /// Which moves there are of what.
+    /// The moves of each command and of each component, by their numbers.
     index: MoveIndex,
 }
 
@@ -403,7 +403,8 @@ impl Model {
     pub fn named(&self, state: &State, command: u16) -> Option<u16>
         requires { IsState self.now state.now.modes }
         ensures some { IfSome result (IsMoveNamed self.now.moves state.now.modes command) }
-        ensures none { IsNone result → (i : ℕ) → IsMoveNamed self.now.moves state.now.modes command i → ⊥ }
+        ensures none { IsNone result →
+            (i : ℕ) → IsMoveNamed self.now.moves state.now.modes command i → ⊥ }
     {
         if command as usize >= self.commands().len() {
             return None;

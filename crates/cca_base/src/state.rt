@@ -36,7 +36,7 @@ pub struct Seen {
     pub pairs: List<Pair>,
 }
 
-/// Components with the modes that are wanted. A compiled goal has effects before their causes; a printed one is as it was given.
+/// Components with the modes that are wanted. The executive keeps them with effects before their causes.
 #[derive(Debug, Drop)]
 pub struct Goal {
     pub pairs: List<Pair>,
