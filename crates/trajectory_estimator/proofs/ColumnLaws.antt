@@ -1,7 +1,8 @@
 -- One component's best modes, from the first record on.
-use Rattle.std.proofs.Common.{◌≡◌, ℕ, ◌+◌, ◌-◌, ◌<◌, ◌≤◌, Bool, List, [], ◌∷◌, ◌++◌, length, map, slice_get, slice_index, slice_index_or, All, Option, Some, None, IfSome, refl, sym, ap, subst, ◌∙◌, arith}
+use Rattle.std.proofs.Common.{◌≡◌, ℕ, ◌+◌, ◌-◌, ◌<◌, ◌≤◌, Bool, List, [], ◌∷◌, ◌++◌, length, map, slice_get, slice_index, slice_index_or, All, Option, Some, None, IfSome, IsNone, IfOk, Result, refl, sym, ap, subst, ◌∙◌, arith}
 use Rattle.std.proofs.lemmas.List.{append_assoc, append-nil}
 use Rattle.std.proofs.lemmas.Option.{slice_get-get_or}
+use Rattle.std.proofs.lemmas.Result.{IfOk-weaker}
 use Rattle.cca_base.specs.Model.{HasMode, WellFormed}
 use Rattle.cca_base.specs.Relations.{numbers_below}
 use Rattle.trajectory_estimator.specs.Asked.{Asked}
@@ -69,13 +70,17 @@ module _ (q : Asked) (c : ℕ) (limits : List Limit) where
       record { best = whole.0; gates = whole.1 }
 
 -- what holds of a column that is there
-pub some_weaker : (P Q : Column → Type 0) → ((x : Column) → P x → Q x) → (o : Option Column) → IfSome o P → IfSome o Q
+some_weaker : (P Q : Column → Type 0) → ((x : Column) → P x → Q x) → (o : Option Column) → IfSome o P → IfSome o Q
 some_weaker P Q f None h = tt
 some_weaker P Q f (Some x) h = f x h
 
 -- ---- the limits that bear on a component
 
-module _ (q : Asked) (fits : WellFormed q.model) (c : ℕ) (limits kept : List Limit) (same : LeaveTheSame c limits kept) (own : HasMode q.model c (slice_index q.anchor c)) where
+module _ (q : Asked) (fits : WellFormed q.model) (c : ℕ) (limits : List Limit) {own_limits kept : List Limit} (read : kept ≡ own_limits) (bears : LeaveTheSame c limits own_limits)
+    (own : HasMode q.model c (slice_index q.anchor c)) where
+  same : LeaveTheSame c limits kept
+  same = subst (LeaveTheSame c limits) (sym read) bears
+
   abbrev places : List ℕ
   places = numbers_below (length q.records)
 
@@ -94,7 +99,7 @@ module _ (q : Asked) (fits : WellFormed q.model) (c : ℕ) (limits kept : List L
       places modes gates (path_modes q.model fits c (slice_index q.anchor c) q.records gates modes cost own path)
 
   -- the best modes within the limits that bear on a component are those within all
-  pub column_is : (x : Column) → IsBestColumn q c kept x → IsColumn q c limits x
+  column_is : (x : Column) → IsBestColumn q c kept x → IsColumn q c limits x
   column_is x h = record {
     least = record {
       gates = h.best.gates;
@@ -105,8 +110,19 @@ module _ (q : Asked) (fits : WellFormed q.model) (c : ℕ) (limits kept : List L
     gates = h.gates;
   }
 
-  pub column_modes : (x : Column) → IsBestColumn q c kept x → All (HasMode q.model c) x.modes
+  column_modes : (x : Column) → IsBestColumn q c kept x → All (HasMode q.model c) x.modes
   column_modes x h = path_modes q.model fits c (slice_index q.anchor c) q.records h.best.gates x.modes x.cost own h.best.path
 
-  pub column_none : NoBest q c kept → NoColumn q c limits
+  column_none : NoBest q c kept → NoColumn q c limits
   column_none none gates modes cost path within = none gates modes cost path (to_kept gates modes cost path within)
+
+  -- so the answer within those limits is one within all
+  pub some_column : {E : Type 0} (r : Result (Option Column) E) → IfOk r (λ o. IfSome o (IsBestColumn q c kept)) → IfOk r (λ o. IfSome o (IsColumn q c limits))
+  some_column r = IfOk-weaker r (λ o. IfSome o (IsBestColumn q c kept)) (λ o. IfSome o (IsColumn q c limits)) (some_weaker (IsBestColumn q c kept) (IsColumn q c limits) column_is)
+
+  pub modes_column : {E : Type 0} (r : Result (Option Column) E) → IfOk r (λ o. IfSome o (IsBestColumn q c kept)) → IfOk r (λ o. IfSome o (λ x. All (HasMode q.model c) x.modes))
+  modes_column r = IfOk-weaker r (λ o. IfSome o (IsBestColumn q c kept)) (λ o. IfSome o (λ x. All (HasMode q.model c) x.modes))
+      (some_weaker (IsBestColumn q c kept) (λ x. All (HasMode q.model c) x.modes) column_modes)
+
+  pub no_column : {E : Type 0} (r : Result (Option Column) E) → IfOk r (λ o. IsNone o → NoBest q c kept) → IfOk r (λ o. IsNone o → NoColumn q c limits)
+  no_column r = IfOk-weaker r (λ o. IsNone o → NoBest q c kept) (λ o. IsNone o → NoColumn q c limits) (λ o h none. column_none (h none))

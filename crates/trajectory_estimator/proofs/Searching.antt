@@ -1,5 +1,5 @@
 -- Queues of boxes that have each trajectory.
-use Rattle.std.proofs.Common.{◌≡◌, ◌<◌, ◌+◌, ℕ, Bool, true, false, List, [], ◌∷◌, ◌++◌, zero, suc, length, sum, get_or, All, inl, inr, refl, sym, ap, subst, ◌∙◌, arith}
+use Rattle.std.proofs.Common.{◌≡◌, ◌<◌, ℕ, Bool, true, false, List, [], ◌∷◌, ◌++◌, zero, suc, length, sum, get_or, All, inl, inr, refl, sym, ap, subst, ◌∙◌, arith}
 use Rattle.std.specs.BinaryHeap.{IsHeap, IsUpperBound, lt_by_cmp}
 use Rattle.std.specs.List.Sorted.{IsPermutation}
 use Rattle.std.specs.Ordering.{is_lt, nat_cmp, ordering_then}
@@ -47,10 +47,15 @@ no_box q boxes e heap none = record {
 
 -- ---- the first box in the place of others
 
+-- a split by the limits that are read
+split_by : (q : Asked) (rest new : List WindowBox) (first : WindowBox) {reason read : List Limit} → read ≡ reason → IsSplit q first.limits (first.limits ++ read) rest new
+    → IsSplit q first.limits (first.limits ++ reason) rest new
+split_by q rest new first is split = subst (λ l. IsSplit q first.limits (first.limits ++ l) rest new) is split
+
 -- a queue goes on without a box whose trajectories are in others, but for those that meet a reason
-pub searched_on : (q : Asked) (old rest new : List WindowBox) (first : WindowBox) (reason : List Limit) → IsSearched q old → IsPermutation old (first ∷ rest) → IsHeap box_cmp new
-    → IsReason q first reason → IsSplit q first.limits (first.limits ++ reason) rest new → IsSearched q new
-searched_on q old rest new first reason searched taken heap its split = record {
+pub searched_on : (q : Asked) (old rest new : List WindowBox) (first : WindowBox) {reason read : List Limit} → IsSearched q old → IsPermutation old (first ∷ rest) → IsHeap box_cmp new
+    → IsReason q first reason → read ≡ reason → IsSplit q first.limits (first.limits ++ read) rest new → IsSearched q new
+searched_on q old rest new first {reason} {read} searched taken heap its is parts = (let split = split_by q rest new first is parts in record {
   heap = heap;
   each = split.each (All-tail (IsBox q) first rest (All-permutation (IsBox q) old (first ∷ rest) taken searched.each));
   covers = λ gates states way.
@@ -62,7 +67,7 @@ searched_on q old rest new first reason searched taken heap its split = record {
           | inr meets_all ↦ absurd (its.none gates states way.cost way.opens way.trajectory (later_met first.limits reason gates states meets_all))
         ]
       ];
-}
+})
   where
     later_met : (limits more : List Limit) (gates : List Bool) (states : List (List ℕ)) → box_of (limits ++ more) gates states ≡ true → All (λ l. meets l gates states ≡ true) more
     later_met limits more gates states h =
@@ -73,9 +78,11 @@ pub first_fits : (q : Asked) (old rest : List WindowBox) (first : WindowBox) →
 first_fits q old rest first searched taken = All-head (IsBox q) first rest (All-permutation (IsBox q) old (first ∷ rest) taken searched.each)
 
 -- it has fewer gates and states then
-pub fewer_left : (q : Asked) (old rest new : List WindowBox) (first : WindowBox) (reason : List Limit) → IsBox q first → IsPermutation old (first ∷ rest)
-    → IsReason q first reason → IsSplit q first.limits (first.limits ++ reason) rest new → weights q new < weights q old
-fewer_left q old rest new first reason box_ taken its split =
+pub fewer_left : (q : Asked) (old rest new : List WindowBox) (first : WindowBox) {reason read : List Limit} → IsSearched q old → IsPermutation old (first ∷ rest)
+    → IsReason q first reason → read ≡ reason → IsSplit q first.limits (first.limits ++ read) rest new → weights q new < weights q old
+fewer_left q old rest new first {reason} searched taken its is parts =
+    let box_ : IsBox q first = first_fits q old rest first searched taken in
+    let split = split_by q rest new first is parts in
     let met : box_of (first.limits ++ reason) first.gates first.states ≡ true =
     list_all-from_AllPass (λ l. meets l first.gates first.states) (first.limits ++ reason)
     (All-append (λ l. meets l first.gates first.states ≡ true) first.limits reason (AllPass-from_list_all (λ l. meets l first.gates first.states) first.limits box_.within) its.met) in

@@ -10,3 +10,4 @@ pub mod Reasons
 pub mod Splits
 pub mod Steps
 pub mod Tracked
+pub mod NextWindows

@@ -1,7 +1,9 @@
 -- What a tracker is seen as, and what its calls answer.
-use Rattle.std.specs.Prelude.{◌≡◌, ℕ}
+use Rattle.std.specs.Prelude.{◌≡◌, ℕ, Bool, List, map}
 use Rattle.cca_base.specs.Accepted.{CompiledModel}
-use Rattle.trajectory_estimator.specs.Asked.{modes_of}
+use Rattle.cca_base.specs.declared.state.State.{State}
+use Rattle.trajectory_estimator.specs.Asked.{entry_of, modes_of}
+use Rattle.trajectory_estimator.specs.declared.record.Record.{Record}
 use Rattle.trajectory_estimator.specs.declared.window.Window.{Window}
 use Rattle.trajectory_estimator.specs.declared.window.Window.TheVariants as windows
 use Rattle.window_laws.specs.Ticks.{Answer, Found, Unexplained, Holding, Ticks, TrackerState, start}
@@ -11,6 +13,10 @@ use Rattle.window_laws.specs.Trajectories.{Entry}
 pub record Tracked : Type 0 where
   pub compiled : CompiledModel
   pub state : TrackerState
+
+-- where a tracker stands that has these parts
+abbrev pub stands : State → List Record → List State → ℕ → Bool → TrackerState
+stands anchor records last ticks holding = record { anchor = anchor.modes; records = map entry_of records; last = modes_of last; ticks = ticks; holding = holding }
 
 -- at the start, with so many ticks made
 abbrev pub tracked_start : CompiledModel → ℕ → Tracked

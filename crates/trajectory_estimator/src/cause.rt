@@ -1,6 +1,6 @@
 //! Why a gate is as it is in a state.
 
-ghost use Rattle.std.specs.Prelude.{◌≢◌, ◌<◌, Contains, IfOk, IfSome, IsNone, Some, length, slice_get};
+ghost use Rattle.std.specs.Prelude.{◌≡◌, ◌≢◌, ◌<◌, Contains, IfOk, IfSome, IsNone, Some, false, length, slice_get, true};
 ghost use Rattle.cca_base.specs.State.{Extends, IsState};
 ghost use Rattle.trajectory_estimator.specs.Reasons.{AreFailing, IsCauseOf, ShowsGuard};
 
@@ -10,6 +10,15 @@ use crate::query::Query;
 use cca_base::{Cube, List, Move, Pair, State};
 use std::alloc::{AllocError, Global};
 
+/// Whether the pair fails in the modes.
+fn fails(pair: Pair, modes: &[u8]) -> bool
+    ensures fails { result ≡ true → slice_get modes.now pair.item ≢ Some pair.value }
+    ensures holds { result ≡ false → slice_get modes.now pair.item ≡ Some pair.value }
+{
+    let item = pair.item as usize;
+    item >= modes.len() || modes[item] != pair.value
+}
+
 /// The first pair of the cube that fails in the modes. None comes exactly where the cube stands.
 fn failing_pair(cube: &Cube, modes: &[u8]) -> Option<Pair>
     ensures some { IfSome result (Contains cube.now) }
@@ -17,8 +26,7 @@ fn failing_pair(cube: &Cube, modes: &[u8]) -> Option<Pair>
     ensures none { IsNone result → Extends modes.now cube.now }
 {
     for pair in cube.as_slice() {
-        let item = pair.item as usize;
-        if item >= modes.len() || modes[item] != pair.value {
+        if fails(*pair, modes) {
             return Some(*pair);
         }
     }

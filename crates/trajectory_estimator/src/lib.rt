@@ -13,6 +13,7 @@ mod gate;
 mod kept;
 mod limit;
 mod moved;
+mod next_window;
 mod ordered_state;
 mod piece;
 mod query;

@@ -1,17 +1,20 @@
 //! A tracker: it follows a plant that somebody else commands, keeps the last ticks open, and revises them by what is seen later.
 
-ghost use Rattle.std.specs.Prelude.{◌≡◌, ◌<◌, false, ◌+◌, ◌^◌, IfOk, OnErr, OnOk};
+ghost use Rattle.std.specs.Prelude.{◌≡◌, ◌<◌, ◌≤◌, false, ◌+◌, ◌-◌, ◌^◌, IfOk, OnErr, OnOk, drop, length, map};
 ghost use Rattle.cca_base.specs.Accepted.{IsCompiled};
 ghost use Rattle.cca_base.specs.State.{IsState, start_modes};
-ghost use Rattle.trajectory_estimator.specs.Asked.{AreValues, entry_of};
+ghost use Rattle.trajectory_estimator.specs.Asked.{AreValues, IsBestOf, entry_of, modes_of};
 ghost use Rattle.trajectory_estimator.specs.Tracked.{TicksBy, tracked_start};
-ghost use Rattle.window_laws.specs.Ticks.{going, next_anchor};
+ghost use Rattle.trajectory_estimator.specs.NextWindows.{IsNextWindow, IsWindowIn};
+ghost use Rattle.window_laws.specs.Ticks.{IsRevised, going, next_anchor};
 
 use crate::best::best_of;
 use crate::changes::Changes;
+use crate::next_window::NextWindow;
 use crate::query::Query;
 use crate::record::{MAX_WINDOW, Record, records_with};
 use crate::revised::{copy_states, revised};
+use crate::trajectory::Trajectory;
 use crate::window::Window;
 use cca_base::{Compiled, List, State};
 use consistency::Worlds;
@@ -35,11 +38,9 @@ pub struct Tracker {
 }
 
 impl Model for Tracker {
-    ghost use Rattle.std.specs.Prelude.{map};
     ghost use Rattle.cca_base.specs.Coded.{model_codes};
-    ghost use Rattle.trajectory_estimator.specs.Asked.{entry_of, modes_of};
     ghost use Rattle.trajectory_estimator.specs.Queries.{IsTracker};
-    ghost use Rattle.trajectory_estimator.specs.Tracked.{Tracked};
+    ghost use Rattle.trajectory_estimator.specs.Tracked.{Tracked, stands};
 
     ghost Value = { Tracked };
 
@@ -47,22 +48,11 @@ impl Model for Tracker {
 
     ghost view = { λ t. record {
       compiled = t.compiled;
-      state = record {
-        anchor = t.anchor.modes;
-        records = map entry_of t.records;
-        last = modes_of t.last;
-        ticks = t.ticks;
-        holding = t.holding;
-      };
+      state = stands t.anchor t.records t.last t.ticks t.holding;
     } };
 
-    ghost invariant = { λ t. IsTracker t.compiled t.worlds t.changes (record {
-      anchor = t.anchor.modes;
-      records = map entry_of t.records;
-      last = modes_of t.last;
-      ticks = t.ticks;
-      holding = t.holding;
-    }) };
+    ghost invariant = { λ t. IsTracker t.compiled t.worlds t.changes
+        (stands t.anchor t.records t.last t.ticks t.holding) };
 }
 
 /// The state in which each component starts. The error is out of memory.
@@ -108,6 +98,63 @@ impl Tracker {
         self.last.get(0).copy(self.alloc)
     }
 
+    /// How many records go at the next tick.
+    fn going(&self) -> usize
+        ensures { result ≡ going self.now.state }
+    {
+        (self.records.len() + 1).saturating_sub(MAX_WINDOW)
+    }
+
+    /// The window of the next tick. The error is out of memory.
+    fn next_window(&self, entry: Record) -> Result<NextWindow, AllocError>
+        requires awake { self.now.state.holding ≡ false }
+        requires values { AreValues self.now.compiled.model (entry_of entry) }
+        ensures next { IfOk result (IsNextWindow self.now.state (entry_of entry)) }
+        ensures good { IfOk result (IsWindowIn self.now.compiled.model) }
+    {
+        let gone = self.going();
+        let anchor = self.next_anchor(gone)?;
+        let records = records_with(self.alloc, self.records.as_slice(), gone, entry)?;
+        Ok(NextWindow {
+            gone,
+            anchor,
+            records,
+        })
+    }
+
+    /// The best trajectory of the window. None comes exactly where there is none. The error is out of memory.
+    fn best_in(&self, window: &NextWindow) -> Result<Option<Trajectory>, AllocError>
+        requires { IsWindowIn self.now.compiled.model window.now }
+        ensures { IfOk result (IsBestOf self.now.compiled.model window.now.anchor.modes
+            (map entry_of window.now.records)) }
+    {
+        let (anchor, records) = (&window.anchor, window.records.as_slice());
+        let query = Query::new(
+            self.alloc,
+            &self.compiled,
+            &self.worlds,
+            &self.changes,
+            anchor,
+            records,
+        );
+        best_of(&query)
+    }
+
+    /// The number of the first tick at which the states of the next window are others than the last ones. None comes exactly where there
+    /// is no such tick.
+    fn revised_by(&self, gone: usize, states: &[State]) -> Option<u64>
+        requires awake { self.now.state.holding ≡ false }
+        requires gone { gone ≡ going self.now.state }
+        requires some { 0 < length states.now }
+        requires few { length states.now ≤ self.now.state.ticks + 1 }
+        requires room { self.now.state.ticks + 1 < 2 ^ 64 }
+        ensures { IsRevised (self.now.state.ticks + 2 - length states.now)
+            (drop (going self.now.state) self.now.state.last) (modes_of states.now) result }
+    {
+        let first = self.ticks + 1 - (states.len() as u64 - 1);
+        revised(first, &self.last.as_slice()[gone..], states)
+    }
+
     /// Takes in what is known of the next tick, and answers the best trajectory of the window. From a full window the oldest record goes
     /// first. The error is out of memory; the record is gone then, and the tracker is as before.
     pub fn tick(&mut self, entry: Record) -> Result<Window, AllocError>
@@ -120,28 +167,16 @@ impl Tracker {
             self.ticks += 1;
             return Ok(Window::Holding);
         }
-        let alloc = self.alloc;
-        let gone = (self.records.len() + 1).saturating_sub(MAX_WINDOW);
-        let anchor = self.next_anchor(gone)?;
-        let records = records_with(alloc, self.records.as_slice(), gone, entry)?;
-        let query = Query::new(
-            alloc,
-            &self.compiled,
-            &self.worlds,
-            &self.changes,
-            &anchor,
-            records.as_slice(),
-        );
-        let Some(path) = best_of(&query)? else {
+        let next = self.next_window(entry)?;
+        let Some(path) = self.best_in(&next)? else {
             self.ticks += 1;
             self.holding = true;
             return Ok(Window::Unexplained);
         };
-        let last = copy_states(alloc, path.states.as_slice())?;
-        let first = self.ticks + 1 - (records.len() as u64 - 1);
-        let revised = revised(first, &self.last.as_slice()[gone..], path.states.as_slice());
-        self.anchor = anchor;
-        self.records = records;
+        let last = copy_states(self.alloc, path.states.as_slice())?;
+        let revised = self.revised_by(next.gone, path.states.as_slice());
+        self.anchor = next.anchor;
+        self.records = next.records;
         self.last = last;
         self.ticks += 1;
         Ok(Window::Found { path, revised })

@@ -4,5 +4,6 @@ pub mod WatchAgrees
 pub mod WatchEnds
 mod WatchExamples
 pub mod WatchLines
+pub mod WatchLeast
 pub mod WatchSteps
 pub mod WatchTold

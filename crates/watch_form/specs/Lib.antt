@@ -1,5 +1,6 @@
 pub mod Answered
 pub mod Calls
+pub mod LeastCosts
 pub mod OneStep
 pub mod WatchExamples
 pub mod WatchLaws

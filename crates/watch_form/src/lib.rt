@@ -6,5 +6,5 @@ mod laws;
 mod told;
 mod watching;
 
-pub use laws::watch_is_told;
+pub use laws::{costs_are_least, watch_is_told};
 pub use watching::{WatchMachine, Watching, open_watch};

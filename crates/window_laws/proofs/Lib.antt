@@ -5,7 +5,8 @@ pub mod Joining
 pub mod Stepping
 pub mod Counting
 mod ShortPaths
-mod Windows
+pub mod Windows
 mod TickNumbers
 mod Latest
+pub mod Since
 mod SmallTrackers

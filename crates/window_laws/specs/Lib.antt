@@ -2,6 +2,7 @@ pub mod Trajectories
 pub mod Ticks
 pub mod Laws
 pub mod TrackerLaws
+pub mod LatestTicks
 pub mod Columns
 pub mod Counts
 pub mod Examples

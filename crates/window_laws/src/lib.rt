@@ -3,6 +3,7 @@
 
 ghost use Rattle.window_laws.specs.Counts.{CountsAdd, CountsSome};
 ghost use Rattle.window_laws.specs.Examples.{Examples};
+ghost use Rattle.window_laws.specs.LatestTicks.{AnswersAreOfLatest};
 ghost use Rattle.window_laws.specs.Laws.{OneBest, TailsAreBest, OneRecord, AddsAtEnd, OldestDecides, ClashesCut};
 ghost use Rattle.window_laws.specs.TrackerLaws.{TicksKeep, OneTick, SlidesKeepBest, WindowFills, ShowsLatest, RevisedByTick, NothingToRevise, StartsAwake, HoldsOn, HoldsBehind, OneTracking, ResetsForget, KeepsLatest, TracksOn, StartKeeps, AnswersAreBest, NumbersGoOn};
 ghost use Rattle.window_laws.specs.Columns.{ColumnsAreLess, BoxesGiveBest, PathsAreTrajectory, GatesAreHeld, GatesAreShut, BestStep, NoStep};
@@ -36,6 +37,7 @@ pub fn tracking()
     ensures on { TracksOn }
     ensures start { StartKeeps }
     ensures best { AnswersAreBest }
+    ensures of_latest { AnswersAreOfLatest }
     ensures numbers { NumbersGoOn }
     ensures resets { ResetsForget }
     ensures latest { KeepsLatest }

@@ -1,6 +1,7 @@
 use Rattle.window_laws.proofs.Tracked.{one_tracking}
 use Rattle.window_laws.proofs.TickNumbers.{tracks_on, start_keeps, answers_are_best, numbers_go_on}
 use Rattle.window_laws.proofs.Latest.{resets_forget, keeps_latest}
+use Rattle.window_laws.proofs.Since.{answers_are_of_latest}
 use Rattle.window_laws.proofs.tracking.Goals as goal
 
 pub returns-clause-one : goal.returns-clause-one
@@ -23,3 +24,6 @@ returns-clause-resets c = resets_forget
 
 pub returns-clause-latest : goal.returns-clause-latest
 returns-clause-latest c = keeps_latest
+
+pub returns-clause-of_latest : goal.returns-clause-of_latest
+returns-clause-of_latest c = answers_are_of_latest

@@ -1,9 +1,6 @@
-use Rattle.std.proofs.Common.{List, ◌++◌, refl, sym, subst, ◌∙◌}
+use Rattle.std.proofs.Common.{refl, sym, subst, ◌∙◌}
 use Rattle.std.specs.BinaryHeap.{heap_items}
-use Rattle.trajectory_estimator.specs.Boxes.{IsBox}
-use Rattle.trajectory_estimator.specs.Splits.{IsSearched, IsSplit}
-use Rattle.trajectory_estimator.specs.declared.limit.Limit.{Limit}
-use Rattle.trajectory_estimator.specs.declared.window_box.WindowBox.{WindowBox}
+use Rattle.trajectory_estimator.specs.Splits.{IsSearched}
 use Rattle.trajectory_estimator.proofs.Searching.{fewer_left, first_best, first_fits, no_length, none_left, searched_on}
 use Rattle.trajectory_estimator.proofs.best.best_box.Goals as goal
 
@@ -30,28 +27,15 @@ push_pieces-requires-clause-whole c =
 
 pub loop-first-smaller : goal.loop-first-smaller
 loop-first-smaller c =
-    let q = c.args.query.now in
-    let first : WindowBox = c.in-Some.first in
-    let reason : List Limit = c.in-Some-2.reason in
-    let rest : List WindowBox = heap_items c.pop.new.self in
-    let new : List WindowBox = heap_items c.push_pieces.new.boxes in
-    let whole : IsBox q first = first_fits q (heap_items c.loop-first.boxes) rest first c.loop-first.invariant.searched c.in-Some.ensures.permutation in
-    fewer_left q (heap_items c.loop-first.boxes) rest new first reason whole c.in-Some.ensures.permutation (rw c.in-Some-2.is at c.in_ok-reason_against.ensures.some)
-    (subst (λ l. IsSplit q first.limits (first.limits ++ l) rest new) c.as_slice.ensures c.in_ok-push_pieces-in-Some-2.ensures.split)
+    fewer_left c.args.query.now (heap_items c.loop-first.boxes) (heap_items c.pop.new.self) (heap_items c.push_pieces.new.boxes) c.in-Some.first c.loop-first.invariant.searched c.in-Some.ensures.permutation
+    (rw c.in-Some-2.is at c.in_ok-reason_against.ensures.some) c.as_slice.ensures c.in_ok-push_pieces-in-Some-2.ensures.split
 
 pub loop-first-preserved : goal.loop-first-preserved
 loop-first-preserved c =
-    let q = c.args.query.now in
-    let first : WindowBox = c.in-Some.first in
-    let reason : List Limit = c.in-Some-2.reason in
-    let rest : List WindowBox = heap_items c.pop.new.self in
-    let new : List WindowBox = heap_items c.push_pieces.new.boxes in
-    record {
-      searched = searched_on q (heap_items c.loop-first.boxes) rest new first reason c.loop-first.invariant.searched c.in-Some.ensures.permutation
-          (c.in_ok-push_pieces-in-Some-2.ensures.heap (c.in-Some.ensures.heap_order c.loop-first.invariant.searched.heap).0) (rw c.in-Some-2.is at c.in_ok-reason_against.ensures.some)
-          (subst (λ l. IsSplit q first.limits (first.limits ++ l) rest new) c.as_slice.ensures c.in_ok-push_pieces-in-Some-2.ensures.split);
-      noted = c.in_ok-reason_against.ensures.clashes;
-    }
+    let heap = (c.in_ok-push_pieces-in-Some-2.ensures.heap (c.in-Some.ensures.heap_order c.loop-first.invariant.searched.heap).0) in
+    let searched = searched_on c.args.query.now (heap_items c.loop-first.boxes) (heap_items c.pop.new.self) (heap_items c.push_pieces.new.boxes) c.in-Some.first c.loop-first.invariant.searched
+    c.in-Some.ensures.permutation heap (rw c.in-Some-2.is at c.in_ok-reason_against.ensures.some) c.as_slice.ensures c.in_ok-push_pieces-in-Some-2.ensures.split in
+    record { searched = searched; noted = c.in_ok-reason_against.ensures.clashes }
 
 pub returns : goal.returns
 returns c =

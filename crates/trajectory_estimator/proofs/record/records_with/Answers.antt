@@ -1,4 +1,4 @@
-use Rattle.std.proofs.Common.{◌≡◌, ◌+◌, ◌-◌, ◌++◌, ◌∷◌, [], List, length, drop, map, take, sym, ap, ◌∙◌, arith}
+use Rattle.std.proofs.Common.{◌≡◌, ◌-◌, ◌++◌, ◌∷◌, [], List, length, drop, map, take, sym, ap, ◌∙◌, arith}
 use Rattle.std.proofs.lemmas.List.{drop-map, length-drop, length-map, map-append, take_all}
 use Rattle.trajectory_estimator.specs.Asked.{entry_of}
 use Rattle.trajectory_estimator.specs.declared.record.Record.{Record}
