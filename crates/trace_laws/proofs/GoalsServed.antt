@@ -1,7 +1,7 @@
 -- Goals are served within their stated numbers.
 use Rattle.std.proofs.Common.{◌≡◌, ◌<◌, ◌≤◌, ◌+◌, ◌-◌, ℕ, zero, suc, false, List, [], ◌∷◌, length, take, drop, Some, All, slice_get, refl, sym, ap, subst, ◌∙◌, arith}
 use Rattle.std.specs.Prelude.{IfSome}
-use Rattle.std.proofs.lemmas.List.Elements.{All-contains, All-head, All-tail}
+use Rattle.std.proofs.lemmas.List.Elements.{All-contains, All-head, All-tail, All-weaker}
 use Rattle.std.proofs.lemmas.Option.{slice_get_within, get_or_from_slice_get}
 use Rattle.cca_base.specs.declared.cube.Pair.{Pair}
 use Rattle.cca_base.specs.declared.events.Event.{Event}
@@ -20,13 +20,14 @@ use Rattle.cca_base.specs.Bounds.{stated_number}
 use Rattle.cca_base.specs.Successors.{Nominal}
 use Rattle.cca_base.specs.Choice.{IsChosenReply}
 use Rattle.cca_base.specs.Trace.{ExecutiveState, start, ReplyRule, GoalOrder, Changes, IsReply, command_of, TickShows}
-use Rattle.cca_base.specs.Runs.{TickRecord, Trace, IsRight, HasEstimate, LeavesPlantAndGoalAlone, reply_of, reply_at, is_unreachable, stretch, IsStretch, ServesGoal, Within}
+use Rattle.cca_base.specs.Runs.{TickRecord, Trace, IsRight, HasEstimate, LeavesPlantAlone, LeavesPlantAndGoalAlone, reply_of, reply_at, is_unreachable, stretch, IsStretch, ServesGoal, Within}
 use Rattle.std.proofs.lemmas.Option.{same_Some}
 use Rattle.list_laws.proofs.Places.{get_take}
 use Rattle.cca_laws.proofs.GoalLaws.{sends_serve}
 use Rattle.cca_laws.proofs.OneOrder.{compiled_none_twice}
 use Rattle.trace_laws.specs.Events.{Becomes}
 use Rattle.trace_laws.specs.Fits.{IsKeptGoal}
+use Rattle.trace_laws.specs.Held.{IsHeldStretch}
 use Rattle.cca_base.specs.Plans.{CanBeServed}
 use Rattle.trace_laws.specs.Served.{IsReached, ServesGoals, MeasuresGoals}
 use Rattle.trace_laws.specs.Laws.{EventsMayCome, GoalsAreServed, MeasuredGoalsAreServed, PromisesAreKept}
@@ -62,20 +63,40 @@ tail_of ticks i j t rising at =
 
 -- ---- ticks of a stretch
 
+leaves_plant : (e : Event) → LeavesPlantAndGoalAlone e → LeavesPlantAlone e
+leaves_plant (event.Goal pairs) h = tt
+leaves_plant event.Clear h = tt
+leaves_plant (event.Observe pairs) h = tt
+leaves_plant (event.Fault p) h = h
+leaves_plant (event.Mirror v) h = tt
+leaves_plant event.Reset h = h
+leaves_plant event.Tick h = tt
+
+-- a stretch in which the goal isn't set anew is one in which it is held
+pub held : (ticks : List TickRecord) (goal : List Pair) (i j : ℕ) → IsStretch ticks goal i j → IsHeldStretch ticks goal i j
+held ticks goal i j h = record {
+  rising = h.rising;
+  within = h.within;
+  goals = h.goals;
+  quiet = All-weaker (λ t. All LeavesPlantAndGoalAlone t.since) (λ t. All LeavesPlantAlone t.since) (λ t all. All-weaker LeavesPlantAndGoalAlone LeavesPlantAlone leaves_plant t.since all) (stretch ticks (i + 1) j) h.quiet;
+  right = h.right;
+  reachable = h.reachable;
+}
+
 module _ (m : PlantModel) (ordering : GoalOrder) where
-  one_event : (x : ExecutiveState) (e : Event) (y : ExecutiveState) → LeavesPlantAndGoalAlone e → Changes m ordering x e y → y.plant ≡ x.plant
-  one_event x (event.Goal pairs) y leaves h = absurd leaves
-  one_event x event.Clear y leaves h = absurd leaves
+  one_event : (x : ExecutiveState) (e : Event) (y : ExecutiveState) → LeavesPlantAlone e → Changes m ordering x e y → y.plant ≡ x.plant
+  one_event x (event.Goal pairs) y leaves (goal, k, e) = ap (λ (s : ExecutiveState). s.plant) e
+  one_event x event.Clear y leaves e = ap (λ (s : ExecutiveState). s.plant) e
   one_event x (event.Observe pairs) y leaves (both, k, e) = ap (λ (s : ExecutiveState). s.plant) e
   one_event x (event.Fault p) y leaves h = absurd leaves
   one_event x (event.Mirror v) y leaves e = ap (λ (s : ExecutiveState). s.plant) e
   one_event x event.Reset y leaves h = absurd leaves
   one_event x event.Tick y leaves h = absurd h
 
-  same_plant : (x : ExecutiveState) (events : List Event) (y : ExecutiveState) → All LeavesPlantAndGoalAlone events → Becomes m ordering x events y → y.plant ≡ x.plant
+  same_plant : (x : ExecutiveState) (events : List Event) (y : ExecutiveState) → All LeavesPlantAlone events → Becomes m ordering x events y → y.plant ≡ x.plant
   same_plant x [] y all e = ap (λ (s : ExecutiveState). s.plant) e
   same_plant x (e ∷ events) y all (z, change, rest) =
-      same_plant z events y (All-tail LeavesPlantAndGoalAlone e events all) rest ∙ one_event x e z (All-head LeavesPlantAndGoalAlone e events all) change
+      same_plant z events y (All-tail LeavesPlantAlone e events all) rest ∙ one_event x e z (All-head LeavesPlantAlone e events all) change
 
 linked_drop : (b : CompiledModel) (answers : ReplyRule) (i : ℕ) (x : ExecutiveState) (ts : List TickRecord) → Linked b answers x ts → (y : ExecutiveState) × Linked b answers y (drop i ts)
 linked_drop b answers zero x ts h = (x, h)
@@ -111,7 +132,7 @@ module _ (b : CompiledModel) (good : WellFormed b.model) (goal : List Pair) wher
   HasGoal t = t.before.goal ≡ Some goal
 
   abbrev IsQuiet : TickRecord → Type 0
-  IsQuiet t = All LeavesPlantAndGoalAlone t.since
+  IsQuiet t = All LeavesPlantAlone t.since
 
   serves_on : (t : TickRecord) (s next : List ℕ) (ts : List TickRecord) → s ≡ t.before.plant → Replies t.before.plant t.report.shown next → Serving b good goal next ts → Serving b good goal s (t ∷ ts)
   serves_on t s next ts e r rest =
@@ -165,7 +186,7 @@ module _ (b : CompiledModel) (good : WellFormed b.model) (goal : List Pair) wher
     stands = λ late t low high at. h.stands (late - i) t (omega (arith, low, below)) (in_stretch ticks i j late t (omega (arith, low)) high at);
   }
 
-  pub stretch_served : (number : ℕ) (x : ExecutiveState) (ticks : List TickRecord) (i j : ℕ) → Linked b (IsChosenReply b) x ticks → IsStretch ticks goal i j
+  pub stretch_served : (number : ℕ) (x : ExecutiveState) (ticks : List TickRecord) (i j : ℕ) → Linked b (IsChosenReply b) x ticks → IsHeldStretch ticks goal i j
       → ((t : TickRecord) → slice_get ticks i ≡ Some t → IsState b.model t.before.plant → IsReached b.model t.before.plant goal → LeftWithin number t.before.plant) → ServesGoal number ticks i j
   stretch_served number x ticks i j linked h left =
       let first : (t : TickRecord) × IsAt ticks i t = at_place ticks i (omega (arith, h.rising, h.within)) in
@@ -191,10 +212,10 @@ at_first P ticks i j t rising within all at =
     let own : P first.0 = All-head P first.0 (stretch ticks (i + 1) j) (subst (All P) (tail_of ticks i j first.0 rising first.1) all) in
     subst P (same_Some first.0 t (sym first.1.got ∙ at)) own
 
-pub goal_at : (ticks : List TickRecord) (goal : List Pair) (i j : ℕ) (t : TickRecord) → IsStretch ticks goal i j → slice_get ticks i ≡ Some t → t.before.goal ≡ Some goal
+pub goal_at : (ticks : List TickRecord) (goal : List Pair) (i j : ℕ) (t : TickRecord) → IsHeldStretch ticks goal i j → slice_get ticks i ≡ Some t → t.before.goal ≡ Some goal
 goal_at ticks goal i j t h at = at_first (λ u. u.before.goal ≡ Some goal) ticks i j t h.rising h.within h.goals at
 
-pub right_at : (ticks : List TickRecord) (goal : List Pair) (i j : ℕ) (t : TickRecord) → IsStretch ticks goal i j → slice_get ticks i ≡ Some t → IsRight t
+pub right_at : (ticks : List TickRecord) (goal : List Pair) (i j : ℕ) (t : TickRecord) → IsHeldStretch ticks goal i j → slice_get ticks i ≡ Some t → IsRight t
 right_at ticks goal i j t h at = at_first IsRight ticks i j t h.rising h.within h.right at
 
 -- the goal of a stretch is kept as goals are
@@ -202,7 +223,7 @@ goal_kept : (b : CompiledModel) (ticks : List TickRecord) (goal : List Pair) (i 
 goal_kept b ticks goal i j kept h =
     let first : (t : TickRecord) × IsAt ticks i t = at_place ticks i (omega (arith, h.rising, h.within)) in
     let t : TickRecord = first.0 in
-    subst (λ g. IfSome g (IsKeptGoal b)) (goal_at ticks goal i j t h first.1.got)
+    subst (λ g. IfSome g (IsKeptGoal b)) (goal_at ticks goal i j t (held ticks goal i j h) first.1.got)
     (All-contains (λ t. IfSome t.before.goal (IsKeptGoal b)) ticks t kept (i, slice_get_within ticks i t first.1.got, get_or_from_slice_get ticks i t t first.1.got))
 
 module _ (b : CompiledModel) (compiled : IsCompiled b) (events : List Event) (come : EventsMayCome b events) (reports : List TickReport) (t : Trace b (IsChosenReply b) events reports) where
@@ -215,12 +236,12 @@ module _ (b : CompiledModel) (compiled : IsCompiled b) (events : List Event) (co
   serves_goals : ServesGoals b → Within b t.ticks
   serves_goals served goal i j h =
       let is : IsKeptGoal b goal = goal_kept b t.ticks goal i j kept h in
-      stretch_served b compiled.accepted.well_formed goal (stated_number b.bounds goal) (start b.model 0) t.ticks i j links h (λ u at state reached. plan_left b compiled goal u.before.plant state (served u.before.plant goal state is reached))
+      stretch_served b compiled.accepted.well_formed goal (stated_number b.bounds goal) (start b.model 0) t.ticks i j links (held t.ticks goal i j h) (λ u at state reached. plan_left b compiled goal u.before.plant state (served u.before.plant goal state is reached))
 
   measures_goals : MeasuresGoals b → Within b t.ticks
   measures_goals measured goal i j h =
       let measure = measured goal (goal_kept b t.ticks goal i j kept h) in
-      stretch_served b compiled.accepted.well_formed goal (stated_number b.bounds goal) (start b.model 0) t.ticks i j links h (λ u at state reached. (
+      stretch_served b compiled.accepted.well_formed goal (stated_number b.bounds goal) (start b.model 0) t.ticks i j links (held t.ticks goal i j h) (λ u at state reached. (
         stated_number b.bounds goal,
         omega arith,
         left_of_measure b compiled.accepted.well_formed goal measure.0 measure.1 (stated_number b.bounds goal) u.before.plant state reached (measure.1.small u.before.plant state reached),

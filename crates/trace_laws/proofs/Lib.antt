@@ -5,6 +5,7 @@ pub mod EventsJoin
 pub mod WeakerReplies
 pub mod FitsStay
 pub mod GoalsServed
+mod HeldTicks
 pub mod TablesChangeNothing
 pub mod OthersBegin
 pub mod OneNext

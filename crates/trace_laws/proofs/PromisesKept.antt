@@ -11,10 +11,11 @@ use Rattle.cca_base.specs.Choice.{IsChosenReply}
 use Rattle.cca_base.specs.Trace.{ExecutiveState, start, IsReply, TickShows}
 use Rattle.cca_base.specs.Runs.{Ticks, Trace, HasEstimate, reply_of, is_unreachable, Within}
 use Rattle.cca_base.specs.Plans.{CanBeServed, Promising}
-use Rattle.trace_laws.specs.Laws.{PromisingTracesKeep}
+use Rattle.trace_laws.specs.Held.{WithinHeld}
+use Rattle.trace_laws.specs.Laws.{PromisingTracesKeep, PromisingTracesHold}
 use Rattle.trace_laws.proofs.TicksLink.{Linked, linked, came, Came}
 use Rattle.trace_laws.proofs.StaysRight.{stays_right}
-use Rattle.trace_laws.proofs.GoalsServed.{stretch_served, plan_left, right_at, goal_at}
+use Rattle.trace_laws.proofs.GoalsServed.{held, stretch_served, plan_left, right_at, goal_at}
 use Rattle.trace_laws.proofs.WeakerReplies.{ticks_too}
 
 module _ (b : CompiledModel) where
@@ -37,12 +38,15 @@ module _ (b : CompiledModel) where
     chosen_links : Linked b (IsChosenReply b) (start b.model 0) t.ticks
     chosen_links = linked b (IsChosenReply b) events (start b.model 0) (start b.model 0) [] t.ticks refl chosen_made
 
-    keeps_within : Within b t.ticks
-    keeps_within goal i j h =
+    pub within_held : WithinHeld b t.ticks
+    within_held goal i j h =
         stretch_served b compiled.accepted.well_formed goal (stated_number b.bounds goal) (start b.model 0) t.ticks i j chosen_links h (λ u at state reached.
         let c : Came b (Promising b) (start b.model 0) t.ticks i u = came b (Promising b) (start b.model 0) t.ticks i u links at in
         plan_left b compiled goal u.before.plant state
         (promised goal u.before u.report.shown c.leads (goal_at t.ticks goal i j u h at) (right_at t.ticks goal i j u h at) (h.reachable u at) c.shows))
+
+    keeps_within : Within b t.ticks
+    keeps_within goal i j h = within_held goal i j (held t.ticks goal i j h)
 
 pub promising_traces_keep : PromisingTracesKeep
 promising_traces_keep b events reports compiled t = (
@@ -50,3 +54,6 @@ promising_traces_keep b events reports compiled t = (
   keeps_within b compiled events reports t,
   stays_right b compiled.accepted.well_formed (IsChosenReply b) 0 t.ticks (chosen_links b compiled events reports t),
 )
+
+pub promising_traces_hold : PromisingTracesHold
+promising_traces_hold b events reports compiled t = within_held b compiled events reports t

@@ -11,6 +11,7 @@ use Rattle.cca_base.specs.Trace.{ExecutiveState, start, MayCome, AllMayCome}
 use Rattle.cca_base.specs.Runs.{Ticks, Trace, Within, StaysRight, KeepsPromises}
 use Rattle.trace_laws.specs.Events.{Acts, Makes, PendingAfter, mirrored_after}
 use Rattle.trace_laws.specs.Fits.{Fits}
+use Rattle.trace_laws.specs.Held.{WithinHeld}
 use Rattle.cca_base.specs.Plans.{Promising}
 use Rattle.trace_laws.specs.Served.{ServesGoals, MeasuresGoals}
 use Rattle.trace_laws.specs.Tables.{Cover, Planner, PlansWell, kept, renewed, MakesByTables}
@@ -38,6 +39,10 @@ MeasuredGoalsAreServed = (b : CompiledModel) (events : List Event) (reports : Li
 abbrev pub PromisingTracesKeep : Type 0
 PromisingTracesKeep = (b : CompiledModel) (events : List Event) (reports : List TickReport) → IsCompiled b → (t : Trace b (Promising b) events reports)
     → Ticks b (IsChosenReply b) (start b.model 0) [] events t.ticks × Within b t.ticks × StaysRight b t.ticks
+
+-- and they serve a goal also where it is set anew to the same pairs
+abbrev pub PromisingTracesHold : Type 0
+PromisingTracesHold = (b : CompiledModel) (events : List Event) (reports : List TickReport) → IsCompiled b → (t : Trace b (Promising b) events reports) → WithinHeld b t.ticks
 
 -- the fixed trace keeps the promises
 abbrev pub PromisesAreKept : Type 0

@@ -1,5 +1,5 @@
 use Rattle.trace_laws.proofs.GoalsServed.{goals_are_served, measured_goals_are_served, promises_are_kept}
-use Rattle.trace_laws.proofs.PromisesKept.{promising_traces_keep}
+use Rattle.trace_laws.proofs.PromisesKept.{promising_traces_hold, promising_traces_keep}
 use Rattle.trace_laws.proofs.promises_kept.Goals as goal
 
 pub returns-clause-served : goal.returns-clause-served
@@ -13,3 +13,6 @@ returns-clause-kept c = promises_are_kept
 
 pub returns-clause-promising : goal.returns-clause-promising
 returns-clause-promising c = promising_traces_keep
+
+pub returns-clause-held : goal.returns-clause-held
+returns-clause-held c = promising_traces_hold
