@@ -177,6 +177,13 @@ impl Executive {
         &self.last_seen
     }
 
+    /// Whether the last tick since the start or the last reset was unexplained, or came while holding.
+    pub fn holding(&self) -> bool
+        ensures { result ≡ self.now.state.holding }
+    {
+        self.standing.holding
+    }
+
     /// The last estimate.
     pub fn estimate(&self) -> &State
         ensures { result.now.modes ≡ self.now.state.estimate }

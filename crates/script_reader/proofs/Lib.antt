@@ -7,3 +7,4 @@ pub mod NamedItems
 pub mod OneSaid
 pub mod TableOfCodes
 pub mod LinesSayItems
+pub mod FormulaTexts

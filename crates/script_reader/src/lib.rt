@@ -11,6 +11,7 @@ mod laws;
 mod named;
 
 pub use context::Context;
+pub use event::event_of;
 pub use event_codes::{has_item_twice, observe_code};
 pub use event_line::{read_event, read_named_event};
 pub use formula_syntax::NamedModel;

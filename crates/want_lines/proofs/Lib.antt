@@ -1,6 +1,5 @@
 pub mod LineGrammar
 pub mod OneRequest
-pub mod OneText
 pub mod RequestsFit
 pub mod RequestsOfWords
 pub mod TableOfCodes

@@ -18,7 +18,7 @@ use Rattle.want_lines.specs.Words.{weight_at}
 use Rattle.want_lines.specs.declared.request.Request.{Request}
 use Rattle.want_lines.specs.declared.request.Request.TheVariants as request
 use Rattle.want_lines.proofs.LineGrammar.{weight_spelled, reads_weight}
-use Rattle.want_lines.proofs.OneText.{same_answer}
+use Rattle.script_reader.proofs.FormulaTexts.{same_answer}
 use Rattle.want_lines.proofs.RequestsOfWords.{apart, asks, at_word, tail_is, want_word, wanted, weight_word}
 
 pair_is : (p q : NamedPair) (a b : List ℕ) → ◌≡◌ {A = Option (NamedPair × List ℕ)} (Some (p, a)) (Some (q, b)) → (p ≡ q) × (a ≡ b)

@@ -19,7 +19,7 @@ use Rattle.script_reader.specs.SaidLines.{Answers}
 use Rattle.want_lines.specs.Items.{Item, Weight, At, Want}
 use Rattle.want_lines.specs.Requests.{FitsModel, IsRequestOf, IsTaken}
 use Rattle.want_lines.specs.declared.request.Request.{Request}
-use Rattle.want_lines.proofs.OneText.{formula_of}
+use Rattle.script_reader.proofs.FormulaTexts.{formula_of}
 
 -- a test is false where its being true is absurd
 is_false : (b : Bool) → (b ≡ true → ⊥) → b ≡ false

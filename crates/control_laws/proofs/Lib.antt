@@ -1,0 +1,11 @@
+pub mod BranchExamples
+pub mod Calls
+pub mod ChoiceExamples
+pub mod Controlled
+pub mod FirstPairs
+pub mod OneTurn
+pub mod PartTurns
+pub mod ProgramPairs
+pub mod RoundExamples
+pub mod SmallTurns
+pub mod SomeTurn

@@ -1,0 +1,5 @@
+pub mod Asked
+pub mod Examples
+pub mod Laws
+pub mod Rest
+pub mod Turns

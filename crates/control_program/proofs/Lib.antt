@@ -1,0 +1,17 @@
+pub mod Flats
+pub mod MarkLaws
+pub mod OpenedPrograms
+pub mod PartTurns
+pub mod Sizes
+pub mod PlaceLaws
+pub mod TaskTurns
+pub mod ChoiceTurns
+pub mod RoundTurns
+pub mod Questions
+pub mod Along
+pub mod PartsTurns
+pub mod Clearing
+pub mod FirstPairs
+pub mod RunningLaws
+pub mod Laying
+pub mod ProgramFormulas

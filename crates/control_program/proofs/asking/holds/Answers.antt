@@ -1,0 +1,28 @@
+use Rattle.std.proofs.Common.{◌↔◌, Bool, IsTrue, List, All, sym, subst}
+use Rattle.std.proofs.lemmas.Result.{IfOk-weaker}
+use Rattle.cca_base.specs.declared.cube.Pair.{Pair}
+use Rattle.cca_base.specs.Model.{HasMode}
+use Rattle.cca_base.specs.State.{Follows, Holds}
+use Rattle.cca_base.proofs.StatePairs.{pairs_have_modes}
+use Rattle.control_program.proofs.Questions.{formula_within, follows_holds, holds_follows}
+use Rattle.control_program.proofs.asking.holds.Goals as goal
+
+pub follows-requires-clause-modes : goal.follows-requires-clause-modes
+follows-requires-clause-modes c =
+    let a = c.args.asking.now in
+    subst (All (λ (p : Pair). HasMode a.model.now p.item p.value)) (sym a.pairs) (pairs_have_modes a.model.now a.estimate.now.modes a.state)
+
+pub follows-requires-clause-formula : goal.follows-requires-clause-formula
+follows-requires-clause-formula c = formula_within c.args.asking.now.model.now c.args.formula.now c.requires
+
+pub returns : goal.returns
+returns c =
+    let a = c.args.asking.now in
+    let m = a.model.now in
+    let s = a.estimate.now.modes in
+    let f = c.args.formula.now in
+    IfOk-weaker c.follows.result (λ (b : Bool). IsTrue b ↔ Follows m a.modes.now f) (λ (b : Bool). IsTrue b ↔ Holds m s f)
+    (λ b h. (
+      (λ t. follows_holds m s f a.state (subst (λ (l : List Pair). Follows m l f) a.pairs (h.0 t))),
+      (λ holds. h.1 (subst (λ (l : List Pair). Follows m l f) (sym a.pairs) (holds_follows m s f a.state holds))),
+    )) c.follows.ensures

@@ -1,0 +1,9 @@
+pub mod Codes
+pub mod Flat
+pub mod Formulas
+pub mod Marks
+pub mod Opened
+pub mod Places
+pub mod Turned
+pub mod Running
+pub mod Courses

@@ -1,0 +1,105 @@
+//! What a turn asks the estimate.
+
+ghost use Rattle.std.specs.Prelude.{◌≡◌, ◌++◌, ◌↔◌, All, IsTrue, IfOk};
+ghost use Rattle.cca_base.specs.Model.{IsFormula};
+ghost use Rattle.cca_base.specs.Repairs.{pairs_of};
+ghost use Rattle.cca_base.specs.State.{Extends, Holds, IsState};
+ghost use Rattle.consistency.specs.Worlds.{AreWorldsOf};
+ghost use Rattle.control_program.specs.Turned.{Chooses, Reaches};
+ghost use Rattle.control_program.specs.Places.{choice_of};
+
+use crate::nodes::{Mark, Node};
+use cca_base::{Cube, Formula, List, Model, Pair, State};
+use consistency::Worlds;
+use std::alloc::{AllocError, Global};
+
+/// An estimate of a model's state, and the nodes of a program.
+#[derive(Drop)]
+pub(crate) struct Asking<'a> {
+    pub alloc: Global,
+    pub model: &'a Model,
+    pub worlds: &'a Worlds,
+    pub estimate: &'a State,
+    /// All pairs of the estimate.
+    pub modes: &'a Cube,
+    pub nodes: &'a [Node],
+    ghost of: { AreWorldsOf model.now worlds.now },
+    ghost state: { IsState model.now estimate.now.modes },
+    ghost pairs: { modes.now ≡ pairs_of estimate.now.modes },
+}
+
+/// How far a turn has come.
+#[derive(Drop)]
+pub(crate) struct Course {
+    pub marks: List<Mark>,
+    /// What is asked for so far.
+    pub asked: List<Pair>,
+}
+
+/// Whether each pair's mode is the one that stands at its component's place.
+pub(crate) fn stand_in(pairs: &[Pair], modes: &[u8]) -> bool
+    ensures { IsTrue result ↔ Extends modes.now pairs.now }
+{
+    for pair in pairs {
+        let item = pair.item as usize;
+        if item >= modes.len() || modes[item] != pair.value {
+            return false;
+        }
+    }
+    true
+}
+
+/// Whether the formula is true in every world of the estimate. The error is out of memory.
+pub(crate) fn holds(asking: &Asking, formula: &Formula) -> Result<bool, AllocError>
+    requires { IsFormula asking.now.model.now formula.now }
+    ensures { IfOk result (λ b.
+        IsTrue b ↔ Holds asking.now.model.now asking.now.estimate.now.modes formula.now) }
+{
+    let _moves = asking.model.moves();
+    asking
+        .worlds
+        .follows(asking.alloc, asking.model, asking.modes, formula)
+}
+
+/// Puts pairs behind those that are asked. The error is out of memory.
+fn ask(asked: &mut List<Pair>, pairs: &[Pair]) -> Result<(), AllocError>
+    ensures { IfOk result (λ _. asked.new ≡ asked.old ++ pairs.now) }
+{
+    for pair in pairs {
+        asked.push(*pair)?;
+    }
+    Ok(())
+}
+
+/// Whether the pairs stand in the estimate; if they don't, they are asked for. The error is out of memory.
+pub(crate) fn reaches(
+    asking: &Asking,
+    asked: &mut List<Pair>,
+    pairs: &List<Pair>,
+) -> Result<bool, AllocError>
+    ensures { IfOk result (λ stand.
+        Reaches asking.now.estimate.now.modes pairs.now asked.old stand asked.new) }
+{
+    if stand_in(pairs.as_slice(), asking.estimate.modes.as_slice()) {
+        return Ok(true);
+    }
+    ask(asked, pairs.as_slice())?;
+    Ok(false)
+}
+
+/// Whether a choice takes its first part: as it did, or as the formula says. The error is out of memory.
+pub(crate) fn takes_first(
+    asking: &Asking,
+    mark: Mark,
+    formula: &Formula,
+) -> Result<bool, AllocError>
+    requires { IsFormula asking.now.model.now formula.now }
+    ensures { IfOk result (λ first. Chooses asking.now.model.now asking.now.estimate.now.modes
+        (choice_of mark) formula.now first) }
+{
+    match mark {
+        Mark::First => Ok(true),
+        Mark::Second => Ok(false),
+        _ => holds(asking, formula),
+    }
+}

@@ -1,0 +1,12 @@
+pub mod CodesHere
+pub mod Examples
+pub mod LineWords
+pub mod Matched
+pub mod OneLine
+pub mod OneProgram
+pub mod Places
+pub mod ReadAsWritten
+pub mod Runs
+pub mod SoundLines
+pub mod SoundParts
+pub mod WrittenIsRead

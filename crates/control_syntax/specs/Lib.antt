@@ -1,0 +1,10 @@
+pub mod Codes
+pub mod Examples
+pub mod Items
+pub mod Kept
+pub mod Matched
+pub mod Program
+pub mod Reading
+pub mod Tests
+pub mod Words
+pub mod Written
