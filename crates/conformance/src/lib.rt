@@ -29,6 +29,8 @@ mod limits;
 mod parts;
 #[cfg(test)]
 mod plans;
+#[cfg(test)]
+mod programs;
 mod steady;
 #[cfg(test)]
 mod tabled;

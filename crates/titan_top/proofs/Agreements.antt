@@ -17,9 +17,11 @@ use Rattle.want_form.proofs.WantAgrees.{want_agrees}
 use Rattle.want_form.proofs.WantEnds.{want_never_rejected}
 use Rattle.watch_form.proofs.WatchAgrees.{watch_agrees}
 use Rattle.watch_form.proofs.WatchEnds.{watch_never_rejected}
+use Rattle.program_form.proofs.ProgramAgrees.{program_agrees}
+use Rattle.program_form.proofs.ProgramEnds.{program_never_rejected}
 use Rattle.titan_top.specs.Meanings.{meaning_of}
 use Rattle.titan_top.specs.declared.words.Form.{Form}
-use Rattle.titan_top.specs.declared.words.Form.TheVariants.{Run, Show, Trial, Check, Migrate, Want, Watch}
+use Rattle.titan_top.specs.declared.words.Form.TheVariants.{Run, Show, Trial, Check, Migrate, Want, Watch, Program}
 use Rattle.model_form.specs.FormStates.{form_first}
 
 pub agrees : (form : Form) → FormAgrees (meaning_of form)
@@ -30,6 +32,7 @@ agrees Check = check_agrees
 agrees Migrate = migrate_agrees
 agrees Want = want_agrees
 agrees Watch = watch_agrees
+agrees Program = program_agrees
 
 -- a text that is printed, or surely comes, says No
 abbrev SaysNo : Form → List ℕ → List ℕ → Type 0
@@ -43,3 +46,4 @@ only_check_rejects Check bytes text h = refl
 only_check_rejects Migrate bytes text h = absurd (migrate_never_rejected (form_first (record {})) bytes text h)
 only_check_rejects Want bytes text h = absurd (want_never_rejected (form_first (record {})) bytes text h)
 only_check_rejects Watch bytes text h = absurd (watch_never_rejected (form_first (record {})) bytes text h)
+only_check_rejects Program bytes text h = absurd (program_never_rejected (form_first (record {})) bytes text h)

@@ -1,4 +1,4 @@
--- What holds over every source: only a check is rejected, a run, a check, a migration, wishes and what is watched are read to their end and what is
+-- What holds over every source: only a check is rejected, a run, a check, a migration, wishes, what is watched and a control program are read to their end and what is
 -- shown to its script, and show and check are silent before.
 use Rattle.std.proofs.Common.{◌≡◌, ℕ, ◌⊎◌, inl, inr, List, [], append-nil, Option, Some, None, Result, Ok, Err, refl, subst, ◌∙◌}
 use Rattle.std.specs.Io.KnownBytes.{prepend_known, IsAtEnd}
@@ -26,13 +26,15 @@ use Rattle.want_form.specs.WishMachine.{want_machine}
 use Rattle.want_form.proofs.WantEnds.{want_sure_refused}
 use Rattle.watch_form.specs.WatchMachine.{watch_machine}
 use Rattle.watch_form.proofs.WatchEnds.{watch_sure_refused}
+use Rattle.program_form.specs.ProgramMachine.{program_machine}
+use Rattle.program_form.proofs.ProgramEnds.{program_sure_refused}
 use Rattle.titan_top.specs.Meanings.{meaning_of}
 use Rattle.titan_top.specs.Output.{NothingRefused}
 use Rattle.titan_top.specs.Statuses.{cut_status, status_of}
 use Rattle.titan_top.specs.Streams.{StreamedBy, StreamedFor}
 use Rattle.titan_top.specs.declared.status.Status.TheVariants.{Ended, Rejected, ReadFault}
 use Rattle.titan_top.specs.declared.words.Form.{Form}
-use Rattle.titan_top.specs.declared.words.Form.TheVariants.{Run, Show, Check, Migrate, Want, Watch}
+use Rattle.titan_top.specs.declared.words.Form.TheVariants.{Run, Show, Check, Migrate, Want, Watch, Program}
 use Rattle.titan_top.proofs.Agreements.{agrees, only_check_rejects}
 use Rattle.titan_top.proofs.FormStatuses.{no_cut_ended, no_cut_rejected, end_ended, end_rejected, end_not_fault}
 use Rattle.model_form.specs.FormStates.{form_first}
@@ -106,6 +108,12 @@ watch_never taken text h = let k : ends.Ended ≡ ends.Refused = watch_sure_refu
 
 pub watch_at_end : (form : Form) (left left' out out' : Option (List ℕ)) (r : Result End Cut) → form ≡ Watch → StreamedFor form left left' out out' r → status_of r ≡ Ended → IsAtEnd left'
 watch_at_end form left left' out out' r is s h = ended_at_end watch_machine (form_first (record {})) watch_never left left' out out' r (subst (λ (f : Form). StreamedFor f left left' out out' r) is s) h
+
+program_never : (taken text : List ℕ) → IsSure program_machine (form_first (record {})) taken (Stops ends.Ended) text → ⊥
+program_never taken text h = let k : ends.Ended ≡ ends.Refused = program_sure_refused (form_first (record {})) taken ends.Ended text h in absurd cc
+
+pub program_at_end : (form : Form) (left left' out out' : Option (List ℕ)) (r : Result End Cut) → form ≡ Program → StreamedFor form left left' out out' r → status_of r ≡ Ended → IsAtEnd left'
+program_at_end form left left' out out' r is s h = ended_at_end program_machine (form_first (record {})) program_never left left' out out' r (subst (λ (f : Form). StreamedFor f left left' out out' r) is s) h
 
 -- ---- what was shown was read to its script
 

@@ -23,7 +23,7 @@ use Rattle.titan_top.specs.Statuses.{end_status, status_of}
 use Rattle.titan_top.specs.Streams.{StreamedFor}
 use Rattle.titan_top.specs.Words.{form_of, seed_of, texts, IsForm}
 use Rattle.titan_top.specs.declared.words.Form.{Form}
-use Rattle.titan_top.specs.declared.words.Form.TheVariants.{Run, Show, Trial, Check, Migrate, Want, Watch}
+use Rattle.titan_top.specs.declared.words.Form.TheVariants.{Run, Show, Trial, Check, Migrate, Want, Watch, Program}
 
 -- ---- each tick of a run that words ask for is printed when it is made
 
@@ -35,18 +35,20 @@ PrintsEachTick (Some Check) = Unit {0}
 PrintsEachTick (Some Migrate) = Unit {0}
 PrintsEachTick (Some Want) = Unit {0}
 PrintsEachTick (Some Watch) = Unit {0}
+PrintsEachTick (Some Program) = Unit {0}
 PrintsEachTick None = Unit {0}
 
 -- by what the words are
-by_one : (run show check migrate want watch : Bool)
-    → PrintsEachTick (cond run (Some (Run notations.Words)) (cond show (Some Show) (cond check (Some Check) (cond migrate (Some Migrate) (cond want (Some Want) (cond watch (Some Watch) None))))))
-by_one true show check migrate want watch = λ c. refl
-by_one false true check migrate want watch = tt
-by_one false false true migrate want watch = tt
-by_one false false false true want watch = tt
-by_one false false false false true watch = tt
-by_one false false false false false true = tt
-by_one false false false false false false = tt
+by_one : (run show check migrate want watch program : Bool)
+    → PrintsEachTick (cond run (Some (Run notations.Words)) (cond show (Some Show) (cond check (Some Check) (cond migrate (Some Migrate) (cond want (Some Want) (cond watch (Some Watch) (cond program (Some Program) None)))))))
+by_one true show check migrate want watch program = λ c. refl
+by_one false true check migrate want watch program = tt
+by_one false false true migrate want watch program = tt
+by_one false false false true want watch program = tt
+by_one false false false false true watch program = tt
+by_one false false false false false true program = tt
+by_one false false false false false false true = tt
+by_one false false false false false false false = tt
 
 by_seed : (seed : Option ℕ) → PrintsEachTick (option_map Trial seed)
 by_seed None = tt
@@ -62,6 +64,7 @@ by_two false json proof false seed = tt
 prints_each_tick : (words : List (List ℕ)) → PrintsEachTick (form_of words)
 prints_each_tick [] = tt
 prints_each_tick (a ∷ []) = by_one (bytes_eq a (codes "run")) (bytes_eq a (codes "show")) (bytes_eq a (codes "check")) (bytes_eq a (codes "migrate")) (bytes_eq a (codes "want")) (bytes_eq a (codes "watch"))
+    (bytes_eq a (codes "program"))
 prints_each_tick (a ∷ b ∷ []) = by_two (bytes_eq a (codes "run")) (bytes_eq b (codes "--json")) (bytes_eq b (codes "--proof")) (bytes_eq a (codes "trial")) (seed_of b)
 prints_each_tick (a ∷ b ∷ c ∷ cs) = tt
 

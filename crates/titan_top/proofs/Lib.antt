@@ -9,6 +9,7 @@ pub mod Migrations
 pub mod OutcomesAreOne
 pub mod OwnTraces
 pub mod PrintedTexts
+pub mod ProgramsOfWords
 pub mod ProvenLines
 pub mod ProvenTicks
 pub mod SeedWords

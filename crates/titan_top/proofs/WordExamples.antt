@@ -12,10 +12,12 @@ words_are_forms = record {
   migrate = refl;
   want = refl;
   watch = refl;
+  program = refl;
   no_word = refl;
   another = refl;
   one_more = refl;
   migrate_more = refl;
   want_more = refl;
   watch_more = refl;
+  program_more = refl;
 }

@@ -8,9 +8,10 @@ use Rattle.run_form.specs.declared.notation.Notation.TheVariants.{Summary}
 use Rattle.check_form.specs.CheckMeaning.{check_meaning}
 use Rattle.migrate_form.specs.MigrateMeaning.{migrate_meaning}
 use Rattle.want_form.specs.WantMeaning.{want_meaning}
+use Rattle.program_form.specs.ProgramMeaning.{program_meaning}
 use Rattle.watch_form.specs.WatchMeaning.{watch_meaning}
 use Rattle.titan_top.specs.declared.words.Form.{Form}
-use Rattle.titan_top.specs.declared.words.Form.TheVariants.{Run, Show, Trial, Check, Migrate, Want, Watch}
+use Rattle.titan_top.specs.declared.words.Form.TheVariants.{Run, Show, Trial, Check, Migrate, Want, Watch, Program}
 
 -- a trial is a run of the document of its number
 abbrev pub meaning_of : Form → FormMeaning
@@ -21,3 +22,4 @@ meaning_of Check = check_meaning
 meaning_of Migrate = migrate_meaning
 meaning_of Want = want_meaning
 meaning_of Watch = watch_meaning
+meaning_of Program = program_meaning

@@ -2,7 +2,7 @@
 use Rattle.std.specs.Prelude.{◌≡◌, [], ◌∷◌, None, Some, codes}
 use Rattle.run_form.specs.declared.notation.Notation.TheVariants.{Words, Json, Proof}
 use Rattle.titan_top.specs.Words.{form_of}
-use Rattle.titan_top.specs.declared.words.Form.TheVariants.{Run, Show, Check, Migrate, Want, Watch}
+use Rattle.titan_top.specs.declared.words.Form.TheVariants.{Run, Show, Check, Migrate, Want, Watch, Program}
 
 -- each form but a trial has its words; no word, another one, or one more is none
 pub record WordsAreForms : Type 0 where
@@ -14,9 +14,11 @@ pub record WordsAreForms : Type 0 where
   pub migrate : form_of (codes "migrate" ∷ []) ≡ Some Migrate
   pub want : form_of (codes "want" ∷ []) ≡ Some Want
   pub watch : form_of (codes "watch" ∷ []) ≡ Some Watch
+  pub program : form_of (codes "program" ∷ []) ≡ Some Program
   pub no_word : form_of [] ≡ None
   pub another : form_of (codes "shown" ∷ []) ≡ None
   pub one_more : form_of (codes "show" ∷ codes "--json" ∷ []) ≡ None
   pub migrate_more : form_of (codes "migrate" ∷ codes "--json" ∷ []) ≡ None
   pub want_more : form_of (codes "want" ∷ codes "--json" ∷ []) ≡ None
   pub watch_more : form_of (codes "watch" ∷ codes "--json" ∷ []) ≡ None
+  pub program_more : form_of (codes "program" ∷ codes "--json" ∷ []) ≡ None

@@ -6,7 +6,7 @@ use Rattle.std.specs.Option.{option_map}
 use Rattle.std.specs.Str.{bytes_eq}
 use Rattle.std.specs.Str.Parse.{digits_value}
 use Rattle.titan_top.specs.declared.words.Form.{Form}
-use Rattle.titan_top.specs.declared.words.Form.TheVariants.{Run, Show, Trial, Check, Migrate, Want, Watch}
+use Rattle.titan_top.specs.declared.words.Form.TheVariants.{Run, Show, Trial, Check, Migrate, Want, Watch, Program}
 use Rattle.run_form.specs.declared.notation.Notation.TheVariants.{Words, Json, Proof}
 
 -- the number of 64 bits that the word says, if it says one
@@ -23,7 +23,8 @@ form_of (a ∷ []) =
     else (if bytes_eq a (codes "migrate") then Some Migrate
     else (if bytes_eq a (codes "want") then Some Want
     else (if bytes_eq a (codes "watch") then Some Watch
-    else None)))))
+    else (if bytes_eq a (codes "program") then Some Program
+    else None))))))
 form_of (a ∷ b ∷ []) =
     if bytes_eq a (codes "run")
     then (if bytes_eq b (codes "--json") then Some (Run Json) else (if bytes_eq b (codes "--proof") then Some (Run Proof) else None))

@@ -6,6 +6,7 @@ ghost use Rattle.titan_wire.specs.Wire.{Rose, HasRoom};
 ghost use Rattle.line_machine.specs.Faults.{AnswersFaults};
 ghost use Rattle.trial_maker.specs.Documents.{document};
 ghost use Rattle.migrate_form.specs.MigrateLaws.{IsMigrated};
+ghost use Rattle.program_form.specs.Headline.{IsProgramTrace};
 ghost use Rattle.run_form.specs.Headline.{IsTraceOf};
 ghost use Rattle.run_form.specs.declared.notation.Notation.{Notation};
 ghost use Rattle.titan_top.specs.CheckedTrace.{IsCheckedTrace};
@@ -16,6 +17,7 @@ ghost use Rattle.titan_top.specs.Streams.{HasRoomForWords, IsDrivenAs, OfInput, 
 ghost use Rattle.titan_top.specs.Wire.{Writes, WritesAs};
 ghost use Rattle.titan_top.specs.Words.{asked, IsForm};
 ghost use Rattle.want_form.specs.WantMeaning.{IsWishesAnswer};
+ghost use Rattle.watch_form.specs.LeastCosts.{TellsLeast};
 ghost use Rattle.watch_form.specs.WatchMeaning.{IsWatchAnswer};
 
 use crate::status::{Status, status_of};
@@ -24,6 +26,7 @@ use crate::words::{Form, form_of};
 use check_form::{CheckMachine, open_check};
 use line_machine::{Cut, End, Intake, Unwatched, drive_opened};
 use migrate_form::{MigrateMachine, open_migrate};
+use program_form::{ProgramMachine, open_program};
 use run_form::{RunMachine, open_run};
 use show_form::{ShowMachine, open_show};
 use std::alloc::Global;
@@ -69,6 +72,12 @@ fn drive_form<S, K: Sink, I: Intake<S, K>>(
         Form::Watch => drive_opened::<WatchMachine, S, K, I>(
             alloc,
             open_watch(alloc),
+            source,
+            sink,
+        ),
+        Form::Program => drive_opened::<ProgramMachine, S, K, I>(
+            alloc,
+            open_program(alloc),
             source,
             sink,
         ),
@@ -152,11 +161,22 @@ pub fn titan<S: Source, K: Sink>(
 
     // What is printed of a watched plant are the answers of a tracker to its ticks: how many records its window has, the best trajectory of
     // these by its cost and its last state, and the first tick that it revises; or that none explains what was seen, and from then on
-    // that it is holding; and then comes the line of a refusal, if there is one. No other trajectory of the window from its anchor costs less
-    // than the printed one: `IsWatchAnswer` has `SaysWatch`, whose answers are those of `Tracks`, each by `Ticks`; there a trajectory that is found
-    // is `Best`, and its field `least` says so.
+    // that it is holding; and then comes the line of a refusal, if there is one.
     ensures watched { IsForm words.now.items Form.Watch → IfSome (S.left source.old) (λ input.
         (o : Outcome) → IsOutcome words.now.items input o → OfAnswer (IsWatchAnswer input) o) }
+
+    // Of each printed line of a window: it has as many records as it says, those of the last ticks since the last reset or the start; from its
+    // anchor a trajectory over them ends in the printed state at the printed cost, and no other one costs less.
+    ensures least { IsForm words.now.items Form.Watch → IfSome (S.left source.old) (λ input.
+        (o : Outcome) → IsOutcome words.now.items input o → OfAnswer (TellsLeast input) o) }
+
+    // What is printed of a control program is the fixed trace of its lines' events with those that the program puts in: before each tick a turn is
+    // made with the last estimate, and its goal is set, or cleared where the turn asks for nothing, unless the last report since the start
+    // or the last reset was unexplained or holding; a reset begins the program again. Each reply is good for the goal of its turn, and a goal
+    // that turns keep asking for is served within its stated number while estimates are right and no fault comes. After the line of the tick
+    // before which the program ended stands `done N`. Then comes the line of a refusal, if there is one.
+    ensures sequenced { IsForm words.now.items Form.Program → IfSome (S.left source.old) (λ input.
+        (o : Outcome) → IsOutcome words.now.items input o → OfAnswer (IsProgramTrace input) o) }
 
     // The input has no line that is refused, or its first one is named. A check has no No either, or its first one comes first.
     ensures ended { result ≡ Status.Ended →
@@ -221,8 +241,8 @@ pub fn titan<S: Source, K: Sink>(
     // Only a check rejects anything.
     ensures only_check { result ≡ Status.Rejected → IsForm words.now.items Form.Check }
 
-    // A run, a check, a migration, wishes or a watch that ended have read their input to the end; what is shown was read to the line `script`. Before
-    // the end `show` and `check` write nothing.
+    // A run, a check, a migration, wishes, a watch or a control program that ended have read their input to the end; what is shown was read to
+    // the line `script`. Before the end `show` and `check` write nothing.
     ensures whole { (notation : Notation) → IsForm words.now.items (Form.Run notation) →
         result ≡ Status.Ended → IsAtEnd (S.left source.new) }
     ensures whole_check { IsForm words.now.items Form.Check → result ≡ Status.Ended →
@@ -232,6 +252,8 @@ pub fn titan<S: Source, K: Sink>(
     ensures whole_wishes { IsForm words.now.items Form.Want → result ≡ Status.Ended →
         IsAtEnd (S.left source.new) }
     ensures whole_watch { IsForm words.now.items Form.Watch → result ≡ Status.Ended →
+        IsAtEnd (S.left source.new) }
+    ensures whole_program { IsForm words.now.items Form.Program → result ≡ Status.Ended →
         IsAtEnd (S.left source.new) }
     ensures to_script { IsForm words.now.items Form.Show → result ≡ Status.Ended →
         (taken : List ℕ) × (S.left source.old ≡ prepend_known taken (S.left source.new))

@@ -23,6 +23,8 @@ pub enum Form {
     Want,
     /// Reads a model and what was commanded and observed, and prints the best trajectory of the last ticks at each tick.
     Watch,
+    /// Reads a model, a control program and events, and prints the trace of the events with those by which the program sets goals.
+    Program,
 }
 
 /// The number of 64 bits that the word says, if it says one.
@@ -57,6 +59,8 @@ pub fn form_of(words: &[String]) -> Option<Form>
                 Some(Form::Want)
             } else if a.as_str() == "watch" {
                 Some(Form::Watch)
+            } else if a.as_str() == "program" {
+                Some(Form::Program)
             } else {
                 None
             }

@@ -5,9 +5,10 @@ use Rattle.run_form.specs.RunMachine.{run_machine, run_first}
 use Rattle.check_form.specs.CheckForm.{check_machine}
 use Rattle.migrate_form.specs.MigrateMachine.{migrate_machine}
 use Rattle.want_form.specs.WishMachine.{want_machine}
+use Rattle.program_form.specs.ProgramMachine.{program_machine}
 use Rattle.watch_form.specs.WatchMachine.{watch_machine}
 use Rattle.titan_top.specs.Streams.{HasRoomForWords, IsDrivenAs}
-use Rattle.titan_top.specs.declared.words.Form.TheVariants.{Run, Show, Check, Migrate, Want, Watch}
+use Rattle.titan_top.specs.declared.words.Form.TheVariants.{Run, Show, Check, Migrate, Want, Watch, Program}
 use Rattle.titan_top.proofs.FormAnswers.{room_for, opened_room}
 use Rattle.titan_top.proofs.TrialRuns.{trial_leaves}
 use Rattle.titan_top.proofs.top.drive_form.Goals as goal
@@ -52,6 +53,12 @@ drive_opened-requires-in-Watch-clause-room g c =
     let space = g.K.Sink.space c.args.sink.now in
     opened_room watch_machine (form_first (record {})) left space c.open_watch.result c.open_watch.ensures (room_for Watch left space (subst (λ f. HasRoomForWords (Some f) left space) c.in-Watch.is c.requires))
 
+pub drive_opened-requires-in-Program-clause-room : goal.drive_opened-requires-in-Program-clause-room
+drive_opened-requires-in-Program-clause-room g c =
+    let left = g.I.Intake.left c.args.source.now in
+    let space = g.K.Sink.space c.args.sink.now in
+    opened_room program_machine (form_first (record {})) left space c.open_program.result c.open_program.ensures (room_for Program left space (subst (λ f. HasRoomForWords (Some f) left space) c.in-Program.is c.requires))
+
 pub returns-in-Run-clause-driven : goal.returns-in-Run-clause-driven
 returns-in-Run-clause-driven g c =
     subst (λ f. IsDrivenAs f (g.I.Intake.left c.args.source.now) (g.I.Intake.left c.drive_opened.new.source) (g.K.Sink.written c.args.sink.now) (g.K.Sink.written c.drive_opened.new.sink) (g.I.Intake.calls c.args.source.now) (g.I.Intake.calls c.drive_opened.new.source) c.drive_opened.result) (sym c.in-Run.is)
@@ -86,6 +93,11 @@ pub returns-in-Watch-clause-driven : goal.returns-in-Watch-clause-driven
 returns-in-Watch-clause-driven g c =
     subst (λ f. IsDrivenAs f (g.I.Intake.left c.args.source.now) (g.I.Intake.left c.drive_opened-in-Watch.new.source) (g.K.Sink.written c.args.sink.now) (g.K.Sink.written c.drive_opened-in-Watch.new.sink) (g.I.Intake.calls c.args.source.now) (g.I.Intake.calls c.drive_opened-in-Watch.new.source) c.drive_opened-in-Watch.result) (sym c.in-Watch.is)
     (c.drive_opened-in-Watch.ensures.driven (form_first (record {})) c.open_watch.ensures)
+
+pub returns-in-Program-clause-driven : goal.returns-in-Program-clause-driven
+returns-in-Program-clause-driven g c =
+    subst (λ f. IsDrivenAs f (g.I.Intake.left c.args.source.now) (g.I.Intake.left c.drive_opened-in-Program.new.source) (g.K.Sink.written c.args.sink.now) (g.K.Sink.written c.drive_opened-in-Program.new.sink) (g.I.Intake.calls c.args.source.now) (g.I.Intake.calls c.drive_opened-in-Program.new.source) c.drive_opened-in-Program.result) (sym c.in-Program.is)
+    (c.drive_opened-in-Program.ensures.driven (form_first (record {})) c.open_program.ensures)
 
 pub returns-in-Trial-clause-faults : goal.returns-in-Trial-clause-faults
 returns-in-Trial-clause-faults g c = record {

@@ -5,16 +5,17 @@ use Rattle.titan_top.specs.Streams.{HasRoomForWords, OfInput, input_for}
 use Rattle.titan_top.specs.Wire.{WritesAs}
 use Rattle.titan_top.specs.Words.{asked}
 use Rattle.titan_top.specs.declared.status.Status.TheVariants.{Ended, Rejected, Refused, Memory}
-use Rattle.titan_top.specs.declared.words.Form.TheVariants.{Run, Show, Trial, Check, Migrate, Want, Watch}
-use Rattle.titan_top.proofs.EverySource.{only_check, run_at_end, check_at_end, migration_at_end, wishes_at_end, watch_at_end, show_silent, check_silent, show_to_script}
+use Rattle.titan_top.specs.declared.words.Form.TheVariants.{Run, Show, Trial, Check, Migrate, Want, Watch, Program}
+use Rattle.titan_top.proofs.EverySource.{only_check, run_at_end, check_at_end, migration_at_end, wishes_at_end, watch_at_end, program_at_end, show_silent, check_silent, show_to_script}
 use Rattle.titan_top.proofs.FormAnswers.{usage_room, form_prints, form_streams}
 use Rattle.titan_top.proofs.FormStatuses.{no_read, form_ended, form_refused, form_rejected, ended_where, refused_where, rejected_where, completes}
 use Rattle.titan_top.proofs.FrontsOfRuns.{run_front}
 use Rattle.titan_top.proofs.Migrations.{migration_is_migrated}
 use Rattle.titan_top.proofs.OwnTraces.{own_where}
+use Rattle.titan_top.proofs.ProgramsOfWords.{program_is_traced}
 use Rattle.titan_top.proofs.TraceIsChecked.{check_is_checked}
 use Rattle.titan_top.proofs.TracesOfWords.{run_is_traced, trial_is_traced}
-use Rattle.titan_top.proofs.WatchedByWords.{watch_is_watched}
+use Rattle.titan_top.proofs.WatchedByWords.{watch_is_least, watch_is_watched}
 use Rattle.titan_top.proofs.WishesOfWords.{want_is_wished}
 use Rattle.titan_top.proofs.WordsOfForms.{all_words, form_writes, the_form, usage_answers, usage_completes}
 use Rattle.titan_top.proofs.top.titan.Goals as goal
@@ -35,6 +36,12 @@ returns-in-None-clause-wished g c = want_is_wished c.args.words.now.items _
 
 pub returns-in-None-clause-watched : goal.returns-in-None-clause-watched
 returns-in-None-clause-watched g c = watch_is_watched c.args.words.now.items _
+
+pub returns-in-None-clause-least : goal.returns-in-None-clause-least
+returns-in-None-clause-least g c = watch_is_least c.args.words.now.items _
+
+pub returns-in-None-clause-sequenced : goal.returns-in-None-clause-sequenced
+returns-in-None-clause-sequenced g c = program_is_traced c.args.words.now.items _
 
 pub returns-in-None-clause-text : goal.returns-in-None-clause-text
 returns-in-None-clause-text g c = usage_answers c.args.words.now.items (sym (rw c.deref.ensures.value at c.in-None.ensures)) _ _ _ _ c.send_usage.ensures.sent
@@ -78,6 +85,12 @@ returns-in-Some-clause-wished g c = want_is_wished c.args.words.now.items _
 
 pub returns-in-Some-clause-watched : goal.returns-in-Some-clause-watched
 returns-in-Some-clause-watched g c = watch_is_watched c.args.words.now.items _
+
+pub returns-in-Some-clause-least : goal.returns-in-Some-clause-least
+returns-in-Some-clause-least g c = watch_is_least c.args.words.now.items _
+
+pub returns-in-Some-clause-sequenced : goal.returns-in-Some-clause-sequenced
+returns-in-Some-clause-sequenced g c = program_is_traced c.args.words.now.items _
 
 pub returns-in-Some-clause-ended : goal.returns-in-Some-clause-ended
 returns-in-Some-clause-ended g c e = all_words c.args.words.now.items c.in-Some.form (rw c.deref.ensures.value at c.in-Some.ensures) NothingRefused (g.S.Source.left c.args.source.now) (form_ended c.in-Some.form c.drive_form.result (input_for (Some c.in-Some.form) (g.S.Source.left c.args.source.now)) (g.K.Sink.written c.args.sink.now) (g.K.Sink.written c.drive_form.new.sink) (form_prints c.in-Some.form (g.S.Source.left c.args.source.now) (g.S.Source.left c.drive_form.new.source) (g.K.Sink.written c.args.sink.now) (g.K.Sink.written c.drive_form.new.sink) _ _ c.drive_form.result c.drive_form.ensures.driven) (sym c.status_of.ensures ∙ e))
@@ -128,6 +141,9 @@ returns-in-Some-clause-whole_wishes g c want e = wishes_at_end c.in-Some.form (g
 
 pub returns-in-Some-clause-whole_watch : goal.returns-in-Some-clause-whole_watch
 returns-in-Some-clause-whole_watch g c watch e = watch_at_end c.in-Some.form (g.S.Source.left c.args.source.now) (g.S.Source.left c.drive_form.new.source) (g.K.Sink.written c.args.sink.now) (g.K.Sink.written c.drive_form.new.sink) c.drive_form.result (the_form c.args.words.now.items c.in-Some.form (rw c.deref.ensures.value at c.in-Some.ensures) Watch watch) (form_streams c.in-Some.form (g.S.Source.left c.args.source.now) (g.S.Source.left c.drive_form.new.source) (g.K.Sink.written c.args.sink.now) (g.K.Sink.written c.drive_form.new.sink) _ _ c.drive_form.result c.drive_form.ensures.driven) (sym c.status_of.ensures ∙ e)
+
+pub returns-in-Some-clause-whole_program : goal.returns-in-Some-clause-whole_program
+returns-in-Some-clause-whole_program g c program e = program_at_end c.in-Some.form (g.S.Source.left c.args.source.now) (g.S.Source.left c.drive_form.new.source) (g.K.Sink.written c.args.sink.now) (g.K.Sink.written c.drive_form.new.sink) c.drive_form.result (the_form c.args.words.now.items c.in-Some.form (rw c.deref.ensures.value at c.in-Some.ensures) Program program) (form_streams c.in-Some.form (g.S.Source.left c.args.source.now) (g.S.Source.left c.drive_form.new.source) (g.K.Sink.written c.args.sink.now) (g.K.Sink.written c.drive_form.new.sink) _ _ c.drive_form.result c.drive_form.ensures.driven) (sym c.status_of.ensures ∙ e)
 
 pub returns-in-Some-clause-to_script : goal.returns-in-Some-clause-to_script
 returns-in-Some-clause-to_script g c show e = show_to_script c.in-Some.form (g.S.Source.left c.args.source.now) (g.S.Source.left c.drive_form.new.source) (g.K.Sink.written c.args.sink.now) (g.K.Sink.written c.drive_form.new.sink) c.drive_form.result (the_form c.args.words.now.items c.in-Some.form (rw c.deref.ensures.value at c.in-Some.ensures) Show show) (form_streams c.in-Some.form (g.S.Source.left c.args.source.now) (g.S.Source.left c.drive_form.new.source) (g.K.Sink.written c.args.sink.now) (g.K.Sink.written c.drive_form.new.sink) _ _ c.drive_form.result c.drive_form.ensures.driven) (sym c.status_of.ensures ∙ e)

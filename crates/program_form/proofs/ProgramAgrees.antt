@@ -1,0 +1,27 @@
+-- `program` does what it means.
+use Rattle.std.proofs.Common.{◌≡◌, ℕ, List, refl, sym, ap, ◌∙◌}
+use Rattle.cca_base.specs.Accepted.{CompiledModel}
+use Rattle.line_machine.specs.declared.machine.End.{End}
+use Rattle.model_form.specs.FormMeaning.{FormAgrees}
+use Rattle.model_form.specs.FormStates.{form_first}
+use Rattle.model_form.specs.LinesEnds.{LinesEnd, AllRead, EndsLines, RefusesSomewhere, ending}
+use Rattle.model_form.proofs.Agreeing.{agrees}
+use Rattle.model_form.proofs.LinesAgree.{lines_agree}
+use Rattle.program_form.specs.Printed.{SaysRun}
+use Rattle.program_form.specs.ProgramMachine.{program_machine}
+use Rattle.program_form.specs.ProgramMeaning.{EndsSequence, program_meaning}
+use Rattle.program_form.specs.Sequences.{Sequence}
+use Rattle.program_form.proofs.OneSequence.{sequence_one}
+use Rattle.program_form.proofs.ProgramEnds.{program_fixed}
+use Rattle.program_form.proofs.ProgramsTold.{programs_are_told}
+
+-- the program ends as the lines do
+ends_as : (b : CompiledModel) (n : ℕ) (ls : List (List ℕ)) (e : End) (text : List ℕ) → SaysRun b n ls e text → (lines : LinesEnd) × EndsSequence b n ls lines × (e ≡ (ending b.model lines).end)
+ends_as b n ls e text (r, told, says, run, ends, parts) = (r.ending, (r, says, refl), ends)
+
+-- lines end in one way
+one_end : (b : CompiledModel) (n : ℕ) (ls : List (List ℕ)) (x y : LinesEnd) → EndsSequence b n ls x → EndsSequence b n ls y → x ≡ y
+one_end b n ls x y (r, says, is) (q, also, was) = sym is ∙ ap (λ (z : Sequence). z.ending) (sequence_one b.model n ls r q says also) ∙ was
+
+pub program_agrees : FormAgrees program_meaning
+program_agrees = agrees SaysRun (EndsLines EndsSequence AllRead) (RefusesSomewhere EndsSequence) program_machine (form_first (record {})) programs_are_told program_fixed (lines_agree SaysRun EndsSequence ends_as one_end)

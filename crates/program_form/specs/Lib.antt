@@ -1,0 +1,10 @@
+pub mod Headline
+pub mod OneStep
+pub mod Printed
+pub mod ProgramMachine
+pub mod ProgramMeaning
+pub mod PutIn
+pub mod PutInLaws
+pub mod Sequences
+pub mod Stages
+pub mod WrittenPrograms

@@ -1,0 +1,146 @@
+-- The machine of the lines behind a model that are a control program and its events.
+use Rattle.std.specs.Prelude.{◌≡◌, ◌<◌, ℕ, false, List, [], Option, Some, None, Result, Ok, Err}
+use Rattle.std.specs.Option.{option_map}
+use Rattle.cca_base.specs.declared.codes.TheConstants.{ENDS_EARLY}
+use Rattle.cca_base.specs.declared.events.Event.{Event}
+use Rattle.cca_base.specs.declared.events.TickReport.{TickReport}
+use Rattle.cca_base.specs.Accepted.{CompiledModel, IsCompiled}
+use Rattle.cca_base.specs.Plans.{Promising}
+use Rattle.cca_base.specs.PlantModel.{PlantModel}
+use Rattle.cca_base.specs.Refusals.{bare}
+use Rattle.cca_base.specs.Trace.{ExecutiveState, start}
+use Rattle.control_laws.specs.Rest.{whole}
+use Rattle.control_laws.specs.Turns.{Control, fresh}
+use Rattle.control_syntax.specs.Codes.{IsSaid}
+use Rattle.control_syntax.specs.Reading.{Reading, led, nothing_read}
+use Rattle.control_syntax.specs.declared.line.Line.{Line}
+use Rattle.control_syntax.specs.declared.part.Part.{Part}
+use Rattle.line_machine.specs.Next.{Next, GoesOn}
+use Rattle.line_machine.specs.declared.machine.End.{End}
+use Rattle.line_machine.specs.declared.machine.End.TheVariants.{Ended, Refused}
+use Rattle.line_machine.specs.declared.machine.Machine.{Ghosts}
+use Rattle.model_form.specs.FormMachine.{form_machine}
+use Rattle.model_form.specs.FormStates.{FormState}
+use Rattle.model_form.specs.LineMachines.{form_of_lines}
+use Rattle.model_form.specs.ModelSteps.{GoesOnIn, RefusesLine}
+use Rattle.model_form.specs.declared.form.ModelForm.{Ghosts as FormGhosts}
+use Rattle.model_form.specs.declared.limits.TheConstants.{MAX_LINE}
+use Rattle.model_form.specs.declared.lines.OfLines.{OfLines}
+use Rattle.trace_laws.specs.Events.{Acts}
+use Rattle.trace_text.specs.Json.{refusal_text}
+use Rattle.program_form.specs.Printed.{told_text}
+use Rattle.program_form.specs.PutIn.{Sequencer, PutsBefore, IsToldOf, Told}
+use Rattle.program_form.specs.Sequences.{event_line}
+
+-- so much of the program is read, or it runs, and this is left of it
+pub data Stage : Type 0 where
+  Reads : Reading → Stage
+  Runs : Control → Stage
+
+-- where the lines stand: the compiled model, its executive, and the program
+pub record ProgramState : Type 0 where
+  pub compiled : CompiledModel
+  pub state : ExecutiveState
+  pub stage : Stage
+
+-- before the first line behind the model
+abbrev pub program_first : CompiledModel → ProgramState
+program_first b = record { compiled = b; state = start b.model 0; stage = Reads nothing_read }
+
+-- the program is read so far, or it is whole and runs
+abbrev pub stage_by : Option Part → Reading → Stage
+stage_by None y = Reads y
+stage_by (Some part) y = Runs (fresh (whole part))
+
+-- the same state, with the program read so far
+abbrev pub behind_line : ProgramState → Reading → ProgramState
+behind_line x y = record { compiled = x.compiled; state = x.state; stage = stage_by y.whole y }
+
+-- the same model, with its executive and what is left of its program
+abbrev pub running : CompiledModel → ExecutiveState → Control → ProgramState
+running b y next = record { compiled = b; state = y; stage = Runs next }
+
+-- a program that runs, with what it knows of the executive
+abbrev pub sequencer : ExecutiveState → Control → Sequencer
+sequencer x c = record { control = c; estimate = x.estimate; holding = x.holding }
+
+-- the event that is put in leads there, if there is one
+abbrev pub Prepares : CompiledModel → ExecutiveState → Option Event → ExecutiveState → Type 0
+Prepares b x None z = z ≡ x
+Prepares b x (Some e) z = Acts b (Promising b) x e z None
+
+-- the text of a tick, if the event is one
+abbrev pub event_text : PlantModel → Option Told → List ℕ
+event_text m None = []
+event_text m (Some told) = told_text m told
+
+-- what is reported of it
+abbrev pub report_of : Option Told → Option TickReport
+report_of own = option_map (λ t. t.report) own
+
+-- an event leads from x to y, with what is put in before it
+pub record MakesEvent (b : CompiledModel) (x : ExecutiveState) (c : Control) (e : Event) (y : ExecutiveState) (next : Control) (own : Option Told) : Type 0 where
+  pub put : Option Event
+  pub puts : PutsBefore b.model e (sequencer x c) put next
+  pub told : IsToldOf e c next own
+  pub middle : ExecutiveState
+  pub prepares : Prepares b x put middle
+  pub acts : Acts b (Promising b) middle e y (report_of own)
+
+-- a line behind the program: its event is made, and what is told of it is printed; or the line is refused, or says nothing
+abbrev pub MakesBy : Result (Option Event) ℕ → CompiledModel → ExecutiveState → Control → ℕ → Next ProgramState → List ℕ → Type 0
+MakesBy (Err code) b x c n u text = RefusesLine false b.model n (bare code) u text
+MakesBy (Ok None) b x c n u text = GoesOnIn (running b x c) u text
+MakesBy (Ok (Some e)) b x c n u text =
+    (y : ExecutiveState) × (next : Control) × (own : Option Told) × MakesEvent b x c e y next own × (u ≡ GoesOn (running b y next)) × (text ≡ event_text b.model own)
+
+-- a line of the program: more of it is read; or the line is refused
+abbrev pub ReadsBy : Result (Option Line) ℕ → ProgramState → Reading → ℕ → Next ProgramState → List ℕ → Type 0
+ReadsBy (Err code) x y n u text = RefusesLine false x.compiled.model n (bare code) u text
+ReadsBy (Ok said) x y n u text = GoesOnIn (behind_line x (led y said)) u text
+
+-- what a line leads to, in the program and behind it
+abbrev pub StepsIn : Stage → ProgramState → ℕ → List ℕ → Next ProgramState → List ℕ → Type 0
+StepsIn (Reads y) x n line u text = (said : Result (Option Line) ℕ) × IsSaid x.compiled.model y line said × ReadsBy said x y n u text
+StepsIn (Runs c) x n line u text =
+    IsCompiled x.compiled × MakesBy (event_line x.compiled.model x.state.pending x.state.mirrored line) x.compiled x.state c n u text
+
+-- what a line leads to, wherever the lines stand
+abbrev pub ProgramSteps : ProgramState → ℕ → List ℕ → Next ProgramState → List ℕ → Type 0
+ProgramSteps x n line u text = StepsIn x.stage x n line u text
+
+-- what the end of the input leads to: it may come behind the program, and is refused in it
+abbrev pub ClosesIn : Stage → PlantModel → ℕ → End → List ℕ → Type 0
+ClosesIn (Reads y) m n e text = (e ≡ Refused) × (text ≡ refusal_text false m n (bare ENDS_EARLY))
+ClosesIn (Runs c) m n e text = (e ≡ Ended) × (text ≡ [])
+
+-- what the end of the input leads to, wherever the lines stand
+abbrev pub ProgramCloses : ProgramState → ℕ → End → List ℕ → Type 0
+ProgramCloses x n e text = ClosesIn x.stage x.compiled.model n e text
+
+-- a program that is read isn't whole yet
+abbrev pub IsOpen : Stage → Type 0
+IsOpen (Reads y) = y.whole ≡ None
+IsOpen (Runs c) = Unit {0}
+
+-- fewer ticks were made than this line's number, and a whole program runs
+abbrev pub ProgramAwaits : ProgramState → ℕ → Type 0
+ProgramAwaits x n = (x.state.ticks < n) × IsOpen x.stage
+
+-- the machine of the lines
+abbrev pub lines_machine : Ghosts ProgramState
+lines_machine = record {
+  limit_of = λ x. MAX_LINE;
+  refusal = λ x n code. refusal_text false x.compiled.model n (bare code);
+  steps = ProgramSteps;
+  closes = ProgramCloses;
+  awaits = ProgramAwaits;
+}
+
+-- what the form says at the line `script`
+abbrev pub program_form : FormGhosts OfLines ProgramState
+program_form = form_of_lines program_first
+
+-- the machine
+abbrev pub program_machine : Ghosts (FormState OfLines ProgramState)
+program_machine = form_machine program_form lines_machine
