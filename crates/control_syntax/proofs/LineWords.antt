@@ -1,5 +1,5 @@
 -- What the words of a line say by themselves, form by form.
-use Rattle.std.proofs.Common.{if◌then◌else◌, ◌≡◌, ◌≢◌, ◌<◌, ◌≤◌, ◌^◌, ℕ, Bool, true, false, List, [], ◌∷◌, codes, length, Some, None, Result, Ok, Err, inl, inr, refl, sym, ap, subst, ◌∙◌, arith}
+use Rattle.std.proofs.Common.{if◌then◌else◌, ◌≡◌, ◌↔◌, ◌≢◌, ◌<◌, ◌≤◌, ◌^◌, ℕ, Bool, true, false, List, [], ◌∷◌, codes, length, Some, None, Result, Ok, Err, inl, inr, refl, sym, ap, subst, ◌∙◌, arith}
 use Rattle.std.specs.Fmt.{decimal}
 use Rattle.std.proofs.lemmas.Option.{same_Some}
 use Rattle.cca_base.specs.declared.codes.TheConstants.{MALFORMED, NAME_UNKNOWN, LIMIT}
@@ -136,6 +136,19 @@ nothing_behind (l ∷ ls) h e = absurd cc
 
 -- ---- codes
 
+-- the two forms that have a formula: the item, the line and the word of a `choose`, and of an `await`
+abbrev pub form_item : Bool → Whole → Item
+form_item true text = Choose text
+form_item false text = Await text
+
+abbrev pub form_line : Bool → Formula → Line
+form_line true f = line.Choose f
+form_line false f = line.Await f
+
+abbrev pub form_word : Bool → Lexeme
+form_word true = word (codes "choose")
+form_word false = word (codes "await")
+
 module _ (m : PlantModel) where
   by_row : {P : Type 0} (i : Item) (code : ℕ) → AppliesToWords m i code → (code ≡ NAME_UNKNOWN → NamesUnknown m i → P) → (code ≡ LIMIT → IsGreat i → P) → P
   by_row i code (inl (e, h)) a b = a e h
@@ -215,72 +228,65 @@ module _ (m : PlantModel) where
   made form (Ok f) = Ok (form f)
   made form (Err code) = Err code
 
-  -- a form that has a formula
-  module _ (item : Whole → Item) (form : Formula → Line)
-      (spelled : (text : Whole) (ls : List Lexeme) → ls ≡ spelling text → AreSpelling grammar (first_word (item text) ∷ ls) (item text))
-      (named : (text : Whole) → IsNamed m (item text) (form (whole_formula m text)))
-      (unknown : (text : Whole) → (NamesUnknown m (item text) → names_unknown m text ≡ true) × (names_unknown m text ≡ true → NamesUnknown m (item text)))
-      (deep : (text : Whole) → (IsGreat (item text) → is_deep text ≡ true) × (is_deep text ≡ true → IsGreat (item text)))
-      (l : Lexeme) (one_word : (text : Whole) → first_word (item text) ≡ l)
-      (item_only : (i : Item) (ls : List Lexeme) → AreSpelling grammar (l ∷ ls) i → (text : Whole) × (ls ≡ spelling text)) where
+  form_written : (choice : Bool) (text : Whole) (ls : List Lexeme) → ls ≡ spelling text → AreSpelling grammar (form_word choice ∷ ls) (form_item choice text)
+  form_written true text ls e = (ap (λ (y : List Lexeme). word (codes "choose") ∷ y) e, tt)
+  form_written false text ls e = (ap (λ (y : List Lexeme). word (codes "await") ∷ y) e, tt)
+
+  form_named : (choice : Bool) (text : Whole) → IsNamed m (form_item choice text) (form_line choice (whole_formula m text))
+  form_named true text = refl
+  form_named false text = refl
+
+  form_unknown : (choice : Bool) (text : Whole) → NamesUnknown m (form_item choice text) ↔ (names_unknown m text ≡ true)
+  form_unknown true text = (λ x. x, λ x. x)
+  form_unknown false text = (λ x. x, λ x. x)
+
+  form_deep : (choice : Bool) (text : Whole) → IsGreat (form_item choice text) ↔ (is_deep text ≡ true)
+  form_deep true text = (λ x. x, λ x. x)
+  form_deep false text = (λ x. x, λ x. x)
+
+  form_only : (choice : Bool) (i : Item) (ls : List Lexeme) → AreSpelling grammar (form_word choice ∷ ls) i → (text : Whole) × (ls ≡ spelling text)
+  form_only true (Choose text) ls (e, h) = (text, tail_is _ _ ls _ e)
+  form_only true i ls (e, h) = let same : 5 ≡ rank i = rank_by 5 (word (codes "choose")) i ls e refl in absurd cc
+  form_only false (Await text) ls (e, h) = (text, tail_is _ _ ls _ e)
+  form_only false i ls (e, h) = let same : 2 ≡ rank i = rank_by 2 (word (codes "await")) i ls e refl in absurd cc
+
+  module _ (choice : Bool) where
     abbrev AsksFor : Whole → Result Line ℕ → Type 0
-    AsksFor text r = SaidByItem grammar (IsNamed m) (AppliesToWords m) (item text) r
+    AsksFor text r = SaidByItem grammar (IsNamed m) (AppliesToWords m) (form_item choice text) r
 
-    asks_by : (text : Whole) (u d : Bool) → names_unknown m text ≡ u → is_deep text ≡ d → AsksFor text (made form (if u then Err NAME_UNKNOWN else (if d then Err LIMIT else Ok (whole_formula m text))))
-    asks_by text true d hu hd = unknown_least (item text) ((unknown text).1 hu)
-    asks_by text false true hu hd = limit_least (item text) (λ x. no (sym ((unknown text).0 x) ∙ hu)) ((deep text).1 hd)
-    asks_by text false false hu hd = (named text, none_applies (item text) (λ x. no (sym ((unknown text).0 x) ∙ hu)) (λ x. no (sym ((deep text).0 x) ∙ hd)))
+    asks_by : (text : Whole) (u d : Bool) → names_unknown m text ≡ u → is_deep text ≡ d
+        → AsksFor text (made (form_line choice) (if u then Err NAME_UNKNOWN else (if d then Err LIMIT else Ok (whole_formula m text))))
+    asks_by text true d hu hd = unknown_least (form_item choice text) ((form_unknown choice text).1 hu)
+    asks_by text false true hu hd = limit_least (form_item choice text) (λ x. no (sym ((form_unknown choice text).0 x) ∙ hu)) ((form_deep choice text).1 hd)
+    asks_by text false false hu hd =
+        (form_named choice text, none_applies (form_item choice text) (λ x. no (sym ((form_unknown choice text).0 x) ∙ hu)) (λ x. no (sym ((form_deep choice text).0 x) ∙ hd)))
 
-    asks : (text : Whole) → AsksFor text (made form (formula_or_code m text))
-    asks text = asks_by text (names_unknown m text) (is_deep text) refl refl
+    pub formula_asks : (text : Whole) → AsksFor text (made (form_line choice) (formula_or_code m text))
+    formula_asks text = asks_by text (names_unknown m text) (is_deep text) refl refl
 
     -- a formula that was read is said, and its code is the line's
-    formula_says : (ls : List Lexeme) (read : Result Formula ℕ) → IsFormulaOf m ls read → IsSaidByWords m (l ∷ ls) (made form read)
+    formula_says : (ls : List Lexeme) (read : Result Formula ℕ) → IsFormulaOf m ls read → IsSaidByWords m (form_word choice ∷ ls) (made (form_line choice) read)
     formula_says ls read h = elim h.or_none [
       | inl (text, e) ↦
-          let written = subst (λ (w : Lexeme). AreSpelling grammar (w ∷ ls) (item text)) (one_word text) (spelled text ls e) in
-          subst (λ (r : Result Formula ℕ). IsSaidByWords m (l ∷ ls) (made form r)) (sym (h.of_text text e)) (says (item text) (l ∷ ls) (made form (formula_or_code m text)) written (asks text))
+          subst (λ (r : Result Formula ℕ). IsSaidByWords m (form_word choice ∷ ls) (made (form_line choice) r)) (sym (h.of_text text e))
+          (says (form_item choice text) (form_word choice ∷ ls) (made (form_line choice) (formula_or_code m text)) (form_written choice text ls e) (formula_asks text))
       | inr (none, e) ↦
-          subst (λ (r : Result Formula ℕ). IsSaidByWords m (l ∷ ls) (made form r)) (sym e)
-          (inl (refl, λ i s. let w = item_only i ls s in none w.0 w.1))
+          subst (λ (r : Result Formula ℕ). IsSaidByWords m (form_word choice ∷ ls) (made (form_line choice) r)) (sym e)
+          (inl (refl, λ i s. let w = form_only choice i ls s in none w.0 w.1))
     ]
 
     -- the same of what a call answered
-    formula_stop : (ls : List Lexeme) (stop : Stop) → AnswersFormula (Err stop) (IsFormulaOf m ls) → Answers (let r : Result Line Stop = Err stop in r) (IsSaidByWords m (l ∷ ls))
+    formula_stop : (ls : List Lexeme) (stop : Stop) → AnswersFormula (Err stop) (IsFormulaOf m ls) → Answers (let r : Result Line Stop = Err stop in r) (IsSaidByWords m (form_word choice ∷ ls))
     formula_stop ls stops.Memory h = tt
     formula_stop ls (stops.Refused refusal) h = (formula_says ls (Err refusal.code) h.0, h.1)
 
-  await_only : (i : Item) (ls : List Lexeme) → AreSpelling grammar (word (codes "await") ∷ ls) i → (text : Whole) × (ls ≡ spelling text)
-  await_only (Await text) ls (e, h) = (text, tail_is _ _ ls _ e)
-  await_only i ls (e, h) = let same : 2 ≡ rank i = rank_by 2 (word (codes "await")) i ls e refl in absurd cc
+    module _ (l : Lexeme) (ls : List Lexeme) (is : is_lexeme (form_word choice) l ≡ true) where
+      pub formula_answers : (f : Formula) → IsFormulaOf m ls (Ok f) → IsSaidByWords m (l ∷ ls) (Ok (form_line choice f))
+      formula_answers f h = subst (λ (w : Lexeme). IsSaidByWords m (w ∷ ls) (Ok (form_line choice f))) (sym (lexeme_is (form_word choice) l is)) (formula_says ls (Ok f) h)
 
-  choose_only : (i : Item) (ls : List Lexeme) → AreSpelling grammar (word (codes "choose") ∷ ls) i → (text : Whole) × (ls ≡ spelling text)
-  choose_only (Choose text) ls (e, h) = (text, tail_is _ _ ls _ e)
-  choose_only i ls (e, h) = let same : 5 ≡ rank i = rank_by 5 (word (codes "choose")) i ls e refl in absurd cc
-
-  await_written : (text : Whole) (ls : List Lexeme) → ls ≡ spelling text → AreSpelling grammar (word (codes "await") ∷ ls) (Await text)
-  await_written text ls e = (ap (λ (y : List Lexeme). word (codes "await") ∷ y) e, tt)
-
-  choose_written : (text : Whole) (ls : List Lexeme) → ls ≡ spelling text → AreSpelling grammar (word (codes "choose") ∷ ls) (Choose text)
-  choose_written text ls e = (ap (λ (y : List Lexeme). word (codes "choose") ∷ y) e, tt)
-
-  pub await_says : (ls : List Lexeme) (read : Result Formula ℕ) → IsFormulaOf m ls read → IsSaidByWords m (word (codes "await") ∷ ls) (made (λ f. line.Await f) read)
-  await_says = formula_says (λ text. Await text) (λ f. line.Await f) await_written (λ text. refl) (λ text. (λ x. x, λ x. x)) (λ text. (λ x. x, λ x. x)) (word (codes "await")) (λ text. refl) await_only
-
-  pub await_asks : (text : Whole) → SaidByItem grammar (IsNamed m) (AppliesToWords m) (Await text) (made (λ f. line.Await f) (formula_or_code m text))
-  await_asks = asks (λ text. Await text) (λ f. line.Await f) await_written (λ text. refl) (λ text. (λ x. x, λ x. x)) (λ text. (λ x. x, λ x. x)) (word (codes "await")) (λ text. refl) await_only
-
-  pub await_stop : (ls : List Lexeme) (stop : Stop) → AnswersFormula (Err stop) (IsFormulaOf m ls) → Answers (let r : Result Line Stop = Err stop in r) (IsSaidByWords m (word (codes "await") ∷ ls))
-  await_stop = formula_stop (λ text. Await text) (λ f. line.Await f) await_written (λ text. refl) (λ text. (λ x. x, λ x. x)) (λ text. (λ x. x, λ x. x)) (word (codes "await")) (λ text. refl) await_only
-
-  pub choose_says : (ls : List Lexeme) (read : Result Formula ℕ) → IsFormulaOf m ls read → IsSaidByWords m (word (codes "choose") ∷ ls) (made (λ f. line.Choose f) read)
-  choose_says = formula_says (λ text. Choose text) (λ f. line.Choose f) choose_written (λ text. refl) (λ text. (λ x. x, λ x. x)) (λ text. (λ x. x, λ x. x)) (word (codes "choose")) (λ text. refl) choose_only
-
-  pub choose_asks : (text : Whole) → SaidByItem grammar (IsNamed m) (AppliesToWords m) (Choose text) (made (λ f. line.Choose f) (formula_or_code m text))
-  choose_asks = asks (λ text. Choose text) (λ f. line.Choose f) choose_written (λ text. refl) (λ text. (λ x. x, λ x. x)) (λ text. (λ x. x, λ x. x)) (word (codes "choose")) (λ text. refl) choose_only
-
-  pub choose_stop : (ls : List Lexeme) (stop : Stop) → AnswersFormula (Err stop) (IsFormulaOf m ls) → Answers (let r : Result Line Stop = Err stop in r) (IsSaidByWords m (word (codes "choose") ∷ ls))
-  choose_stop = formula_stop (λ text. Choose text) (λ f. line.Choose f) choose_written (λ text. refl) (λ text. (λ x. x, λ x. x)) (λ text. (λ x. x, λ x. x)) (word (codes "choose")) (λ text. refl) choose_only
+      pub formula_stops : (stop : Stop) → AnswersFormula (Err stop) (IsFormulaOf m ls) → Answers (let r : Result Line Stop = Err stop in r) (IsSaidByWords m (l ∷ ls))
+      formula_stops stop h =
+          subst (λ (w : Lexeme). Answers (let r : Result Line Stop = Err stop in r) (IsSaidByWords m (w ∷ ls))) (sym (lexeme_is (form_word choice) l is)) (formula_stop ls stop h)
 
   -- ---- numbers
 

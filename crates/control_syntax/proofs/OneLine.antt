@@ -1,5 +1,5 @@
 -- Behind what was read a line says one thing, or has one code.
-use Rattle.std.proofs.Common.{◌≡◌, ℕ, List, [], ◌∷◌, Result, sym, ap, subst, ◌∙◌}
+use Rattle.std.proofs.Common.{◌≡◌, ℕ, List, [], ◌∷◌, Result, sym, ap, subst, ◌∙◌, true, false}
 use Rattle.std.specs.Fmt.{decimal}
 use Rattle.std.proofs.lemmas.Option.{same_Some}
 use Rattle.cca_base.specs.declared.cube.Pair.{Pair}
@@ -20,7 +20,7 @@ use Rattle.control_syntax.specs.Reading.{Reading}
 use Rattle.control_syntax.specs.declared.line.Line.{Line}
 use Rattle.control_syntax.specs.declared.line.Line.TheVariants as line
 use Rattle.control_syntax.proofs.CodesHere.{here, item_here}
-use Rattle.control_syntax.proofs.LineWords.{await_asks, choose_asks, made, rank, same_rank, tail_is}
+use Rattle.control_syntax.proofs.LineWords.{made, rank, same_rank, tail_is, formula_asks}
 use Rattle.script_reader.proofs.FormulaTexts.{same_answer}
 
 digits_are : (a b : List ℕ) → ◌≡◌ {A = List Lexeme} (number a ∷ []) (number b ∷ []) → a ≡ b
@@ -58,13 +58,13 @@ module _ (m : PlantModel) (r : Reading) where
   spelled_alike (Await s) (Await t) a b e h k x y =
       let said = λ (o : Result Formula ℕ). here m r (made m (λ f. line.Await f) o) in
       let same = same_answer m s t (tail_is _ _ (spelling s) (spelling t) e) in
-      says_once (Await s) a (said (formula_or_code m s)) x (item_here m r (Await s) _ (await_asks m s)) ∙ ap said same
-      ∙ says_once (Await t) (said (formula_or_code m t)) b (item_here m r (Await t) _ (await_asks m t)) y
+      says_once (Await s) a (said (formula_or_code m s)) x (item_here m r (Await s) _ (formula_asks m false s)) ∙ ap said same
+      ∙ says_once (Await t) (said (formula_or_code m t)) b (item_here m r (Await t) _ (formula_asks m false t)) y
   spelled_alike (Choose s) (Choose t) a b e h k x y =
       let said = λ (o : Result Formula ℕ). here m r (made m (λ f. line.Choose f) o) in
       let same = same_answer m s t (tail_is _ _ (spelling s) (spelling t) e) in
-      says_once (Choose s) a (said (formula_or_code m s)) x (item_here m r (Choose s) _ (choose_asks m s)) ∙ ap said same
-      ∙ says_once (Choose t) (said (formula_or_code m t)) b (item_here m r (Choose t) _ (choose_asks m t)) y
+      says_once (Choose s) a (said (formula_or_code m s)) x (item_here m r (Choose s) _ (formula_asks m true s)) ∙ ap said same
+      ∙ says_once (Choose t) (said (formula_or_code m t)) b (item_here m r (Choose t) _ (formula_asks m true t)) y
   spelled_alike (Repeat n) (Repeat l) a b e h k x y =
       let same = same_number n l h k (digits_are (decimal n) (decimal l) (tail_is _ _ (behind (Repeat n)) (behind (Repeat l)) e)) in
       says_once (Repeat l) a b (subst (λ (z : ℕ). Says (Repeat z) a) same x) y

@@ -223,6 +223,11 @@ module _ (part : Part) where
   whole_end c own [] next run some = (refl, same_Some (seq own) part (sym (ap (λ (r : Reading). r.whole) run) ∙ some))
   whole_end c own (l ∷ ls) next run some = let never : Some (seq own) ≡ None = run.0 in absurd cc
 
+  -- a part of one line comes first
+  put_found : (c : ℕ) (own : List Part) (bs : List Block) (x : Text) (l : Line) (ls : List Line) → length bs + depth x ≤ MAX_BLOCKS → text_before x ls ≡ l ∷ ls
+      → Found (c + 1) (put_in (part_of x) own bs).parts (put_in (part_of x) own bs).open_blocks ls → Found c own bs (l ∷ ls)
+  put_found c own bs x l ls deep is h = (subst (at_blocks own bs) is (before_at own bs x ls deep h.0), omega (arith, h.1))
+
   found : (ls : List Line) (c : ℕ) (own : List Part) (bs : List Block) (next : Reading) → c ≤ MAX_LINES → length bs ≤ MAX_BLOCKS → Runs (state c (record { parts = own; open_blocks = bs })) ls next → next.whole ≡ Some part
       → Found c own bs ls
   found [] c own bs next few flat run some = let never : None ≡ Some part = sym (ap (λ (r : Reading). r.whole) run) ∙ some in absurd cc
@@ -230,15 +235,13 @@ module _ (part : Part) where
   found (line.Reach g ∷ ls) c own bs next few flat (going, may, run) some =
       let p = roll-Part (Part-F.Reach g) in
       let left = line_left c (length bs) (line.Reach g) may.limit refl in
-      let place = put_in p own bs in
-      let rest = found ls (c + 1) place.parts place.open_blocks next (omega (arith, left)) (omega (arith, flat, as_deep p own bs)) run some in
-      (before_at own bs (Reach g) ls (omega (arith, flat)) rest.0, omega (arith, rest.1))
+      put_found c own bs (Reach g) (line.Reach g) ls (omega (arith, flat)) refl
+      (found ls (c + 1) (put_in p own bs).parts (put_in p own bs).open_blocks next (omega (arith, left)) (omega (arith, flat, as_deep p own bs)) run some)
   found (line.Await f ∷ ls) c own bs next few flat (going, may, run) some =
       let p = roll-Part (Part-F.Await f) in
       let left = line_left c (length bs) (line.Await f) may.limit refl in
-      let place = put_in p own bs in
-      let rest = found ls (c + 1) place.parts place.open_blocks next (omega (arith, left)) (omega (arith, flat, as_deep p own bs)) run some in
-      (before_at own bs (Await f) ls (omega (arith, flat)) rest.0, omega (arith, rest.1))
+      put_found c own bs (Await f) (line.Await f) ls (omega (arith, flat)) refl
+      (found ls (c + 1) (put_in p own bs).parts (put_in p own bs).open_blocks next (omega (arith, left)) (omega (arith, flat, as_deep p own bs)) run some)
   found (line.Seq ∷ ls) c own bs next few flat (going, may, run) some =
       let left = line_left c (length bs) line.Seq may.limit refl in
       let room = block_left c (length bs) line.Seq may.limit refl in

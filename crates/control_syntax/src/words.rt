@@ -42,28 +42,6 @@ fn reach_line(alloc: Global, model: &NamedModel, rest: &[Token]) -> Result<Line,
     }
 }
 
-/// A formula that is waited for, by what stands behind the word await.
-fn await_line(alloc: Global, model: &NamedModel, rest: &[Token]) -> Result<Line, Stop>
-    ensures { Answers result
-        (IsSaidByWords model.now (word (codes "await") ∷ map lexeme_of rest.now)) }
-{
-    match read_formula(alloc, model.model(), rest) {
-        Ok(formula) => Ok(Line::Await(formula)),
-        Err(stop) => Err(stop),
-    }
-}
-
-/// A block of two halves, by what stands behind the word choose.
-fn choose_line(alloc: Global, model: &NamedModel, rest: &[Token]) -> Result<Line, Stop>
-    ensures { Answers result
-        (IsSaidByWords model.now (word (codes "choose") ∷ map lexeme_of rest.now)) }
-{
-    match read_formula(alloc, model.model(), rest) {
-        Ok(formula) => Ok(Line::Choose(formula)),
-        Err(stop) => Err(stop),
-    }
-}
-
 /// The digits, where nothing follows.
 #[tactic(auto, unfolding(crate::specs::Words::only_digits))]
 fn only_digits<'a>(tokens: &[Token<'a>]) -> Option<&'a [u8]>
@@ -103,9 +81,9 @@ pub fn words_line(
     if is_lexeme(first, Kind::Word, b"reach") {
         reach_line(alloc, model, rest)
     } else if is_lexeme(first, Kind::Word, b"await") {
-        await_line(alloc, model, rest)
+        Ok(Line::Await(read_formula(alloc, model.model(), rest)?))
     } else if is_lexeme(first, Kind::Word, b"choose") {
-        choose_line(alloc, model, rest)
+        Ok(Line::Choose(read_formula(alloc, model.model(), rest)?))
     } else if is_lexeme(first, Kind::Word, b"repeat") {
         repeat_line(model, rest)
     } else if is_lexeme(first, Kind::Word, b"program") {
