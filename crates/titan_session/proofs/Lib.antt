@@ -1,0 +1,4 @@
+pub mod CallsAreRuns
+pub mod LineFeeds
+pub mod Queues
+pub mod SessionsAreRuns

@@ -1,0 +1,47 @@
+-- What the calls of a session show, in the words of `titan run`.
+use Rattle.std.proofs.Common.{◌≡◌, ℕ, inl, List, ◌++◌}
+use Rattle.line_machine.specs.Lines.{joined_lines}
+use Rattle.line_machine.specs.Next.{GoesOn}
+use Rattle.line_machine.specs.Runs.{IsText}
+use Rattle.line_machine.specs.declared.machine.End.{End}
+use Rattle.line_machine.specs.declared.machine.End.TheVariants.{Rejected}
+use Rattle.line_machine.proofs.SureTextBegins.{text_is_one, sure_begins_text}
+use Rattle.model_form.specs.Answers.{answer}
+use Rattle.run_form.specs.Printed.{IsRunOf}
+use Rattle.run_form.specs.RunMachine.{run_machine, run_first}
+use Rattle.run_form.specs.declared.notation.Notation.{Notation}
+use Rattle.run_form.proofs.RunEnds.{run_fixed, run_never_rejected}
+use Rattle.run_form.proofs.RunsTold.{runs_are_told}
+use Rattle.run_form.proofs.SureRuns.{runs_are_traced}
+use Rattle.titan_session.specs.RunSessions.{RunSession, AreCalls, said_by}
+use Rattle.titan_session.specs.SessionLaws.{IsRunOfLines, SessionsAreRuns}
+use Rattle.titan_session.specs.Sessions.{Call, lines_of}
+use Rattle.titan_session.specs.declared.session.Stage.TheVariants.{Over}
+use Rattle.titan_session.proofs.CallsAreRuns.{whole, so_far, not_lost}
+
+-- the whole text of the machine for an input is what a run prints of it, and nothing else is
+run_of : (notation : Notation) (lines : List (List ℕ)) (e : End) (said : List ℕ) → IsText run_machine (run_first notation) (joined_lines lines) e said → IsRunOfLines notation lines (answer e said)
+run_of notation lines e said text =
+    let input = joined_lines lines in
+    let run : IsRunOf notation input (answer e said) = (runs_are_told notation).says input e said text in
+    record {
+      run = run;
+      only = λ b h.
+          let same = text_is_one run_machine (run_first notation) run_fixed input b.text said b.end e ((runs_are_told notation).comes input b.end b.text h) text in
+          λ i. answer (same.0 i) (same.1 i);
+      trace = runs_are_traced.whole notation input (answer e said) run;
+    }
+
+over : (notation : Notation) (calls : List Call) (z : RunSession) (e : End) → AreCalls notation calls z → z.stage ≡ Over e → IsText run_machine (run_first notation) (joined_lines (lines_of calls)) e (said_by calls z)
+over notation calls z e led is = whole run_machine (run_first notation) calls z e led is
+
+pub sessions_are_runs : SessionsAreRuns
+sessions_are_runs = record {
+  whole = λ notation calls z e led is. run_of notation (lines_of calls) e (said_by calls z) (over notation calls z e led is);
+  begins = λ notation calls z s led is more a h.
+      sure_begins_text run_machine (run_first notation) run_fixed (joined_lines (lines_of calls)) more (said_by calls z) a.text (GoesOn s) a.end (so_far run_machine (run_first notation) calls z s led is)
+      ((runs_are_told notation).comes (joined_lines (lines_of calls) ++ more) a.end a.text h);
+  so_far = λ notation calls z s line_by_line led is. runs_are_traced.so_far notation (joined_lines (lines_of calls)) (said_by calls z) (GoesOn s) line_by_line (so_far run_machine (run_first notation) calls z s led is);
+  not_rejected = λ notation calls z led is. run_never_rejected (run_first notation) (joined_lines (lines_of calls)) (said_by calls z) (inl (over notation calls z Rejected led is));
+  not_lost = λ notation calls z led is. not_lost run_machine (run_first notation) calls z led is;
+}

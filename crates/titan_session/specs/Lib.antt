@@ -1,0 +1,3 @@
+pub mod RunSessions
+pub mod SessionLaws
+pub mod Sessions

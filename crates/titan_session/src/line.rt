@@ -1,0 +1,23 @@
+//! Whether bytes are one line.
+
+ghost use Rattle.std.specs.Prelude.{◌≡◌, ◌==◌, position, true, false};
+ghost use Rattle.line_machine.specs.Lines.{HasNoLf};
+
+/// Where the first LF stands.
+fn lf_place(bytes: &[u8]) -> Option<usize>
+    ensures { result ≡ position (λ b. b == 10) bytes.now }
+{
+    bytes.iter().position(|b| *b == b'\n')
+}
+
+/// Whether the bytes have no LF.
+#[tactic(auto, using(crate::proofs::LineFeeds::none_is_clean, crate::proofs::LineFeeds::some_is_not))]
+pub fn is_one_line(bytes: &[u8]) -> bool
+    ensures clean { result ≡ true → HasNoLf bytes.now }
+    ensures broken { result ≡ false → ¬ (HasNoLf bytes.now) }
+{
+    match lf_place(bytes) {
+        None => true,
+        Some(_) => false,
+    }
+}

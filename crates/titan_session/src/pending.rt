@@ -1,0 +1,77 @@
+//! Text that waits to be taken: a queue of bytes, taken from its front.
+
+ghost use Rattle.std.specs.Prelude.{◌≡◌, ◌≤◌, ◌⊎◌, ℕ, List, [], ◌++◌, length, take, drop, min, vec_len, OnOk};
+
+use std::alloc::{AllocError, Global};
+use std::marker::Model;
+
+/// Copies as much as fits from the front of the bytes to that of the buffer, and answers how much.
+fn copy_front(bytes: &[u8], buf: &mut [u8]) -> usize
+    ensures count { result ≡ min (length bytes.now) (length buf.old) }
+    ensures moved { take result buf.new ≡ take result bytes.now }
+    ensures rest { drop result buf.new ≡ drop result buf.old }
+{
+    let count = bytes.len().min(buf.len());
+    buf[..count].copy_from_slice(&bytes[..count]);
+    count
+}
+
+/// Bytes in the order in which they came. Those before `start` were taken.
+#[derive(Drop)]
+pub struct Pending {
+    bytes: Vec<u8>,
+    start: usize,
+}
+
+impl Model for Pending {
+    ghost Value = { List ℕ };
+
+    ghost view = { λ p. drop p.start p.bytes.items };
+
+    ghost invariant = { λ p. p.start ≤ vec_len p.bytes };
+}
+
+impl Pending {
+    /// Nothing waits.
+    pub fn new(alloc: Global) -> Pending
+        ensures { result ≡ [] }
+    {
+        Pending {
+            bytes: Vec::new(alloc),
+            start: 0,
+        }
+    }
+
+    /// Moves the bytes to the front of the memory.
+    fn compact(&mut self)
+        ensures { self.new ≡ self.old }
+    {
+        if self.start > 0 {
+            let len = self.bytes.len() - self.start;
+            self.bytes.as_mut_slice().rotate_left(self.start);
+            self.bytes.truncate(len);
+            self.start = 0;
+        }
+    }
+
+    /// Puts more behind them.
+    pub fn push(&mut self, text: &[u8]) -> Result<(), AllocError>
+        ensures { OnOk result (self.new ≡ self.old ++ text.now) }
+    {
+        self.compact();
+        self.bytes.extend_from_slice(text)?;
+        Ok(())
+    }
+
+    /// Moves as many of the first bytes as fit to the front of the buffer, and answers how many.
+    pub fn take(&mut self, out: &mut [u8]) -> usize
+        ensures moved { self.old ≡ take result out.new ++ self.new }
+        ensures rest { drop result out.new ≡ drop result out.old }
+        ensures fits { result ≤ length out.old }
+        ensures all { (result ≡ length out.old) ⊎ (self.new ≡ []) }
+    {
+        let count = copy_front(&self.bytes[self.start..], out);
+        self.start += count;
+        count
+    }
+}
