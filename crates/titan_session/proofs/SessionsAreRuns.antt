@@ -41,6 +41,7 @@ sessions_are_runs = record {
   begins = λ notation calls z s led is more a h.
       sure_begins_text run_machine (run_first notation) run_fixed (joined_lines (lines_of calls)) more (said_by calls z) a.text (GoesOn s) a.end (so_far run_machine (run_first notation) calls z s led is)
       ((runs_are_told notation).comes (joined_lines (lines_of calls) ++ more) a.end a.text h);
+  prompt = λ notation calls z s led is. so_far run_machine (run_first notation) calls z s led is;
   so_far = λ notation calls z s line_by_line led is. runs_are_traced.so_far notation (joined_lines (lines_of calls)) (said_by calls z) (GoesOn s) line_by_line (so_far run_machine (run_first notation) calls z s led is);
   not_rejected = λ notation calls z led is. run_never_rejected (run_first notation) (joined_lines (lines_of calls)) (said_by calls z) (inl (over notation calls z Rejected led is));
   not_lost = λ notation calls z led is. not_lost run_machine (run_first notation) calls z led is;

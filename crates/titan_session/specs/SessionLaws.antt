@@ -1,13 +1,15 @@
 -- What the calls of a session show, in the words of `titan run`.
 use Rattle.std.specs.Prelude.{◌≡◌, ℕ, List, ◌++◌}
 use Rattle.line_machine.specs.Lines.{joined_lines}
-use Rattle.line_machine.specs.Runs.{IsPrefix}
+use Rattle.line_machine.specs.Next.{GoesOn}
+use Rattle.line_machine.specs.Runs.{IsPrefix, IsSure}
 use Rattle.line_machine.specs.declared.machine.End.{End}
 use Rattle.line_machine.specs.declared.machine.End.TheVariants.{Rejected}
 use Rattle.model_form.specs.Answers.{Answer, answer}
 use Rattle.run_form.specs.Headline.{IsTraceOf}
 use Rattle.run_form.specs.Printed.{IsRunOf}
 use Rattle.run_form.specs.RunLaws.{IsLineByLine, IsRunSoFar}
+use Rattle.run_form.specs.RunMachine.{run_machine, run_first}
 use Rattle.run_form.specs.declared.notation.Notation.{Notation}
 use Rattle.titan_session.specs.RunSessions.{RunState, RunSession, AreCalls, said_by}
 use Rattle.titan_session.specs.Sessions.{Call, lines_of}
@@ -19,12 +21,14 @@ pub record IsRunOfLines (notation : Notation) (lines : List (List ℕ)) (a : Ans
   pub only : (b : Answer) → IsRunOf notation (joined_lines lines) b → b ≡ a
   pub trace : IsTraceOf notation (joined_lines lines) a
 
--- what a session has said: where it is over, what a run prints of its lines; where it goes on, what begins all that a run prints of these lines and any more,
--- and a run of the lines that came; and no session is rejected, or lost by calls that went well
+-- what a session has said: where it is over, what a run prints of its lines; where it goes on, all that these lines decide, which begins all that a run prints of them and any more,
+-- and is a run of the first of them; and no session is rejected, or lost by calls that went well
 pub record SessionsAreRuns : Type 0 where
   pub whole : (notation : Notation) (calls : List Call) (z : RunSession) (e : End) → AreCalls notation calls z → z.stage ≡ Over e → IsRunOfLines notation (lines_of calls) (answer e (said_by calls z))
   pub begins : (notation : Notation) (calls : List Call) (z : RunSession) (s : RunState) → AreCalls notation calls z → z.stage ≡ Going s
       → (more : List ℕ) (a : Answer) → IsRunOf notation (joined_lines (lines_of calls) ++ more) a → IsPrefix (said_by calls z) a.text
+  pub prompt : (notation : Notation) (calls : List Call) (z : RunSession) (s : RunState) → AreCalls notation calls z → z.stage ≡ Going s
+      → IsSure run_machine (run_first notation) (joined_lines (lines_of calls)) (GoesOn s) (said_by calls z)
   pub so_far : (notation : Notation) (calls : List Call) (z : RunSession) (s : RunState) → IsLineByLine notation → AreCalls notation calls z → z.stage ≡ Going s
       → IsRunSoFar notation (joined_lines (lines_of calls)) ⊥ (said_by calls z)
   pub not_rejected : (notation : Notation) (calls : List Call) (z : RunSession) → AreCalls notation calls z → z.stage ≡ Over Rejected → ⊥

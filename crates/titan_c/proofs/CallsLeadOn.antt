@@ -1,0 +1,29 @@
+-- The calls of C are calls of a session.
+use Rattle.std.proofs.Common.{◌≡◌, ℕ, List, Option, Some, inl, inr, refl, sym, subst, ◌∙◌}
+use Rattle.run_form.specs.RunLaws.{IsLineByLine}
+use Rattle.run_form.specs.declared.notation.Notation.{Notation}
+use Rattle.titan_session.specs.RunSessions.{RunSession, AreCalls}
+use Rattle.titan_session.specs.Sessions.{Call}
+use Rattle.titan_c.specs.CallLaws.{HoldsAfter, CallsLeadOn}
+use Rattle.titan_c.specs.Calls.{Prints}
+
+same : (x y : RunSession) → Some x ≡ Some y → x ≡ y
+same x y e = cc
+
+-- what is held is led to
+pub led : (notation : Notation) (calls : List Call) (held : Option RunSession) (x : RunSession) → held ≡ Some x → HoldsAfter notation calls held → AreCalls notation calls x
+led notation calls held x is h = subst (AreCalls notation calls) (same h.0 x (sym h.1 ∙ is)) h.2
+
+-- no session of C prints anything at the end of its lines
+line_by_line : (words : ℕ) (notation : Notation) → Prints words notation → IsLineByLine notation
+line_by_line words notation (inl (number, is)) = subst IsLineByLine (sym is) (λ counts. refl)
+line_by_line words notation (inr (inl (number, is))) = subst IsLineByLine (sym is) (λ counts. refl)
+line_by_line words notation (inr (inr (number, is))) = subst IsLineByLine (sym is) (λ counts. refl)
+
+pub calls_lead_on : CallsLeadOn
+calls_lead_on = record {
+  opened = λ words held h. (h.0, h.1, line_by_line words h.0 h.1, (_, h.2, refl));
+  line = λ notation calls old new line out out' n status w h. (w.after, w.now, (w.between, (w.before, led notation calls old w.before w.was h, w.takes), w.hands.gives));
+  end = λ notation calls old new out out' n status w h. (w.after, w.now, (w.between, (w.before, led notation calls old w.before w.was h, w.takes), w.hands.gives));
+  take = λ notation calls old new out out' n status w h. (w.after, w.now, (w.before, led notation calls old w.before w.was h, w.hands.gives));
+}

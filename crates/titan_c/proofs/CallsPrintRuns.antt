@@ -1,0 +1,68 @@
+-- What the calls of C wrote is what a run prints of their lines.
+use Rattle.std.proofs.Common.{◌≡◌, ◌⊎◌, ◌<◌, ◌++◌, ℕ, List, [], length, Some, inl, inr, refl, sym, ap, subst, ◌∙◌, append-nil, arith}
+use Rattle.line_machine.specs.declared.machine.End.{End}
+use Rattle.line_machine.specs.declared.machine.End.TheVariants.{Ended, Rejected, Refused}
+use Rattle.model_form.specs.Answers.{answer}
+use Rattle.run_form.specs.declared.notation.Notation.{Notation}
+use Rattle.titan_session.specs.RunSessions.{RunSession, RunState, AreCalls}
+use Rattle.titan_session.specs.SessionLaws.{IsRunOfLines}
+use Rattle.titan_session.specs.Sessions.{Call, IsGoing, lines_of, taken_of}
+use Rattle.titan_session.specs.declared.session.Stage.{Stage}
+use Rattle.titan_session.specs.declared.session.Stage.TheVariants.{Going, Over, Lost}
+use Rattle.titan_session.proofs.SessionsAreRuns.{sessions_are_runs}
+use Rattle.titan_c.specs.CallLaws.{CallsPrintRuns, HoldsAfter}
+use Rattle.titan_c.proofs.CallsLeadOn.{led}
+use Rattle.titan_c.specs.Statuses.{status_of}
+use Rattle.titan_c.specs.declared.status.TheConstants.{GOES_ON, ENDED, REFUSED}
+
+-- where a session stands, by its status
+ended_stage : (s : Stage RunState) → status_of s ≡ ENDED → s ≡ Over Ended
+ended_stage (Going x) h = let never : 0 ≡ 1 = h in absurd (omega (arith, never))
+ended_stage (Over Ended) h = refl
+ended_stage (Over Refused) h = let never : 2 ≡ 1 = h in absurd (omega (arith, never))
+ended_stage (Over Rejected) h = let never : 3 ≡ 1 = h in absurd (omega (arith, never))
+ended_stage Lost h = let never : 5 ≡ 1 = h in absurd (omega (arith, never))
+
+refused_stage : (s : Stage RunState) → status_of s ≡ REFUSED → s ≡ Over Refused
+refused_stage (Going x) h = let never : 0 ≡ 2 = h in absurd (omega (arith, never))
+refused_stage (Over Ended) h = let never : 1 ≡ 2 = h in absurd (omega (arith, never))
+refused_stage (Over Refused) h = refl
+refused_stage (Over Rejected) h = let never : 3 ≡ 2 = h in absurd (omega (arith, never))
+refused_stage Lost h = let never : 5 ≡ 2 = h in absurd (omega (arith, never))
+
+few_by : (s : Stage RunState) → (s ≡ Over Rejected → ⊥) → (s ≡ Lost → ⊥) → (status_of s ≡ GOES_ON) ⊎ ((status_of s ≡ ENDED) ⊎ (status_of s ≡ REFUSED))
+few_by (Going x) rejected lost = inl refl
+few_by (Over Ended) rejected lost = inr (inl refl)
+few_by (Over Refused) rejected lost = inr (inr refl)
+few_by (Over Rejected) rejected lost = absurd (rejected refl)
+few_by Lost rejected lost = absurd (lost refl)
+
+-- where nothing waits, all that was said was taken
+all_taken : (notation : Notation) (calls : List Call) (z : RunSession) (e : End) → AreCalls notation calls z → z.stage ≡ Over e → z.pending ≡ [] → IsRunOfLines notation (lines_of calls) (answer e (taken_of calls))
+all_taken notation calls z e led is none =
+    let said : taken_of calls ++ z.pending ≡ taken_of calls = ap (λ (l : List ℕ). taken_of calls ++ l) none ∙ append-nil (taken_of calls) in
+    subst (λ (l : List ℕ). IsRunOfLines notation (lines_of calls) (answer e l)) said (sessions_are_runs.whole notation calls z e led is)
+
+held : (notation : Notation) (calls : List Call) (z : RunSession) → HoldsAfter notation calls (Some z) → AreCalls notation calls z
+held notation calls z h = led notation calls (Some z) z refl h
+
+going : (s : Stage RunState) → status_of s ≡ GOES_ON → IsGoing s
+going (Going x) h = tt
+going (Over Ended) h = let never : 1 ≡ 0 = h in absurd (omega (arith, never))
+going (Over Refused) h = let never : 2 ≡ 0 = h in absurd (omega (arith, never))
+going (Over Rejected) h = let never : 3 ≡ 0 = h in absurd (omega (arith, never))
+going Lost h = let never : 5 ≡ 0 = h in absurd (omega (arith, never))
+
+-- where less than all of the buffer was used
+nothing_left : (P : Type 0) (n room : ℕ) → n < room → (n ≡ room) ⊎ P → P
+nothing_left P n room less (inl same) = absurd (omega (arith, less, same))
+nothing_left P n room less (inr p) = p
+
+pub calls_print_runs : CallsPrintRuns
+calls_print_runs = record {
+  ended = λ notation calls z h status none. all_taken notation calls z Ended (held notation calls z h) (ended_stage z.stage status) none;
+  refused = λ notation calls z h status none. all_taken notation calls z Refused (held notation calls z h) (refused_stage z.stage status) none;
+  few = λ notation calls z h. let led = held notation calls z h in few_by z.stage (sessions_are_runs.not_rejected notation calls z led) (sessions_are_runs.not_lost notation calls z led);
+  goes_on = λ z status. going z.stage status;
+  nothing_waits = λ x y out out' n hands less. nothing_left (y.pending ≡ []) n (length out) less hands.all;
+}

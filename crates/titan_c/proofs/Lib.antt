@@ -1,0 +1,3 @@
+pub mod CallsLeadOn
+pub mod CallsPrintRuns
+pub mod Held

@@ -1,0 +1,35 @@
+-- How the calls of C follow each other: they are calls of a session, and what they wrote is what a run prints.
+use Rattle.std.specs.Prelude.{◌≡◌, ◌⊎◌, ◌<◌, ℕ, List, [], ◌∷◌, length, take, Option, Some}
+use Rattle.line_machine.specs.declared.machine.End.TheVariants.{Ended, Refused}
+use Rattle.model_form.specs.Answers.{answer}
+use Rattle.run_form.specs.RunLaws.{IsLineByLine}
+use Rattle.run_form.specs.declared.notation.Notation.{Notation}
+use Rattle.titan_session.specs.RunSessions.{RunSession, AreCalls}
+use Rattle.titan_session.specs.SessionLaws.{IsRunOfLines}
+use Rattle.titan_session.specs.Sessions.{Call, IsGoing, Line, Finish, Take, lines_of, taken_of}
+use Rattle.titan_c.specs.Calls.{HandsOver, Prints, OpenedBy, WasGivenLine, WasEnded, HandedOver}
+use Rattle.titan_c.specs.Statuses.{status_of}
+use Rattle.titan_c.specs.declared.status.TheConstants.{GOES_ON, ENDED, REFUSED}
+
+-- these calls, the latest first, lead to the session that is held
+abbrev pub HoldsAfter : Notation → List Call → Option RunSession → Type 0
+HoldsAfter notation calls held = (z : RunSession) × (held ≡ Some z) × AreCalls notation calls z
+
+-- an opened session has had no call; a line and the end of the lines are a call, and then the bytes that were written are taken
+pub record CallsLeadOn : Type 0 where
+  pub opened : (words : ℕ) (held : Option RunSession) → OpenedBy words held → (notation : Notation) × Prints words notation × IsLineByLine notation × HoldsAfter notation [] held
+  pub line : (notation : Notation) (calls : List Call) (old new : Option RunSession) (line out out' : List ℕ) (n status : ℕ)
+      → WasGivenLine old new line out out' n status → HoldsAfter notation calls old → HoldsAfter notation (Take (take n out') ∷ Line line ∷ calls) new
+  pub end : (notation : Notation) (calls : List Call) (old new : Option RunSession) (out out' : List ℕ) (n status : ℕ)
+      → WasEnded old new out out' n status → HoldsAfter notation calls old → HoldsAfter notation (Take (take n out') ∷ Finish ∷ calls) new
+  pub take : (notation : Notation) (calls : List Call) (old new : Option RunSession) (out out' : List ℕ) (n status : ℕ)
+      → HandedOver old new out out' n status → HoldsAfter notation calls old → HoldsAfter notation (Take (take n out') ∷ calls) new
+
+-- the theorem in the words of C: where a status says that the session ended, or that a line was refused, and nothing waits any more, what was written is what `titan run`
+-- prints of the lines that were handed over, each with its LF; no other statuses come of calls that went well; and where less was written than fits, nothing waits
+pub record CallsPrintRuns : Type 0 where
+  pub ended : (notation : Notation) (calls : List Call) (z : RunSession) → HoldsAfter notation calls (Some z) → status_of z.stage ≡ ENDED → z.pending ≡ [] → IsRunOfLines notation (lines_of calls) (answer Ended (taken_of calls))
+  pub refused : (notation : Notation) (calls : List Call) (z : RunSession) → HoldsAfter notation calls (Some z) → status_of z.stage ≡ REFUSED → z.pending ≡ [] → IsRunOfLines notation (lines_of calls) (answer Refused (taken_of calls))
+  pub few : (notation : Notation) (calls : List Call) (z : RunSession) → HoldsAfter notation calls (Some z) → (status_of z.stage ≡ GOES_ON) ⊎ ((status_of z.stage ≡ ENDED) ⊎ (status_of z.stage ≡ REFUSED))
+  pub goes_on : (z : RunSession) → status_of z.stage ≡ GOES_ON → IsGoing z.stage
+  pub nothing_waits : (x y : RunSession) (out out' : List ℕ) (n : ℕ) → HandsOver x y out out' n → n < length out → y.pending ≡ []

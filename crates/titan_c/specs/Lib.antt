@@ -1,0 +1,4 @@
+pub mod CallLaws
+pub mod Calls
+pub mod Owned
+pub mod Statuses
