@@ -1,8 +1,7 @@
 //! A model is compiled, or refused with the least code that applies.
 
 ghost use Rattle.std.specs.Prelude.{◌≡◌, [], ◌∷◌, IfErr, IfOk};
-ghost use Rattle.cca_base.specs.Accepted.{Accepted, IsCompiled};
-ghost use Rattle.cca_base.specs.Model.{IsComplete};
+ghost use Rattle.cca_base.specs.Prelude.{Accepted, IsCompiled, IsComplete};
 ghost use Rattle.acceptance.specs.Refusals.{HandsBack, IsMemory};
 ghost use Rattle.acceptance.specs.Pieces.{ArePieces, IsStop};
 ghost use Rattle.guard_compiler.specs.Rules.{AreRulesOf};

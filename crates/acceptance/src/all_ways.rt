@@ -1,7 +1,7 @@
 //! The prime implicants of all moves, one move after the other, up to the first that has too many.
 
 ghost use Rattle.std.specs.Prelude.{IfErr, IfOk};
-ghost use Rattle.cca_base.specs.State.{HasWorlds};
+ghost use Rattle.cca_base.specs.Prelude.{HasWorlds};
 ghost use Rattle.acceptance.specs.AllWays.{AreAllWays, IsFirstStop};
 ghost use Rattle.guard_compiler.specs.Rules.{AreRulesOf};
 

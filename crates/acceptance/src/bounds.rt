@@ -1,8 +1,8 @@
 //! The bounds of all components, causes first, up to the first with which their sum is too great.
 
 ghost use Rattle.std.specs.Prelude.{◌≡◌, ◌+◌, ◌-◌, ◌*◌, ◌<◌, ◌≤◌, All, IfOk, length, slice_index, sum_by};
+ghost use Rattle.cca_base.specs.Prelude.{IsEffectsFirst};
 ghost use Rattle.cca_base.specs.declared.limits.TheConstants.{MAX_CHOICES, MAX_ROWS};
-ghost use Rattle.cca_base.specs.Orders.{IsEffectsFirst};
 ghost use Rattle.causal_graph.specs.Laws.{AreNeedsOf};
 ghost use Rattle.acceptance.specs.Depths.{AreBoundsOrDeep};
 

@@ -2,7 +2,7 @@
 
 ghost use Rattle.std.specs.Prelude.{◌≡◌, ◌≤◌, ◌<◌, ℕ, List, length, true, false, All, IfOk, IfSome, IfNone, OnOk, IsTrue, MatchOption};
 ghost use Rattle.std.specs.Option.{option_map};
-ghost use Rattle.cca_base.specs.Estimates.{IsEarlier};
+ghost use Rattle.cca_base.specs.Prelude.{IsEarlier};
 ghost use Rattle.clause_form.specs.Clauses.{AreValues, AreClauses, is_met};
 ghost use Rattle.std.specs.Ordering.{nat_cmp, is_lt as is_less};
 ghost use Rattle.std.specs.Cmp.Lexicographic.{slice_cmp};

@@ -1,12 +1,10 @@
 //! Which components each component needs: those that its moves' prime implicants name.
 
 ghost use Rattle.std.specs.Prelude.{◌<◌, ◌≤◌, All, IfOk, length};
+ghost use Rattle.cca_base.specs.Prelude.{AreExactly, IsSet, WellFormed};
 ghost use Rattle.cca_base.specs.declared.limits.TheConstants.{MAX_ROWS};
-ghost use Rattle.cca_base.specs.Model.{WellFormed};
-ghost use Rattle.cca_base.specs.Relations.{AreExactly};
 ghost use Rattle.causal_graph.specs.Laws.{AreNeedsOf};
 ghost use Rattle.causal_graph.specs.Search.{Marks};
-ghost use Rattle.cca_base.specs.Flags.{IsSet};
 ghost use Rattle.acceptance.specs.AllWays.{AreAllWays};
 ghost use Rattle.acceptance.specs.Marks.{AddsMarks, AreNeedsMarked, OccursIn, components_of};
 

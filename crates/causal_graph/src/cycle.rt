@@ -1,8 +1,8 @@
 //! The shown cycle: a shortest way back, found by distances.
 
 ghost use Rattle.std.specs.Prelude.{◌≡◌, ◌<◌, ◌≤◌, ◌^◌, ℕ, All, Contains, IfOk, MatchOption, length, slice_index};
+ghost use Rattle.cca_base.specs.Prelude.{IsShownCycleBy};
 ghost use Rattle.cca_base.specs.declared.limits.TheConstants.{MAX_ROWS};
-ghost use Rattle.cca_base.specs.Relations.{IsShownCycleBy};
 ghost use Rattle.causal_graph.specs.Needs.{AreRows, RowNeeds};
 ghost use Rattle.causal_graph.specs.Search.{AreDistances, HasStuck, IsFirstCycle, IsNearest};
 

@@ -1,11 +1,10 @@
 //! Components effects first: a topological sort that takes the greatest number that nothing left needs.
 
 ghost use Rattle.std.specs.Prelude.{◌≡◌, ◌<◌, ◌≤◌, All, IfOk, MatchOption, length};
+ghost use Rattle.cca_base.specs.Prelude.{numbers_below, IsEffectsFirstBy, IsSet};
 ghost use Rattle.cca_base.specs.declared.limits.TheConstants.{MAX_ROWS};
-ghost use Rattle.cca_base.specs.Relations.{IsEffectsFirstBy, numbers_below};
 ghost use Rattle.causal_graph.specs.Needs.{AreRows, RowNeeds};
 ghost use Rattle.causal_graph.specs.Search.{AreNeeded, HasStuck, IsFirstUnset};
-ghost use Rattle.cca_base.specs.Flags.{IsSet};
 
 use crate::flags::mark;
 use cca_base::List;

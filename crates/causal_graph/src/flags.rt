@@ -2,7 +2,7 @@
 
 ghost use Rattle.std.specs.Prelude.{◌≡◌, ◌<◌, All, MatchBool, length};
 ghost use Rattle.causal_graph.specs.Search.{AreNarrow, Marks};
-ghost use Rattle.cca_base.specs.Flags.{unset};
+ghost use Rattle.cca_base.specs.Prelude.{unset};
 
 /// Sets the flag of each number of the row, and says whether one was not set before.
 pub(crate) fn mark(row: &[u16], flags: &mut [bool]) -> bool

@@ -1,8 +1,7 @@
 //! A goal's pairs in effects-first order.
 
 ghost use Rattle.std.specs.Prelude.{◌≡◌, ◌<◌, All, Contains, IfOk, MatchOption, length};
-ghost use Rattle.cca_base.specs.Cube.{IsCube, Lacks};
-ghost use Rattle.cca_base.specs.Orders.{IsSorted};
+ghost use Rattle.cca_base.specs.Prelude.{IsCube, IsSorted, Lacks};
 
 use cca_base::{Compiled, Goal, List, Pair};
 use std::alloc::{AllocError, Global};

@@ -1,8 +1,8 @@
 //! An effects-first order of the components, or a shown cycle.
 
 ghost use Rattle.std.specs.Prelude.{◌≤◌, ◌↔◌, length, IfOk};
+ghost use Rattle.cca_base.specs.Prelude.{IsAcyclicBy};
 ghost use Rattle.cca_base.specs.declared.limits.TheConstants.{MAX_ROWS};
-ghost use Rattle.cca_base.specs.Relations.{IsAcyclicBy};
 ghost use Rattle.causal_graph.specs.Answers.{IsEffects, IsOrder};
 ghost use Rattle.causal_graph.specs.Needs.{AreRows, RowNeeds};
 

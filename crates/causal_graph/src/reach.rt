@@ -3,7 +3,7 @@
 ghost use Rattle.std.specs.Prelude.{◌≡◌, ◌<◌, IfOk, MatchBool, length};
 ghost use Rattle.causal_graph.specs.Needs.{AreAncestors, AreRows};
 ghost use Rattle.causal_graph.specs.Search.{AreNarrow, AreReached, Spreads};
-ghost use Rattle.cca_base.specs.Flags.{unset};
+ghost use Rattle.cca_base.specs.Prelude.{unset};
 
 use crate::flags::mark;
 use cca_base::List;

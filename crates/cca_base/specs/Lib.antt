@@ -17,6 +17,7 @@ pub mod Names
 pub mod Orders
 pub mod Padded
 pub mod Plans
+pub mod Prelude
 pub mod Refusals
 pub mod Relations
 pub mod Repairs

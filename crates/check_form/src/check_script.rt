@@ -1,7 +1,7 @@
 //! The script of an input for `check`: its events are kept up to the line `trace`, and not made.
 
 ghost use Rattle.std.specs.Prelude.{◌≡◌, IfOk, OnOk};
-ghost use Rattle.cca_base.specs.Trace.{MayCome};
+ghost use Rattle.cca_base.specs.Prelude.{MayCome};
 ghost use Rattle.trace_laws.specs.Events.{PendingAfter};
 ghost use Rattle.check_form.specs.CheckScript.{is_trace_line, no_events, with_event};
 ghost use Rattle.check_form.specs.CheckStages.{AnswersScript, KeepsScript, script_of};

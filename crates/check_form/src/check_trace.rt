@@ -2,9 +2,7 @@
 
 ghost use Rattle.std.specs.Prelude.{◌≡◌, ◌+◌, ◌++◌, ◌∷◌, [], ℕ, IfOk, OnOk, Some, None};
 ghost use Rattle.std.specs.Option.{option_map};
-ghost use Rattle.cca_base.specs.Accepted.{IsCompiled};
-ghost use Rattle.cca_base.specs.State.{HasWorlds};
-ghost use Rattle.cca_base.specs.Trace.{start};
+ghost use Rattle.cca_base.specs.Prelude.{start, HasWorlds, IsCompiled};
 ghost use Rattle.consistency.specs.Worlds.{AreWorldsOf};
 ghost use Rattle.line_machine.specs.Next.{next_of};
 ghost use Rattle.plan_checker.specs.Standing.{FitsModel};

@@ -35,7 +35,7 @@ pub struct Checking {
 impl std::marker::Model for Checking {
     ghost use Rattle.check_form.specs.CheckMachine.{CheckState};
     ghost use Rattle.check_form.specs.CheckStages.{KeepsPart, part_state};
-    ghost use Rattle.cca_base.specs.Coded.{model_codes};
+    ghost use Rattle.cca_base.specs.Prelude.{model_codes};
 
     ghost Value = { CheckState };
 
@@ -71,7 +71,7 @@ impl Checking {
 // By the clauses of the trait a line gives `CheckSteps`, and the end of the input `CheckCloses` (specs/CheckMachine.antt).
 impl Machine for Checking {
     ghost use Rattle.std.specs.Prelude.{⊤, false};
-    ghost use Rattle.cca_base.specs.Refusals.{bare};
+    ghost use Rattle.cca_base.specs.Prelude.{bare};
     ghost use Rattle.trace_text.specs.Json.{refusal_text};
     ghost use Rattle.check_form.specs.CheckMachine.{CheckCloses, CheckSteps, limit_in, model_of};
     ghost use Rattle.check_form.specs.CheckOneStep.{check_closes_are_one, check_steps_are_one};

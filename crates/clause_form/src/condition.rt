@@ -2,7 +2,7 @@
 
 ghost use Rattle.std.specs.Prelude.{◌≡◌, ◌||◌, ◌&&◌, ◌==◌, ◌<◌, ℕ, List, IfOk, OnOk, filter, length, not, slice_set};
 ghost use Rattle.std.specs.List.{list_any};
-ghost use Rattle.cca_base.specs.Sets.{has};
+ghost use Rattle.cca_base.specs.Prelude.{has};
 ghost use Rattle.clause_form.specs.Clauses.{AllBelow, AllOthers, AreBelow, AreOthers, all_met, meets};
 
 use crate::clause::Clause;

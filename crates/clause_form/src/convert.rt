@@ -1,8 +1,7 @@
 //! Formulas to clauses, by distribution, with subsumed clauses dropped as they come.
 
 ghost use Rattle.std.specs.Prelude.{◌≡◌, ℕ, List, ◌+◌, ◌-◌, ◌<◌, ◌≤◌, ◌^◌, length, IfOk, IsTrue, not, slice_index};
-ghost use Rattle.cca_base.specs.Formula.{is_within, subject_within};
-ghost use Rattle.cca_base.specs.Sets.{has};
+ghost use Rattle.cca_base.specs.Prelude.{has, is_within, subject_within};
 ghost use Rattle.cca_base.specs.declared.limits.TheConstants.{MAX_CHOICES, MAX_SUBJECTS};
 ghost use Rattle.clause_form.specs.Clauses.{AreValues, all_met, AllBelow};
 ghost use Rattle.clause_form.specs.Formulas.{subject_number, Means, MeansAmong};

@@ -1,7 +1,7 @@
 //! How many values each component and each variable has.
 
 ghost use Rattle.std.specs.Prelude.{◌≡◌, ◌≤◌, ◌<◌, ◌++◌, ◌+◌, length, slice_index, take, All, IfOk, IfSome, IsNone};
-ghost use Rattle.cca_base.specs.Model.{mode_counts, value_counts};
+ghost use Rattle.cca_base.specs.Prelude.{mode_counts, value_counts};
 ghost use Rattle.cca_base.specs.declared.limits.TheConstants.{MAX_CHOICES};
 
 use cca_base::{List, MAX_CHOICES, Model};

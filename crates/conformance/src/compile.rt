@@ -1,8 +1,8 @@
 //! From rules to order and bounds: projection, prime implicants, ancestors, and goals in effects-first order.
 
 ghost use Rattle.std.specs.Prelude.{◌≡◌, ◌<◌, ◌≤◌, All, IfSome, length};
+ghost use Rattle.cca_base.specs.Prelude.{IsCube};
 ghost use Rattle.cca_base.specs.declared.limits.TheConstants.{MAX_COMPONENTS};
-ghost use Rattle.cca_base.specs.Cube.{IsCube};
 ghost use Rattle.causal_graph.specs.Needs.{AreRows};
 
 use crate::parts::*;

@@ -1,7 +1,7 @@
 //! Choices, searches by cost, and estimates by themselves.
 
 ghost use Rattle.std.specs.Prelude.{IfSome};
-ghost use Rattle.cca_base.specs.Choices.{AreRows};
+ghost use Rattle.cca_base.specs.Prelude.{AreRows};
 
 use crate::parts::{Pairs, STICKING_VALVE, compiled_of, pair, seen};
 use cca_base::*;

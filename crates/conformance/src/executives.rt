@@ -1,7 +1,7 @@
 //! Events of an executive, one after the other.
 
 ghost use Rattle.std.specs.Prelude.{◌≡◌, ◌<◌, ◌≤◌, ◌+◌, IfSome, length};
-ghost use Rattle.cca_base.specs.Trace.{MayCome};
+ghost use Rattle.cca_base.specs.Prelude.{MayCome};
 
 use crate::parts::{STICKING_VALVE, compiled_of};
 use cca_base::*;

@@ -1,11 +1,8 @@
 //! Models, states and clauses that the tests share.
 
 ghost use Rattle.std.specs.Prelude.{◌≡◌, ◌<◌, ◌↔◌, All, IfSome, IsTrue, length};
+ghost use Rattle.cca_base.specs.Prelude.{is_within, subject_within, HasMode, HasValue, IsComplete, Lacks};
 ghost use Rattle.cca_base.specs.declared.limits.TheConstants.{MAX_CHOICES};
-ghost use Rattle.cca_base.specs.Cube.{Lacks};
-ghost use Rattle.cca_base.specs.Formula.{is_within, subject_within};
-ghost use Rattle.cca_base.specs.Model.{HasMode, IsComplete};
-ghost use Rattle.cca_base.specs.State.{HasValue};
 ghost use Rattle.clause_form.specs.Clauses.{AreClauses};
 
 use acceptance::accept;

@@ -1,7 +1,7 @@
 //! Control programs, read line by line, and what a runner asks for in each turn.
 
 ghost use Rattle.std.specs.Prelude.{◌≡◌, All, IfSome, IsTrue, None};
-ghost use Rattle.cca_base.specs.Model.{IsFormula};
+ghost use Rattle.cca_base.specs.Prelude.{IsFormula};
 ghost use Rattle.control_program.specs.Formulas.{formulas_left};
 ghost use Rattle.control_syntax.specs.Kept.{MayRunSoFar};
 ghost use Rattle.control_syntax.specs.Program.{MayRun};

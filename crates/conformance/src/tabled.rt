@@ -1,8 +1,7 @@
 //! Tables of models, with states that they cover and goals for them.
 
 ghost use Rattle.std.specs.Prelude.{◌≡◌, ◌<◌, ◌≤◌, ◌+◌, false, All, IfSome, IsTrue, length, slice_index};
-ghost use Rattle.cca_base.specs.Model.{HasMode, IsInChain, is_broken};
-ghost use Rattle.cca_base.specs.State.{IsState};
+ghost use Rattle.cca_base.specs.Prelude.{is_broken, HasMode, IsInChain, IsState};
 ghost use Rattle.plan_runner.specs.WaysBack.{StaysStuck};
 ghost use Rattle.planner_step.specs.Planning.{AreReached, IsGoal};
 ghost use Rattle.planner_step.specs.Served.{IsStuck};

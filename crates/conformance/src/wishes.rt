@@ -1,7 +1,7 @@
 //! Wishes, and the target and the goal that each leads to.
 
 ghost use Rattle.std.specs.Prelude.{◌≡◌, ◌≤◌, All, IfSome, length};
-ghost use Rattle.cca_base.specs.Model.{IsFormula};
+ghost use Rattle.cca_base.specs.Prelude.{IsFormula};
 ghost use Rattle.goal_interpreter.specs.Weights.{AreWeights};
 ghost use Rattle.goal_interpreter.specs.declared.weights.TheConstants.{MAX_WEIGHT};
 

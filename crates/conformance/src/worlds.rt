@@ -1,7 +1,7 @@
 //! Worlds and counterexamples: the first of each, or none.
 
 ghost use Rattle.std.specs.Prelude.{◌≡◌, IfSome};
-ghost use Rattle.cca_base.specs.State.{HasWorld, IsState};
+ghost use Rattle.cca_base.specs.Prelude.{HasWorld, IsState};
 
 use crate::parts::*;
 use cca_base::*;

@@ -3,7 +3,7 @@
 //! worlds that differ on a variable show that it isn't forced, so each world that is found settles others too.
 
 ghost use Rattle.std.specs.Prelude.{◌≡◌, ◌≤◌, ℕ, List, length, slice_index, All, IfOk};
-ghost use Rattle.cca_base.specs.State.{HasValue, HasWorld, IsState};
+ghost use Rattle.cca_base.specs.Prelude.{HasValue, HasWorld, IsState};
 ghost use Rattle.clause_form.specs.declared.clause.Clause.{Clause};
 ghost use Rattle.consistency.specs.Bounds.{HoldSolutions};
 ghost use Rattle.consistency.specs.Forced.{AreForced};

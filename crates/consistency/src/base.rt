@@ -1,10 +1,8 @@
 //! What each subject may be, where components have given modes and variables given values.
 
 ghost use Rattle.std.specs.Prelude.{◌≡◌, ◌&&◌, ◌++◌, ℕ, ◌<◌, ◌≤◌, nat_lt, length, slice_index, All, IfOk};
-ghost use Rattle.cca_base.specs.Sets.{has};
+ghost use Rattle.cca_base.specs.Prelude.{has, mode_counts, value_counts, HasMode, HasValue};
 ghost use Rattle.cca_base.specs.declared.limits.TheConstants.{MAX_CHOICES};
-ghost use Rattle.cca_base.specs.Model.{HasMode, mode_counts, value_counts};
-ghost use Rattle.cca_base.specs.State.{HasValue};
 ghost use Rattle.clause_form.specs.Clauses.{AreClauses};
 ghost use Rattle.consistency.specs.Problem.{IsProblem, clauses_in};
 ghost use Rattle.consistency.specs.Base.{allows, ArePairs, IsBase};

@@ -1,10 +1,7 @@
 //! The questions of a model whose clauses are made for the one call.
 
 ghost use Rattle.std.specs.Prelude.{◌↔◌, length, All, IfOk, IfSome, IsNone, IsTrue};
-ghost use Rattle.cca_base.specs.Formula.{is_within};
-ghost use Rattle.cca_base.specs.Model.{HasMode};
-ghost use Rattle.cca_base.specs.Shown.{CanShow, IsConflict};
-ghost use Rattle.cca_base.specs.State.{HasValue, HasWorld, Follows, IsState};
+ghost use Rattle.cca_base.specs.Prelude.{is_within, CanShow, Follows, HasMode, HasValue, HasWorld, IsConflict, IsState};
 ghost use Rattle.consistency.specs.Forced.{AreForced};
 ghost use Rattle.consistency.specs.Found.{FitsSeen, Counters, IsFirstFound};
 

@@ -3,10 +3,7 @@
 //! that only pairs of cores cost a search.
 
 ghost use Rattle.std.specs.Prelude.{[], ◌++◌, ◌↔◌, All, IfOk, IfSome, IsNone};
-ghost use Rattle.cca_base.specs.Cube.{IsCube};
-ghost use Rattle.cca_base.specs.Model.{HasMode};
-ghost use Rattle.cca_base.specs.Shown.{CanShow, IsConflict, KeepsOfClash};
-ghost use Rattle.cca_base.specs.State.{HasValue, IsState};
+ghost use Rattle.cca_base.specs.Prelude.{CanShow, HasMode, HasValue, IsConflict, IsCube, IsState, KeepsOfClash};
 ghost use Rattle.consistency.specs.Cores.{IsCore, IsShowable};
 ghost use Rattle.consistency.specs.Worlds.{AreWorldsOf};
 

@@ -1,7 +1,7 @@
 //! The clauses of a model's rules beside those that say that a formula is false.
 
 ghost use Rattle.std.specs.Prelude.{◌≡◌, ◌++◌, length, IfOk, OnOk, IsTrue, None, Some};
-ghost use Rattle.cca_base.specs.Formula.{is_within};
+ghost use Rattle.cca_base.specs.Prelude.{is_within};
 ghost use Rattle.clause_form.specs.Formulas.{AreClausesOf};
 ghost use Rattle.consistency.specs.Problem.{clauses_in};
 

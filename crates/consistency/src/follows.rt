@@ -1,9 +1,7 @@
 //! Whether a formula follows from modes. Propagation answers most questions; else a counterexample is looked for.
 
 ghost use Rattle.std.specs.Prelude.{◌↔◌, length, All, IfOk, IsTrue};
-ghost use Rattle.cca_base.specs.Formula.{is_within};
-ghost use Rattle.cca_base.specs.Model.{HasMode};
-ghost use Rattle.cca_base.specs.State.{Follows};
+ghost use Rattle.cca_base.specs.Prelude.{is_within, Follows, HasMode};
 ghost use Rattle.consistency.specs.Worlds.{AreWorldsOf};
 
 use crate::base::model_base;

@@ -2,11 +2,7 @@
 //! the others has a world that agrees, and else only the pairs of their core go on.
 
 ghost use Rattle.std.specs.Prelude.{◌≡◌, ◌↔◌, ℕ, List, All, IfOk, IfSome, IsNone};
-ghost use Rattle.cca_base.specs.Cube.{IsCube, IsPart};
-ghost use Rattle.cca_base.specs.Model.{HasMode};
-ghost use Rattle.cca_base.specs.Repairs.{pairs_of};
-ghost use Rattle.cca_base.specs.Shown.{CanShow, Clash};
-ghost use Rattle.cca_base.specs.State.{HasValue, IsState};
+ghost use Rattle.cca_base.specs.Prelude.{pairs_of, CanShow, Clash, HasMode, HasValue, IsCube, IsPart, IsState};
 ghost use Rattle.consistency.specs.Conflict.{IsMinimalClash};
 ghost use Rattle.consistency.specs.Cores.{pairs_in};
 ghost use Rattle.consistency.specs.Worlds.{AreWorldsOf};

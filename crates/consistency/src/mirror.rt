@@ -1,10 +1,7 @@
 //! What the mirrored variables showed last. It is asked for again only where the plant or the variables are others.
 
 ghost use Rattle.std.specs.Prelude.{◌≡◌, false, All, IfOk, IfSome, IsTrue, OnOk};
-ghost use Rattle.cca_base.specs.Cube.{IsRising};
-ghost use Rattle.cca_base.specs.PlantModel.{PlantModel};
-ghost use Rattle.cca_base.specs.Sets.{has};
-ghost use Rattle.cca_base.specs.State.{HasValue, HasWorld, IsState};
+ghost use Rattle.cca_base.specs.Prelude.{has, HasValue, HasWorld, IsRising, IsState, PlantModel};
 ghost use Rattle.consistency.specs.Observed.{IsMirror, IsObserved, IsShown, ShowsNow};
 ghost use Rattle.consistency.specs.Worlds.{AreWorldsOf};
 

@@ -1,7 +1,7 @@
 //! What is seen, with pairs of other variables besides.
 
 ghost use Rattle.std.specs.Prelude.{All, Contains, IfOk};
-ghost use Rattle.cca_base.specs.Cube.{IsCube, IsRising, IsUnion, Lacks};
+ghost use Rattle.cca_base.specs.Prelude.{IsCube, IsRising, IsUnion, Lacks};
 
 use cca_base::{List, Pair, Seen};
 use std::alloc::{AllocError, Global};

@@ -1,8 +1,8 @@
 //! A solution with another value at a subject.
 
 ghost use Rattle.std.specs.Prelude.{◌≡◌, ◌≢◌, ◌==◌, ◌&&◌, ◌<◌, ◌≤◌, ℕ, List, not, nat_lt, length, slice_index, IfOk, IfSome, IsNone};
+ghost use Rattle.cca_base.specs.Prelude.{has};
 ghost use Rattle.cca_base.specs.declared.limits.TheConstants.{MAX_CHOICES};
-ghost use Rattle.cca_base.specs.Sets.{has};
 ghost use Rattle.clause_form.specs.Clauses.{AllBelow};
 ghost use Rattle.consistency.specs.Problem.{IsProblem};
 ghost use Rattle.consistency.specs.Bounds.{HoldSolutions};

@@ -1,9 +1,7 @@
 //! The pairs of a state, and cubes put one behind the other.
 
 ghost use Rattle.std.specs.Prelude.{◌≡◌, ◌++◌, IfOk};
-ghost use Rattle.cca_base.specs.Cube.{IsCube};
-ghost use Rattle.cca_base.specs.Repairs.{pairs_of};
-ghost use Rattle.cca_base.specs.State.{IsState};
+ghost use Rattle.cca_base.specs.Prelude.{pairs_of, IsCube, IsState};
 
 use cca_base::{Cube, Model, Pair, State};
 use std::alloc::{AllocError, Global};

@@ -2,9 +2,9 @@
 //! the chosen subjects that are to blame, so that choices which have nothing to do with it are passed by.
 
 ghost use Rattle.std.specs.Prelude.{◌≡◌, ◌++◌, ◌∷◌, [], ◌<◌, ◌≤◌, true, length, ℕ, List, IfOk, IfSome, IsNone, slice_index, nat_lt};
+ghost use Rattle.cca_base.specs.Prelude.{has};
 ghost use Rattle.cca_base.specs.declared.limits.TheConstants.{MAX_CHOICES};
 ghost use Rattle.consistency.specs.Search.{IsSolution, IsFirst, KnowsAll, IsSearchResult, values_at};
-ghost use Rattle.cca_base.specs.Sets.{has};
 ghost use Rattle.consistency.specs.Problem.{IsProblem};
 
 use crate::domain::Domain;

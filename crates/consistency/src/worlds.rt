@@ -1,10 +1,8 @@
 //! The clauses of a model's rules, made once for many questions.
 
 ghost use Rattle.std.specs.Prelude.{◌≡◌, ◌++◌, length, All, IfOk, IsNone, IsTrue, None, Option};
+ghost use Rattle.cca_base.specs.Prelude.{is_within, mode_counts, value_counts, Follows, HasMode, HasValue};
 ghost use Rattle.cca_base.specs.declared.formula.Formula.{Formula};
-ghost use Rattle.cca_base.specs.Formula.{is_within};
-ghost use Rattle.cca_base.specs.Model.{HasMode, mode_counts, value_counts};
-ghost use Rattle.cca_base.specs.State.{HasValue, Follows};
 ghost use Rattle.clause_form.specs.Clauses.{AreClauses};
 ghost use Rattle.clause_form.specs.Formulas.{AreClausesOf};
 ghost use Rattle.consistency.specs.Problem.{clauses_in};

@@ -1,9 +1,7 @@
 //! What a turn asks the estimate.
 
 ghost use Rattle.std.specs.Prelude.{◌≡◌, ◌++◌, ◌↔◌, All, IsTrue, IfOk};
-ghost use Rattle.cca_base.specs.Model.{IsFormula};
-ghost use Rattle.cca_base.specs.Repairs.{pairs_of};
-ghost use Rattle.cca_base.specs.State.{Extends, Holds, IsState};
+ghost use Rattle.cca_base.specs.Prelude.{pairs_of, Extends, Holds, IsFormula, IsState};
 ghost use Rattle.consistency.specs.Worlds.{AreWorldsOf};
 ghost use Rattle.control_program.specs.Turned.{Chooses, Reaches};
 ghost use Rattle.control_program.specs.Places.{choice_of};

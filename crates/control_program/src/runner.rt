@@ -1,8 +1,7 @@
 //! The runner of a control program.
 
 ghost use Rattle.std.specs.Prelude.{◌≡◌, ◌↔◌, All, IfOk, OnErr, IsTrue, IsNone};
-ghost use Rattle.cca_base.specs.Model.{IsFormula};
-ghost use Rattle.cca_base.specs.State.{IsState};
+ghost use Rattle.cca_base.specs.Prelude.{IsFormula, IsState};
 ghost use Rattle.consistency.specs.Worlds.{AreWorldsOf};
 ghost use Rattle.control_laws.specs.Rest.{whole};
 ghost use Rattle.control_laws.specs.Turns.{TurnsBy, fresh};

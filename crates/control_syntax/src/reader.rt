@@ -1,7 +1,7 @@
 //! A control program, read line by line.
 
 ghost use Rattle.std.specs.Prelude.{◌≡◌, ◌∷◌, IfOk, IsSome, None, OnErr, Some, map};
-ghost use Rattle.cca_base.specs.PlantModel.{PlantModel};
+ghost use Rattle.cca_base.specs.Prelude.{PlantModel};
 ghost use Rattle.text_base.specs.Lexemes.{lexeme_of};
 ghost use Rattle.script_reader.specs.SaidLines.{Answers};
 ghost use Rattle.control_syntax.specs.Codes.{IsSaid, IsSaidByTokens, IsSaidHere, Leads};

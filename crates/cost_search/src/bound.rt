@@ -2,7 +2,7 @@
 //! least that one of its free components has left, from each of them, and the bound rises by it.
 
 ghost use Rattle.std.specs.Prelude.{◌≡◌, ◌<◌, ◌≤◌, length, ℕ, IfOk, IfSome, IsNone, slice_index_or};
-ghost use Rattle.cca_base.specs.Choices.{AreRows};
+ghost use Rattle.cca_base.specs.Prelude.{AreRows};
 ghost use Rattle.cost_search.specs.Search.{IsUncut};
 ghost use Rattle.cost_search.specs.SearchParts.{IsPart, box_of};
 ghost use Rattle.cost_search.specs.Bounds.{AllAreCut, CostsAtLeast, HasFixedCut, IsFree, IsInHeldCut};

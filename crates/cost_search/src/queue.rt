@@ -2,12 +2,11 @@
 
 ghost use Rattle.std.specs.Prelude.{◌≡◌, ◌<◌, ◌≤◌, ◌↔◌, map, IsTrue, IfOk, OnOk, IfSome, IsNone, All, Contains, length, ℕ};
 ghost use Rattle.std.specs.BinaryHeap.{IsHeap, heap_items, heap_len};
+ghost use Rattle.cca_base.specs.Prelude.{numbers_below, AreRows};
 ghost use Rattle.cca_base.specs.declared.limits.TheConstants.{MAX_ROWS};
-ghost use Rattle.cca_base.specs.Relations.{numbers_below};
 ghost use Rattle.cost_search.specs.SearchParts.{IsPart, part_cmp};
 ghost use Rattle.cost_search.specs.Queue.{Covers, IsBlocked, MayBeGiven, IsQueue, Replaces, TopMayBeGiven};
 ghost use Rattle.cost_search.specs.Search.{IsAfterLast};
-ghost use Rattle.cca_base.specs.Choices.{AreRows};
 
 use crate::costed::Costed;
 use crate::part::Part;

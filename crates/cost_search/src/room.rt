@@ -2,7 +2,7 @@
 
 ghost use Rattle.std.specs.Prelude.{◌≡◌, ◌<◌, ◌≤◌, ◌⊎◌, ◌↔◌, ℕ, true, false, Some, All, length, IfOk, IfSome, IsTrue, slice_index_or};
 ghost use Rattle.std.specs.List.{AllZip};
-ghost use Rattle.cca_base.specs.Choices.{AreRows};
+ghost use Rattle.cca_base.specs.Prelude.{AreRows};
 ghost use Rattle.cost_search.specs.SearchParts.{IsPart, box_of, row_at};
 ghost use Rattle.cost_search.specs.Bounds.{AreFree, IsStep, HasLeft, IsLeastLeft, IsTaken, NamesComponent};
 

@@ -3,7 +3,7 @@
 ghost use Rattle.std.specs.Prelude.{◌≡◌, ◌<◌, ◌++◌, ◌∷◌, [], IfOk, IfSome, IsSome, IsNone, OnOk, OnErr, Some, None};
 ghost use Rattle.cost_search.specs.Left.{states_left};
 ghost use Rattle.cost_search.specs.Search.{IsFirstLeft, NoneLeft};
-ghost use Rattle.cca_base.specs.Choices.{AreRows};
+ghost use Rattle.cca_base.specs.Prelude.{AreRows};
 
 use crate::costed::Costed;
 use crate::part::Part;

@@ -3,7 +3,7 @@
 ghost use Rattle.std.specs.Prelude.{◌≡◌, ◌≤◌, ◌<◌, IfOk, OnOk, OnErr, IfSome, IsNone, All, [], length, drop, take, slice_index_or, slice_set};
 ghost use Rattle.std.specs.BinaryHeap.{IsHeap, heap_items, heap_len};
 ghost use Rattle.cost_search.specs.SearchParts.{AreInstead, Gains, IsPart, IsReplaced, IsSpan, box_of, part_cmp, row_at};
-ghost use Rattle.cca_base.specs.Choices.{AreRows};
+ghost use Rattle.cca_base.specs.Prelude.{AreRows};
 
 use crate::part::{Part, Span};
 use cca_base::{Choice, List};

@@ -2,8 +2,8 @@
 
 ghost use Rattle.std.specs.Prelude.{◌≡◌, ◌<◌, ◌≤◌, ◌↔◌, All, Contains, List, length, IfOk, OnErr, OnOk};
 ghost use Rattle.std.specs.List.{AllZip};
+ghost use Rattle.cca_base.specs.Prelude.{AreRows};
 ghost use Rattle.cca_base.specs.declared.choice.Choice.{Choice};
-ghost use Rattle.cca_base.specs.Choices.{AreRows};
 ghost use Rattle.cost_search.specs.SearchParts.{IsIn, IsPart, box_of};
 ghost use Rattle.cost_search.specs.Bounds.{IsFree};
 ghost use Rattle.cost_search.specs.Pending.{AreHalves};

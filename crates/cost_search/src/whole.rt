@@ -2,11 +2,11 @@
 
 ghost use Rattle.std.specs.Prelude.{◌≡◌, IfOk, IfSome, IsNone, Contains, List, length, ◌<◌, ◌^◌};
 ghost use Rattle.std.specs.List.{AllZip};
+ghost use Rattle.cca_base.specs.Prelude.{AreRows, IsRow};
 ghost use Rattle.cca_base.specs.declared.choice.Choice.{Choice};
 ghost use Rattle.cost_search.specs.SearchParts.{IsIn, IsPart, box_of};
 ghost use Rattle.cost_search.specs.Queue.{IsQueue};
 ghost use Rattle.std.specs.BinaryHeap.{heap_items};
-ghost use Rattle.cca_base.specs.Choices.{AreRows, IsRow};
 
 use crate::part::{Part, Span};
 use cca_base::{Choice, List};

@@ -2,9 +2,7 @@
 
 ghost use Rattle.std.specs.Prelude.{◌≡◌, ◌≢◌, ◌<◌, IfSome, IfOk, OnOk, OnErr};
 ghost use Rattle.std.specs.Option.{option_map};
-ghost use Rattle.cca_base.specs.Plans.{Promising};
-ghost use Rattle.cca_base.specs.State.{IsState};
-ghost use Rattle.cca_base.specs.Trace.{IsReply};
+ghost use Rattle.cca_base.specs.Prelude.{IsReply, IsState, Promising};
 ghost use Rattle.cca_base.specs.declared.events.Reply.TheVariants.{Idle};
 ghost use Rattle.planner_step.specs.Planning.{reply_of, IsGoal};
 ghost use Rattle.reversibility.specs.ClassParts.{CoversState};

@@ -1,7 +1,7 @@
 //! Tables that are kept while they cover the estimate.
 
 ghost use Rattle.std.specs.Prelude.{◌≡◌, IsTrue, IfSome, IfOk, OnOk, OnErr};
-ghost use Rattle.cca_base.specs.State.{IsState};
+ghost use Rattle.cca_base.specs.Prelude.{IsState};
 ghost use Rattle.reversibility.specs.ClassParts.{CoversState};
 ghost use Rattle.trace_laws.specs.Tables.{Takes};
 ghost use Rattle.executive_loop.specs.Covering.{base_of, covers, AreTablesOf, AreCovering};

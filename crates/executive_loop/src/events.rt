@@ -1,8 +1,7 @@
 //! Events that are no ticks.
 
 ghost use Rattle.std.specs.Prelude.{◌≡◌, OnOk, OnErr};
-ghost use Rattle.cca_base.specs.Orders.{IsSorted};
-ghost use Rattle.cca_base.specs.Trace.{MayCome, Changes};
+ghost use Rattle.cca_base.specs.Prelude.{Changes, IsSorted, MayCome};
 ghost use Rattle.trace_laws.specs.Events.{IsTick};
 ghost use Rattle.trace_laws.specs.Fits.{Fits};
 

@@ -2,8 +2,7 @@
 
 ghost use Rattle.std.specs.Prelude.{◌≡◌, ◌↔◌, ◌+◌, ◌<◌, ◌^◌, [], None, Some, IsSome, IfOk, OnErr};
 ghost use Rattle.std.specs.Option.{option_map};
-ghost use Rattle.cca_base.specs.Plans.{Promising};
-ghost use Rattle.cca_base.specs.Trace.{start, MayCome};
+ghost use Rattle.cca_base.specs.Prelude.{start, MayCome, Promising};
 ghost use Rattle.trace_laws.specs.Events.{Acts, IsTick};
 ghost use Rattle.trace_laws.specs.Tables.{TablesAfter};
 ghost use Rattle.consistency.specs.Worlds.{AreWorldsOf};
@@ -42,7 +41,7 @@ impl Model for Executive {
 
     ghost Value = { ExecutiveParts };
 
-    ghost use Rattle.cca_base.specs.Coded.{model_codes};
+    ghost use Rattle.cca_base.specs.Prelude.{model_codes};
 
     ghost coded = { Prim.hlevel model_codes };
 

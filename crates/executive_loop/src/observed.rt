@@ -1,8 +1,7 @@
 //! What a tick observes.
 
 ghost use Rattle.std.specs.Prelude.{All, IfOk};
-ghost use Rattle.cca_base.specs.State.{HasValue};
-ghost use Rattle.cca_base.specs.Trace.{Observed};
+ghost use Rattle.cca_base.specs.Prelude.{HasValue, Observed};
 ghost use Rattle.consistency.specs.Observed.{IsMirror};
 ghost use Rattle.consistency.specs.Worlds.{AreWorldsOf};
 ghost use Rattle.trace_laws.specs.Fits.{Fits};

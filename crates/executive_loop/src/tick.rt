@@ -2,10 +2,7 @@
 
 ghost use Rattle.std.specs.Prelude.{◌≡◌, ◌<◌, ◌+◌, ◌^◌, [], true, IfSome, IfOk, OnOk, OnErr, None};
 ghost use Rattle.std.specs.Option.{option_map};
-ghost use Rattle.cca_base.specs.Plans.{Promising};
-ghost use Rattle.cca_base.specs.State.{IsState};
-ghost use Rattle.cca_base.specs.Successors.{Nominal};
-ghost use Rattle.cca_base.specs.Trace.{TickShows};
+ghost use Rattle.cca_base.specs.Prelude.{IsState, Nominal, Promising, TickShows};
 ghost use Rattle.consistency.specs.Observed.{IsMirror};
 ghost use Rattle.consistency.specs.Worlds.{AreWorldsOf};
 ghost use Rattle.trace_laws.specs.Fits.{Fits};

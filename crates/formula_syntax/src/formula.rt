@@ -3,8 +3,7 @@
 ghost use Rattle.std.specs.Prelude.{◌≡◌, Bool, true, false, map, IfOk};
 ghost use Rattle.text_base.specs.Lexemes.{lexeme_of};
 ghost use Rattle.formula_syntax.specs.FormulaParser.{start, state_of, ended, run};
-ghost use Rattle.cca_base.specs.Model.{IsFormula};
-ghost use Rattle.cca_base.specs.PlantModel.{PlantModel};
+ghost use Rattle.cca_base.specs.Prelude.{IsFormula, PlantModel};
 ghost use Rattle.formula_syntax.specs.Grammar.{Whole, spelling};
 ghost use Rattle.formula_syntax.specs.Meanings.{IsReadingOf, reading_of};
 ghost use Rattle.formula_syntax.specs.Answers.{AnswersFormula, AnswerOneWay, IsFormulaOf};

@@ -16,7 +16,7 @@ pub struct NamedModel<'a> {
 
 impl<'a> std::marker::Model for NamedModel<'a> {
     ghost use Rattle.std.specs.Prelude.{IfSome};
-    ghost use Rattle.cca_base.specs.PlantModel.{PlantModel};
+    ghost use Rattle.cca_base.specs.Prelude.{PlantModel};
     ghost use Rattle.formula_syntax.specs.Lookups.{NamesFit};
     ghost use Rattle.cca_base.specs.contracts.model.Model as plant;
 

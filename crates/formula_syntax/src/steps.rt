@@ -2,7 +2,7 @@
 
 ghost use Rattle.std.specs.Prelude.{◌≡◌, ◌+◌, ◌<◌, ◌^◌, codes, false, None, Some, IfOk};
 ghost use Rattle.std.specs.Option.{option_map};
-ghost use Rattle.cca_base.specs.PlantModel.{PlantModel};
+ghost use Rattle.cca_base.specs.Prelude.{PlantModel};
 ghost use Rattle.text_base.specs.Lexemes.{is_lexeme, is_name_word, lexeme_of, word};
 ghost use Rattle.formula_syntax.specs.declared.read_part.ReadPart.TheVariants.{Sound};
 ghost use Rattle.formula_syntax.specs.FormulaParser.{state_of, factor_step, operand_step, operator_step, place_behind, step};

@@ -1,8 +1,7 @@
 //! The lightest state that extends an implicant.
 
 ghost use Rattle.std.specs.Prelude.{◌<◌, ◌↔◌, [], All, IfOk, IsTrue, length, slice_index};
-ghost use Rattle.cca_base.specs.Model.{HasMode};
-ghost use Rattle.cca_base.specs.State.{IsState};
+ghost use Rattle.cca_base.specs.Prelude.{HasMode, IsState};
 ghost use Rattle.reversibility.specs.ClassParts.{in_row};
 ghost use Rattle.wish_laws.specs.Lightest.{IsLightestOf, MayStand};
 ghost use Rattle.goal_interpreter.specs.Choosing.{IsLightest};

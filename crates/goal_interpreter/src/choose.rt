@@ -1,8 +1,7 @@
 //! The lightest of the implicants' states.
 
 ghost use Rattle.std.specs.Prelude.{All, IfOk, IsFalse, IsTrue};
-ghost use Rattle.cca_base.specs.Model.{HasMode};
-ghost use Rattle.cca_base.specs.State.{IsState};
+ghost use Rattle.cca_base.specs.Prelude.{HasMode, IsState};
 ghost use Rattle.reversibility.specs.ClassParts.{in_row};
 ghost use Rattle.goal_interpreter.specs.Choosing.{IsLightestAmong, IsLighterOne, IsNoHeavier};
 ghost use Rattle.goal_interpreter.specs.Weights.{AreWeights};

@@ -1,7 +1,7 @@
 //! The goal that leads to a target.
 
 ghost use Rattle.std.specs.Prelude.{IfOk};
-ghost use Rattle.cca_base.specs.State.{IsState};
+ghost use Rattle.cca_base.specs.Prelude.{IsState};
 ghost use Rattle.wish_laws.specs.Settled.{IsGoalOf};
 
 use cca_base::{Compiled, Goal, List, Pair, State};

@@ -1,7 +1,7 @@
 //! The lightest mode of a set, and of those in which a component may stand.
 
 ghost use Rattle.std.specs.Prelude.{◌≡◌, ◌<◌, ◌≤◌, ◌+◌, ℕ, IfOk, [], length, slice_index_or};
-ghost use Rattle.cca_base.specs.State.{IsState};
+ghost use Rattle.cca_base.specs.Prelude.{IsState};
 ghost use Rattle.cca_base.specs.declared.limits.TheConstants.{MAX_CHOICES};
 ghost use Rattle.reversibility.specs.ClassParts.{in_row};
 ghost use Rattle.wish_laws.specs.Lightest.{IsLightestOf};

@@ -1,7 +1,7 @@
 //! What the modes weigh.
 
 ghost use Rattle.std.specs.Prelude.{◌≡◌};
-ghost use Rattle.cca_base.specs.State.{IsState};
+ghost use Rattle.cca_base.specs.Prelude.{IsState};
 ghost use Rattle.wish_laws.specs.Settled.{weight_of};
 ghost use Rattle.goal_interpreter.specs.Weights.{AreWeights};
 

@@ -1,8 +1,7 @@
 //! The lightest settled state that holds a wish.
 
 ghost use Rattle.std.specs.Prelude.{IfOk};
-ghost use Rattle.cca_base.specs.Model.{IsFormula};
-ghost use Rattle.cca_base.specs.State.{IsState};
+ghost use Rattle.cca_base.specs.Prelude.{IsFormula, IsState};
 ghost use Rattle.guard_compiler.specs.Rules.{AreRulesOf};
 ghost use Rattle.reversibility.specs.ClassParts.{CoversState};
 ghost use Rattle.planner_step.specs.Planning.{AreReached, IsGoal};

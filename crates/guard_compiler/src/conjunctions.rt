@@ -1,9 +1,7 @@
 //! The prime implicants of a guard that is a conjunction, from those of its parts.
 
 ghost use Rattle.std.specs.Prelude.{◌≤◌, All, IfOk, IfSome, IsTrue, length};
-ghost use Rattle.cca_base.specs.Accepted.{AreWays};
-ghost use Rattle.cca_base.specs.Cube.{IsRising};
-ghost use Rattle.cca_base.specs.Formula.{is_within};
+ghost use Rattle.cca_base.specs.Prelude.{is_within, AreWays, IsRising};
 ghost use Rattle.cca_base.specs.declared.limits.TheConstants.{MAX_WAYS};
 ghost use Rattle.guard_compiler.specs.Conjunctions.{AddsPart, all_of, with_guard};
 ghost use Rattle.guard_compiler.specs.Compilable.{IsCompilable};

@@ -3,7 +3,7 @@
 ghost use Rattle.std.specs.Prelude.{◌≡◌, ◌↔◌, ◌⊎◌, [], ◌<◌, ◌≤◌, All, List, OnOk, filter, length, not, slice_index_or, take};
 ghost use Rattle.std.specs.List.{list_any};
 ghost use Rattle.std.specs.Cmp.Lexicographic.{slice_cmp};
-ghost use Rattle.cca_base.specs.Cube.{IsBeforeCube, IsPart, IsRising, cube_cmp, pair_cmp};
+ghost use Rattle.cca_base.specs.Prelude.{cube_cmp, pair_cmp, IsBeforeCube, IsPart, IsRising};
 ghost use Rattle.cca_base.specs.declared.cube.Pair.{Pair};
 ghost use Rattle.guard_compiler.specs.Cover.{AreApart, IsCovered, is_subsequence, without_first};
 

@@ -1,9 +1,7 @@
 //! The prime implicants of one formula as a move's guard: its denial, with the rules that bear on it, projected onto the components.
 
 ghost use Rattle.std.specs.Prelude.{◌≤◌, ◌↔◌, IfOk, IsTrue, length};
-ghost use Rattle.cca_base.specs.Accepted.{AreWays};
-ghost use Rattle.cca_base.specs.Formula.{is_within};
-ghost use Rattle.cca_base.specs.State.{HasWorlds};
+ghost use Rattle.cca_base.specs.Prelude.{is_within, AreWays, HasWorlds};
 ghost use Rattle.cca_base.specs.declared.limits.TheConstants.{MAX_WAYS};
 ghost use Rattle.guard_compiler.specs.Asked.{AreAskedOf};
 ghost use Rattle.guard_compiler.specs.Conjunctions.{with_guard};

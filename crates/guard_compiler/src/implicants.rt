@@ -1,9 +1,7 @@
 //! The prime implicants of a move's guard, over states that have a world.
 
 ghost use Rattle.std.specs.Prelude.{◌<◌, ◌≤◌, ◌↔◌, IfErr, IfOk, IsErr, IsTrue, length};
-ghost use Rattle.cca_base.specs.Accepted.{AreWays};
-ghost use Rattle.cca_base.specs.Formula.{is_within};
-ghost use Rattle.cca_base.specs.State.{HasWorlds};
+ghost use Rattle.cca_base.specs.Prelude.{is_within, AreWays, HasWorlds};
 ghost use Rattle.cca_base.specs.declared.limits.TheConstants.{MAX_WAYS};
 ghost use Rattle.guard_compiler.specs.Rules.{AreRulesOf};
 ghost use Rattle.guard_compiler.specs.Compilable.{AreWaysAt, IsCompilable};

@@ -3,7 +3,7 @@
 ghost use Rattle.std.specs.Prelude.{◌≡◌, ◌<◌, All, MatchBool, length};
 ghost use Rattle.clause_form.specs.Clauses.{AreBelow, AllBelow, names_one};
 ghost use Rattle.guard_compiler.specs.Marks.{SetsMore};
-ghost use Rattle.cca_base.specs.Flags.{is_set, unset};
+ghost use Rattle.cca_base.specs.Prelude.{is_set, unset};
 ghost use Rattle.guard_compiler.specs.Naming.{IsOver};
 ghost use Rattle.guard_compiler.specs.Relevant.{IsClosed, bears};
 ghost use Rattle.guard_compiler.specs.Rules.{AreRulesBelow};

@@ -2,7 +2,7 @@
 
 ghost use Rattle.std.specs.Prelude.{◌≡◌, ◌++◌, All, IfOk, OnOk, filter, length};
 ghost use Rattle.clause_form.specs.Clauses.{AllBelow};
-ghost use Rattle.cca_base.specs.Flags.{is_set};
+ghost use Rattle.cca_base.specs.Prelude.{is_set};
 ghost use Rattle.guard_compiler.specs.Naming.{IsOver};
 ghost use Rattle.guard_compiler.specs.Rules.{AreRulesBelow, clauses_in};
 ghost use Rattle.guard_compiler.specs.Relevant.{IsRelevantSet, IsWithRelevant, bears};

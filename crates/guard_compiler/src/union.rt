@@ -1,7 +1,7 @@
 //! The union of two cubes, where they don't give one component two modes.
 
 ghost use Rattle.std.specs.Prelude.{◌≡◌, ◌++◌, ◌<◌, IfOk, List, MatchOption, OnOk, drop, length};
-ghost use Rattle.cca_base.specs.Cube.{IsRising};
+ghost use Rattle.cca_base.specs.Prelude.{IsRising};
 ghost use Rattle.cca_base.specs.declared.cube.Pair.{Pair};
 ghost use Rattle.guard_compiler.specs.Cover.{IsLeastOver, IsOver};
 

@@ -1,7 +1,7 @@
 //! The least cubes that have a cube of each of two lists as a part.
 
 ghost use Rattle.std.specs.Prelude.{◌↔◌, ◌⊎◌, ◌≤◌, All, IfOk, IfSome, List, OnOk, length};
-ghost use Rattle.cca_base.specs.Cube.{IsPart, IsRising};
+ghost use Rattle.cca_base.specs.Prelude.{IsPart, IsRising};
 ghost use Rattle.cca_base.specs.declared.cube.Pair.{Pair};
 ghost use Rattle.guard_compiler.specs.Cover.{AreApart, IsCovered};
 ghost use Rattle.guard_compiler.specs.Conjunctions.{AreWaysOfBoth};

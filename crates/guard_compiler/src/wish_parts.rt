@@ -1,9 +1,7 @@
 //! The prime implicants of a wish that is a conjunction, from those of its parts.
 
 ghost use Rattle.std.specs.Prelude.{◌≤◌, All, IfOk, IfSome, IsTrue, length};
-ghost use Rattle.cca_base.specs.Cube.{IsRising};
-ghost use Rattle.cca_base.specs.Formula.{is_within};
-ghost use Rattle.cca_base.specs.State.{HasWorlds};
+ghost use Rattle.cca_base.specs.Prelude.{is_within, HasWorlds, IsRising};
 ghost use Rattle.guard_compiler.specs.Conjunctions.{AddsWish, all_of};
 ghost use Rattle.guard_compiler.specs.Rules.{AreRulesOf};
 ghost use Rattle.guard_compiler.specs.Wishes.{AreImplicants};

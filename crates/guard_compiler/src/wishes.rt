@@ -1,8 +1,7 @@
 //! The prime implicants of a formula over all components: its denial, with the rules that bear on it, projected onto the components.
 
 ghost use Rattle.std.specs.Prelude.{◌≤◌, ◌↔◌, IfOk, IsTrue, length};
-ghost use Rattle.cca_base.specs.Formula.{is_within};
-ghost use Rattle.cca_base.specs.State.{HasWorlds};
+ghost use Rattle.cca_base.specs.Prelude.{is_within, HasWorlds};
 ghost use Rattle.guard_compiler.specs.Rules.{AreRulesOf};
 ghost use Rattle.guard_compiler.specs.Wishes.{AreImplicants, HasManyImplicants};
 ghost use Rattle.prime_implicants.specs.Primes.{IfEvery, IsMore};

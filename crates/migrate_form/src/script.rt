@@ -1,7 +1,7 @@
 //! The script behind an accepted model: its events' lines are printed as they stand.
 
 ghost use Rattle.std.specs.Prelude.{◌≡◌, ◌++◌, ◌∷◌, [], IfOk, OnOk, OnErr};
-ghost use Rattle.cca_base.specs.Trace.{MayCome};
+ghost use Rattle.cca_base.specs.Prelude.{MayCome};
 ghost use Rattle.formula_syntax.specs.Lookups.{NamesFit};
 ghost use Rattle.trace_laws.specs.Events.{PendingAfter, mirrored_after};
 ghost use Rattle.migrate_form.specs.MigrateMachine.{script_first};
@@ -23,10 +23,9 @@ pub struct ScriptInSecond {
 }
 
 impl std::marker::Model for ScriptInSecond {
-    ghost use Rattle.cca_base.specs.Cube.{IsRising};
+    ghost use Rattle.cca_base.specs.Prelude.{model_codes, IsRising};
     ghost use Rattle.formula_syntax.specs.Lookups.{NamesFit};
     ghost use Rattle.migrate_form.specs.MigrateMachine.{ScriptSoFar};
-    ghost use Rattle.cca_base.specs.Coded.{model_codes};
 
     ghost Value = { ScriptSoFar };
 
@@ -80,7 +79,7 @@ impl ScriptInSecond {
 // By the clauses of the trait a line gives `MigrateSteps`, and the end of the input `EndsAtEnd` (specs/MigrateMachine.antt).
 impl Machine for ScriptInSecond {
     ghost use Rattle.std.specs.Prelude.{⊤, false};
-    ghost use Rattle.cca_base.specs.Refusals.{bare};
+    ghost use Rattle.cca_base.specs.Prelude.{bare};
     ghost use Rattle.model_form.specs.NoLines.{EndsAtEnd, end_one_way};
     ghost use Rattle.model_form.specs.declared.limits.TheConstants.{MAX_LINE};
     ghost use Rattle.trace_text.specs.Json.{refusal_text};

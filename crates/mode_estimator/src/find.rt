@@ -2,7 +2,7 @@
 //! before the other.
 
 ghost use Rattle.std.specs.Prelude.{◌<◌, All, IfOk, IfSome, IsNone};
-ghost use Rattle.cca_base.specs.Choices.{AreRows};
+ghost use Rattle.cca_base.specs.Prelude.{AreRows};
 ghost use Rattle.mode_estimator.specs.First.{AreClashes, AreStates, IsLeastShown, NoneBelow};
 
 use crate::query::Query;

@@ -1,7 +1,7 @@
 //! The first state by cost and then in mode order that explains what is seen: a least-cost one is found, and its modes are lowered.
 
 ghost use Rattle.std.specs.Prelude.{IfOk, All};
-ghost use Rattle.cca_base.specs.Choices.{AreRows};
+ghost use Rattle.cca_base.specs.Prelude.{AreRows};
 ghost use Rattle.mode_estimator.specs.First.{AreClashes, AreStates, IsFirstShown};
 
 use crate::answer::Estimate;

@@ -2,7 +2,7 @@
 //! explain what is seen, its conflict is the first cut.
 
 ghost use Rattle.std.specs.Prelude.{IfOk, All};
-ghost use Rattle.cca_base.specs.State.{HasValue, IsState};
+ghost use Rattle.cca_base.specs.Prelude.{HasValue, IsState};
 ghost use Rattle.consistency.specs.Worlds.{AreWorldsOf};
 ghost use Rattle.mode_estimator.specs.Estimated.{IsEstimate};
 

@@ -2,7 +2,7 @@
 //! has there; a search with the lower modes alone says whether there is a lower one.
 
 ghost use Rattle.std.specs.Prelude.{◌≡◌, ◌<◌, length, All, IfOk, IfSome, IsNone, filter, nat_eq, nat_lt, slice_index, slice_set};
-ghost use Rattle.cca_base.specs.Choices.{AreRows};
+ghost use Rattle.cca_base.specs.Prelude.{AreRows};
 ghost use Rattle.mode_estimator.specs.First.{AreClashes, AreStates, IsLeastShown};
 ghost use Rattle.mode_estimator.specs.LeastModes.{IsLower, NoneLower, IsLowestAt, IsFirstOfCost, fixed_at};
 

@@ -1,7 +1,7 @@
 //! What a tick asks of each state.
 
 ghost use Rattle.std.specs.Prelude.{All};
-ghost use Rattle.cca_base.specs.State.{HasValue};
+ghost use Rattle.cca_base.specs.Prelude.{HasValue};
 ghost use Rattle.consistency.specs.Worlds.{AreWorldsOf};
 
 use cca_base::{Model, Seen};

@@ -2,8 +2,7 @@
 //! asked for; a conflict of it is the next cut.
 
 ghost use Rattle.std.specs.Prelude.{◌<◌, All, IfOk, OnOk};
-ghost use Rattle.cca_base.specs.Choices.{AreRows};
-ghost use Rattle.cca_base.specs.Shown.{CanShow};
+ghost use Rattle.cca_base.specs.Prelude.{AreRows, CanShow};
 ghost use Rattle.cost_search.specs.Search.{IsUncut};
 ghost use Rattle.cost_search.specs.SearchParts.{IsPart};
 ghost use Rattle.mode_estimator.specs.First.{AreClashes, AreStates};

@@ -1,7 +1,7 @@
 //! An accepted model with its names.
 
 ghost use Rattle.std.specs.Prelude.{◌≡◌};
-ghost use Rattle.cca_base.specs.Accepted.{IsCompiled};
+ghost use Rattle.cca_base.specs.Prelude.{IsCompiled};
 ghost use Rattle.formula_syntax.specs.Lookups.{NamesFit};
 
 use cca_base::{Compiled, Name, Subject};
@@ -16,9 +16,8 @@ pub struct Accepted {
 }
 
 impl std::marker::Model for Accepted {
-    ghost use Rattle.cca_base.specs.Accepted.{CompiledModel};
+    ghost use Rattle.cca_base.specs.Prelude.{model_codes, CompiledModel};
     ghost use Rattle.formula_syntax.specs.Lookups.{NamesFit};
-    ghost use Rattle.cca_base.specs.Coded.{model_codes};
 
     ghost Value = { CompiledModel };
 

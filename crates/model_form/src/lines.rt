@@ -1,7 +1,7 @@
 //! Forms that print nothing at the line `script`, and refusals in words: lines of their own stand behind the model.
 
 ghost use Rattle.std.specs.Prelude.{◌≡◌, ◌+◌, ℕ, IfOk};
-ghost use Rattle.cca_base.specs.Accepted.{CompiledModel};
+ghost use Rattle.cca_base.specs.Prelude.{CompiledModel};
 
 use crate::accepted::Accepted;
 use crate::form::{Begun, ModelForm, Opened, Opening};

@@ -1,7 +1,7 @@
 //! The machine of a form that reads a model.
 
 ghost use Rattle.std.specs.Prelude.{◌≡◌, ◌≤◌, ◌+◌, IfOk};
-ghost use Rattle.cca_base.specs.Model.{IsComplete};
+ghost use Rattle.cca_base.specs.Prelude.{IsComplete};
 ghost use Rattle.formula_syntax.specs.Lookups.{NamesFit};
 ghost use Rattle.line_machine.specs.declared.machine.TheConstants.{MAX_LINES};
 ghost use Rattle.model_form.specs.FormMachine.{AtScript};
@@ -38,7 +38,7 @@ pub struct WithModel<F, B> {
 
 impl<F, B> std::marker::Model for WithModel<F, B> {
     ghost use Rattle.model_form.specs.FormStates.{FormState};
-    ghost use Rattle.cca_base.specs.Coded.{model_codes};
+    ghost use Rattle.cca_base.specs.Prelude.{model_codes};
 
     ghost Value = { FormState F B };
 

@@ -1,7 +1,7 @@
 //! What may be wrong with a declaration.
 
 ghost use Rattle.std.specs.Prelude.{◌≡◌, ◌<◌, map, IfSome};
-ghost use Rattle.cca_base.specs.Model.{HasMode};
+ghost use Rattle.cca_base.specs.Prelude.{HasMode};
 ghost use Rattle.formula_syntax.specs.Meanings.{has_twice};
 ghost use Rattle.model_syntax.specs.Items.{shown_ends};
 ghost use Rattle.model_syntax.specs.Codes.{is_long, is_taken, start_mode, list_passes, names_code, component_code, variable_code, ends_of};

@@ -2,7 +2,7 @@
 
 ghost use Rattle.std.specs.Prelude.{◌≡◌, ◌&&◌, ◌||◌, not};
 ghost use Rattle.std.specs.List.{list_any};
-ghost use Rattle.cca_base.specs.Model.{WellFormed, is_broken};
+ghost use Rattle.cca_base.specs.Prelude.{is_broken, WellFormed};
 ghost use Rattle.model_syntax.specs.Codes.{leads_to, leads_unmarked, leaves_unmarked, is_ambiguous, is_move_into_broken, is_repair_into_broken, is_into_broken, is_repair_cycle, is_unmarked_exit, mends_elsewhere, mends_twice, sound_move_code};
 
 use crate::words::is_long;

@@ -3,7 +3,7 @@
 ghost use Rattle.std.specs.Prelude.{◌≡◌, ◌<◌, None, Some, map, nat_eq, OnOk, OnErr};
 ghost use Rattle.std.specs.Cmp.Lexicographic.{pointwise};
 ghost use Rattle.indexmap.specs.IndexMap.{spare, Updates};
-ghost use Rattle.cca_base.specs.Model.{WellFormed, IsComplete, empty_model, in_second, with_component, with_variable, with_rule, with_command, with_move, with_failure};
+ghost use Rattle.cca_base.specs.Prelude.{empty_model, in_second, with_command, with_component, with_failure, with_move, with_rule, with_variable, IsComplete, WellFormed};
 ghost use Rattle.formula_syntax.specs.Lookups.{NamesFit, place_of};
 ghost use Rattle.model_syntax.specs.Items as items;
 ghost use Rattle.model_syntax.specs.Lines.{HasBareNames};
@@ -26,7 +26,7 @@ pub struct IndexedModel {
 }
 
 impl std::marker::Model for IndexedModel {
-    ghost use Rattle.cca_base.specs.PlantModel.{PlantModel};
+    ghost use Rattle.cca_base.specs.Prelude.{PlantModel};
     ghost use Rattle.model_syntax.specs.Reader.{IsIndexed};
     ghost use Rattle.cca_base.specs.contracts.model.Model as plant;
 

@@ -2,7 +2,7 @@
 
 ghost use Rattle.std.specs.Prelude.{◌≡◌, ◌<◌, ◌||◌, not, length, map, nat_le};
 ghost use Rattle.text_base.specs.Lexemes.{lexeme_of};
-ghost use Rattle.cca_base.specs.Model.{WellFormed};
+ghost use Rattle.cca_base.specs.Prelude.{WellFormed};
 ghost use Rattle.model_syntax.specs.Items.{shown_ends};
 ghost use Rattle.model_syntax.specs.Items as items;
 ghost use Rattle.model_syntax.specs.Lines.{HasBareNames, AnswersModel, component_next, variable_next, rule_next, failure_next, IsNextOfText, IsNextOfNumber};

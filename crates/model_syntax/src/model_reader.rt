@@ -1,7 +1,7 @@
 //! The reader of a model, line by line.
 
 ghost use Rattle.std.specs.Prelude.{◌≡◌, false, IfOk};
-ghost use Rattle.cca_base.specs.Model.{IsComplete, empty_model};
+ghost use Rattle.cca_base.specs.Prelude.{empty_model, IsComplete};
 ghost use Rattle.std.specs.Prelude.{Ok, map};
 ghost use Rattle.std.specs.List.{AllByRecursion};
 ghost use Rattle.text_base.specs.Tokens.{IsOfItsKind, token_view};
@@ -27,7 +27,7 @@ pub struct ModelReader {
 
 impl std::marker::Model for ModelReader {
     ghost use Rattle.model_syntax.specs.Lines.{ModelSoFar};
-    ghost use Rattle.cca_base.specs.Coded.{model_codes};
+    ghost use Rattle.cca_base.specs.Prelude.{model_codes};
 
     ghost Value = { ModelSoFar };
 

@@ -2,7 +2,7 @@
 
 ghost use Rattle.std.specs.Prelude.{◌≡◌, ◌∷◌, [], codes, OnOk, IfOk, MatchOption};
 ghost use Rattle.text_base.specs.Lexemes.{word, symbol};
-ghost use Rattle.cca_base.specs.PlantModel.{PlantModel};
+ghost use Rattle.cca_base.specs.Prelude.{PlantModel};
 ghost use Rattle.model_syntax.specs.Printing.{among_said, part_said, said, formula_said, name_of, names_in};
 ghost use Rattle.formula_syntax.specs.Lookups.{choices_of};
 ghost use Rattle.model_syntax.specs.Drafts.{with_tokens, word_before};

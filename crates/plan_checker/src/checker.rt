@@ -1,8 +1,7 @@
 //! The checker of a printed trace.
 
 ghost use Rattle.std.specs.Prelude.{◌≡◌, IfOk, OnOk, OnErr};
-ghost use Rattle.cca_base.specs.State.{HasWorlds};
-ghost use Rattle.cca_base.specs.Trace.{start, MayCome, Changes};
+ghost use Rattle.cca_base.specs.Prelude.{start, Changes, HasWorlds, MayCome};
 ghost use Rattle.consistency.specs.Worlds.{AreWorldsOf};
 ghost use Rattle.trace_laws.specs.Events.{AsGiven, IsTick};
 ghost use Rattle.plan_checker.specs.Checked.{TakesAtYes, OnYes, ShowsSuccessor, ShowsReply, ShowsSafety};
@@ -28,7 +27,7 @@ pub struct Checker {
 }
 
 impl std::marker::Model for Checker {
-    ghost use Rattle.cca_base.specs.Trace.{ExecutiveState};
+    ghost use Rattle.cca_base.specs.Prelude.{ExecutiveState};
     ghost use Rattle.plan_checker.specs.Standing.{KeepsPending};
     ghost use Rattle.std.specs.Coded.{codes};
 

@@ -1,9 +1,8 @@
 //! What the estimate costs from the last one and the last command.
 
 ghost use Rattle.std.specs.Prelude.{◌≡◌, ◌↔◌, ◌++◌, ◌∷◌, [], IsTrue, IfOk, List};
+ghost use Rattle.cca_base.specs.Prelude.{Costs, IsState};
 ghost use Rattle.cca_base.specs.declared.model.Failure.{Failure};
-ghost use Rattle.cca_base.specs.State.{IsState};
-ghost use Rattle.cca_base.specs.Successors.{Costs};
 ghost use Rattle.plan_checker.specs.Costs.{lesser_of, IsLeastCost, IsChangeCost, IsTotal};
 
 use crate::rules::Rules;

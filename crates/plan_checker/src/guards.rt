@@ -1,8 +1,7 @@
 //! Whether a move's guard follows from what the move may lean on, or holds in a state.
 
 ghost use Rattle.std.specs.Prelude.{◌≡◌, ◌↔◌, IsTrue, IfOk, Contains};
-ghost use Rattle.cca_base.specs.State.{IsState, Follows, Holds};
-ghost use Rattle.cca_base.specs.Steps.{support};
+ghost use Rattle.cca_base.specs.Prelude.{support, Follows, Holds, IsState};
 ghost use Rattle.plan_checker.specs.Steps.{AreSupport, IsNamed};
 
 use crate::known::{Support, is_leaned_on, is_sure};

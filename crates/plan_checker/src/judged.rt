@@ -2,7 +2,7 @@
 
 ghost use Rattle.std.specs.Prelude.{◌↔◌, IsTrue, IfOk, IfSome};
 ghost use Rattle.std.specs.Option.{option_copied};
-ghost use Rattle.cca_base.specs.State.{HasWorlds};
+ghost use Rattle.cca_base.specs.Prelude.{HasWorlds};
 ghost use Rattle.plan_checker.specs.Checked.{OnYes};
 ghost use Rattle.plan_checker.specs.Reasons.{OnEstimate, HasItsLines, HasItsCost, HasItsWorld, IsWritten, IsVerdict};
 ghost use Rattle.plan_checker.specs.Routes.{IsSendVerdict, IsAnswerVerdict};

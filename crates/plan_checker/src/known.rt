@@ -1,9 +1,8 @@
 //! What the modes that a move may lean on say by themselves of its guard, so that most guards need no search.
 
 ghost use Rattle.std.specs.Prelude.{◌≡◌, ◌↔◌, ℕ, List, IsTrue, IfSome, Some, slice_get};
+ghost use Rattle.cca_base.specs.Prelude.{has, subject_value, truth};
 ghost use Rattle.cca_base.specs.declared.cube.Pair.{Pair};
-ghost use Rattle.cca_base.specs.Formula.{truth, subject_value};
-ghost use Rattle.cca_base.specs.Sets.{has};
 ghost use Rattle.plan_checker.specs.Steps.{IsLeanedOn, HasSupport};
 
 use cca_base::{Formula, Model, State, Subject, ValueSet};

@@ -1,7 +1,7 @@
 //! Whether the lines of a tick belong to it.
 
 ghost use Rattle.std.specs.Prelude.{◌≡◌, ◌↔◌, IsTrue};
-ghost use Rattle.cca_base.specs.Runs.{reply_of, is_send};
+ghost use Rattle.cca_base.specs.Prelude.{is_send, reply_of};
 ghost use Rattle.plan_checker.specs.Reasons.{HasItsLines};
 ghost use Rattle.plan_checker.specs.Ticks.{printed_of};
 

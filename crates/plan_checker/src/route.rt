@@ -2,7 +2,7 @@
 
 ghost use Rattle.std.specs.Prelude.{◌≡◌, ◌↔◌, ◌∷◌, ℕ, List, IsTrue, IfOk, IfSome, IsNone};
 ghost use Rattle.std.specs.Option.{option_map};
-ghost use Rattle.cca_base.specs.State.{IsState, Extends};
+ghost use Rattle.cca_base.specs.Prelude.{Extends, IsState};
 ghost use Rattle.plan_checker.specs.Reasons.{OnCommands};
 ghost use Rattle.plan_checker.specs.Routes.{IsRouteVerdict, EndsInMending};
 

@@ -1,7 +1,7 @@
 //! A model with the clauses of its rules.
 
 ghost use Rattle.std.specs.Prelude.{◌≡◌};
-ghost use Rattle.cca_base.specs.Model.{WellFormed};
+ghost use Rattle.cca_base.specs.Prelude.{WellFormed};
 ghost use Rattle.consistency.specs.Worlds.{AreWorldsOf};
 
 use cca_base::Model;

@@ -1,8 +1,7 @@
 //! Commands one after the other.
 
 ghost use Rattle.std.specs.Prelude.{◌≡◌, false, IsTrue, IfOk};
-ghost use Rattle.cca_base.specs.State.{IsState};
-ghost use Rattle.cca_base.specs.Steps.{Run};
+ghost use Rattle.cca_base.specs.Prelude.{IsState, Run};
 ghost use Rattle.plan_checker.specs.Steps.{NoRun};
 
 use crate::rules::Rules;

@@ -1,7 +1,7 @@
 //! Whether numbers are a state or a world of the model, and whether pairs stand in them.
 
 ghost use Rattle.std.specs.Prelude.{◌≡◌, ◌↔◌, ◌<◌, IsTrue};
-ghost use Rattle.cca_base.specs.State.{IsState, IsWorld, Extends};
+ghost use Rattle.cca_base.specs.Prelude.{Extends, IsState, IsWorld};
 ghost use Rattle.plan_checker.specs.Worlds.{AreValues, KeepsRules};
 
 use cca_base::{Model, Pair, State, World, holds_at};

@@ -1,10 +1,7 @@
 //! One command: the move that it names, its step, and its nominal move.
 
 ghost use Rattle.std.specs.Prelude.{◌≡◌, ◌↔◌, ◌<◌, length, slice_get, Some, IsTrue, IfOk, OnOk, OnErr, IfSome, IsNone, false};
-ghost use Rattle.cca_base.specs.Model.{WellFormed};
-ghost use Rattle.cca_base.specs.State.{IsState};
-ghost use Rattle.cca_base.specs.Steps.{Step};
-ghost use Rattle.cca_base.specs.Successors.{Nominal};
+ghost use Rattle.cca_base.specs.Prelude.{IsState, Nominal, Step, WellFormed};
 ghost use Rattle.plan_checker.specs.Steps.{IsNamed, NoneNamed, NoStep};
 
 use crate::guards::{guard_follows, guard_holds};

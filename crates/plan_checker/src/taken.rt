@@ -1,7 +1,7 @@
 //! What a yes changes.
 
 ghost use Rattle.std.specs.Prelude.{◌≡◌, ◌+◌, ◌<◌, ◌^◌, OnOk, OnErr};
-ghost use Rattle.cca_base.specs.State.{IsState};
+ghost use Rattle.cca_base.specs.Prelude.{IsState};
 ghost use Rattle.plan_checker.specs.Checked.{Takes, TakesEstimate};
 
 use crate::rules::Rules;

@@ -1,7 +1,7 @@
 //! Whether the printed values explain the tick.
 
 ghost use Rattle.std.specs.Prelude.{◌↔◌, IsTrue, IfOk};
-ghost use Rattle.cca_base.specs.State.{IsState, HasWorlds};
+ghost use Rattle.cca_base.specs.Prelude.{HasWorlds, IsState};
 ghost use Rattle.plan_checker.specs.Reasons.{ExplainsTick};
 ghost use Rattle.plan_checker.specs.Standing.{FitsModel, KeepsPending};
 ghost use Rattle.plan_checker.specs.Worlds.{AreSeen, SomeAreSeen};

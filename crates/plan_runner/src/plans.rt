@@ -1,7 +1,7 @@
 //! Whole plans, and the ways back from where they lead.
 
 ghost use Rattle.std.specs.Prelude.{IfOk};
-ghost use Rattle.cca_base.specs.Plans.{IsRoute};
+ghost use Rattle.cca_base.specs.Prelude.{IsRoute};
 ghost use Rattle.reversibility.specs.ClassParts.{CoversState};
 ghost use Rattle.planner_step.specs.Planning.{AreReached, IsGoal};
 ghost use Rattle.plan_runner.specs.Plans.{IsWholePlan};

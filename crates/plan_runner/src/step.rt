@@ -1,8 +1,7 @@
 //! The step of a command.
 
 ghost use Rattle.std.specs.Prelude.{◌≡◌, ℕ, List};
-ghost use Rattle.cca_base.specs.State.{IsState};
-ghost use Rattle.cca_base.specs.Steps.{Step};
+ghost use Rattle.cca_base.specs.Prelude.{IsState, Step};
 
 use cca_base::{Model, Pair, State};
 

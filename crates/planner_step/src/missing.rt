@@ -1,8 +1,7 @@
 //! The first pair that a state does not hold.
 
 ghost use Rattle.std.specs.Prelude.{◌<◌, All, MatchOption, length};
-ghost use Rattle.cca_base.specs.Orders.{IsFirstMissing};
-ghost use Rattle.cca_base.specs.State.{Extends};
+ghost use Rattle.cca_base.specs.Prelude.{Extends, IsFirstMissing};
 
 use cca_base::{Pair, State};
 

@@ -1,11 +1,8 @@
 //! The answer for a goal.
 
 ghost use Rattle.std.specs.Prelude.{◌≡◌, ◌↔◌, ◌+◌, ◌*◌, ◌≤◌, ℕ, List, false, length, Some};
+ghost use Rattle.cca_base.specs.Prelude.{is_unreachable, Extends, IsFirstUnreached, Promising};
 ghost use Rattle.cca_base.specs.declared.cube.Pair.{Pair};
-ghost use Rattle.cca_base.specs.Goals.{IsFirstUnreached};
-ghost use Rattle.cca_base.specs.Plans.{Promising};
-ghost use Rattle.cca_base.specs.Runs.{is_unreachable};
-ghost use Rattle.cca_base.specs.State.{Extends};
 ghost use Rattle.reach_laws.specs.Plans.{IsAnswer};
 ghost use Rattle.reversibility.specs.ClassParts.{CoversState};
 ghost use Rattle.planner_step.specs.declared.answer.Answer.TheVariants.{Achieved, Unreachable};

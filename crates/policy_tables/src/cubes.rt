@@ -1,7 +1,7 @@
 //! What a move waits for: its first prime implicant inside the classes, effects before their causes.
 
 ghost use Rattle.std.specs.Prelude.{◌≡◌, ◌<◌, ℕ, IfOk, MatchOption, All, length, slice_index};
-ghost use Rattle.cca_base.specs.Orders.{IsSorted};
+ghost use Rattle.cca_base.specs.Prelude.{IsSorted};
 ghost use Rattle.policy_tables.specs.Leaving.{IsFirstInside, IsOpenAt, IsCubeOf, AreCubesTo};
 ghost use Rattle.reach_laws.specs.Classes.{AreInside};
 ghost use Rattle.reversibility.specs.ClassParts.{in_row};

@@ -1,7 +1,7 @@
 //! The cells of one component, a row for each mode in which it may stand.
 
 ghost use Rattle.std.specs.Prelude.{◌≡◌, ◌+◌, ◌<◌, IfOk, OnOk, length, slice_index};
-ghost use Rattle.cca_base.specs.Model.{HasMode, mode_counts};
+ghost use Rattle.cca_base.specs.Prelude.{mode_counts, HasMode};
 ghost use Rattle.policy_tables.specs.Filling.{MayStand, AreRightRows, AreRightCells};
 ghost use Rattle.policy_tables.specs.Leaving.{IsLeavingOf};
 ghost use Rattle.reach_laws.specs.Cells.{IsCell};

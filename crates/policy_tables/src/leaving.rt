@@ -2,7 +2,7 @@
 //! the cells.
 
 ghost use Rattle.std.specs.Prelude.{◌≡◌, ◌<◌, ℕ, AllPairs, IfOk, length};
-ghost use Rattle.cca_base.specs.Relations.{AreExactly};
+ghost use Rattle.cca_base.specs.Prelude.{AreExactly};
 ghost use Rattle.policy_tables.specs.Leaving.{LeavesMode, IsLeavingOf};
 ghost use Rattle.reversibility.specs.Levels.{AreMovesWithin, IsAmong};
 ghost use Rattle.reversibility.specs.ClassParts.{in_row};

@@ -1,7 +1,7 @@
 //! The tables of all components, and what is read in them.
 
 ghost use Rattle.std.specs.Prelude.{◌≡◌, ◌+◌, ◌⊎◌, ◌↔◌, ◌<◌, IsTrue, IfOk, true, Some, length, slice_index, slice_get};
-ghost use Rattle.cca_base.specs.Model.{HasMode};
+ghost use Rattle.cca_base.specs.Prelude.{HasMode};
 ghost use Rattle.reach_laws.specs.Cells.{cell_at, IsCell};
 ghost use Rattle.reach_laws.specs.Classes.{Stands};
 ghost use Rattle.reversibility.specs.ClassParts.{CoversState, in_row};
@@ -32,7 +32,7 @@ impl std::marker::Model for Tables {
 
     ghost Value = { TableParts };
 
-    ghost use Rattle.cca_base.specs.Coded.{model_codes};
+    ghost use Rattle.cca_base.specs.Prelude.{model_codes};
 
     ghost coded = { Prim.hlevel model_codes };
 

@@ -1,7 +1,7 @@
 //! Pure subjects: one value of theirs makes all clauses true that name them, so consensus adds nothing.
 
 ghost use Rattle.std.specs.Prelude.{◌≡◌, ◌||◌, slice_index};
-ghost use Rattle.cca_base.specs.Sets.{has};
+ghost use Rattle.cca_base.specs.Prelude.{has};
 ghost use Rattle.prime_implicants.specs.DenseClauses.{have_value, is_pure, is_zero};
 
 use crate::dense_clause::DenseClause;

@@ -1,9 +1,9 @@
 //! Clauses as dense rows of value sets.
 
 ghost use Rattle.std.specs.Prelude.{◌≡◌, ℕ, true, ◌≤◌, ◌<◌, ◌||◌, All, IfOk, OnOk, length, nat_le, slice_index, take};
+ghost use Rattle.cca_base.specs.Prelude.{has};
 ghost use Rattle.cca_base.specs.declared.limits.TheConstants.{MAX_ROWS};
 ghost use Rattle.clause_form.specs.Clauses.{AreBelow, AreClauses, is_met, is_true, meets};
-ghost use Rattle.cca_base.specs.Sets.{has};
 ghost use Rattle.prime_implicants.specs.Partial.{Values, given};
 ghost use Rattle.prime_implicants.specs.DenseClauses.{AreDense, row_unfalsified, is_wide, is_zero};
 

@@ -1,7 +1,7 @@
 //! Lines behind a program, read one by one.
 
 ghost use Rattle.std.specs.Prelude.{Ok, map, IfOk, IfSome};
-ghost use Rattle.cca_base.specs.Trace.{MayCome};
+ghost use Rattle.cca_base.specs.Prelude.{MayCome};
 ghost use Rattle.script_reader.specs.EventLines.{AnswersAs, as_event, by_tokens};
 ghost use Rattle.script_reader.specs.Items.{shown_item};
 ghost use Rattle.text_base.specs.Tokens.{token_view};

@@ -1,15 +1,13 @@
 //! The lines behind an accepted model: a control program, and the events behind it.
 
 ghost use Rattle.std.specs.Prelude.{◌≡◌, ◌&&◌, ◌+◌, ◌<◌, ◌≤◌, ◌^◌, not, None, Option, Some, IfOk, IfSome, OnErr, OnOk};
-ghost use Rattle.cca_base.specs.Accepted.{IsCompiled};
-ghost use Rattle.cca_base.specs.Plans.{Promising};
-ghost use Rattle.cca_base.specs.Trace.{MayCome};
+ghost use Rattle.cca_base.specs.Prelude.{IsCompiled, MayCome, Promising};
+ghost use Rattle.cca_base.specs.declared.events.Event.{Event};
+ghost use Rattle.cca_base.specs.declared.events.Event.TheVariants.{Tick};
 ghost use Rattle.formula_syntax.specs.Lookups.{NamesFit};
 ghost use Rattle.line_machine.specs.Next.{next_of};
 ghost use Rattle.line_machine.specs.declared.machine.TheConstants.{MAX_LINES};
 ghost use Rattle.model_form.specs.FormStates.{form_first};
-ghost use Rattle.cca_base.specs.declared.events.Event.{Event};
-ghost use Rattle.cca_base.specs.declared.events.Event.TheVariants.{Tick};
 ghost use Rattle.control_laws.specs.Turns.{TurnsBy};
 ghost use Rattle.control_syntax.specs.Kept.{MayRunSoFar};
 ghost use Rattle.script_reader.specs.EventLines.{AnswersAs};
@@ -56,7 +54,7 @@ pub struct Programmed {
 
 impl std::marker::Model for Programmed {
     ghost use Rattle.control_program.specs.Codes.{control_coded};
-    ghost use Rattle.cca_base.specs.Coded.{model_codes};
+    ghost use Rattle.cca_base.specs.Prelude.{model_codes};
     ghost use Rattle.formula_syntax.specs.Lookups.{NamesFit};
     ghost use Rattle.program_form.specs.ProgramMachine.{ProgramState};
     ghost use Rattle.control_syntax.specs.contracts.block.Block as blocks;
@@ -408,7 +406,7 @@ impl Programmed {
 // By the clauses of the trait a line gives `ProgramSteps`, and the end of the input `ProgramCloses` (specs/ProgramMachine.antt).
 impl Machine for Programmed {
     ghost use Rattle.std.specs.Prelude.{false};
-    ghost use Rattle.cca_base.specs.Refusals.{bare};
+    ghost use Rattle.cca_base.specs.Prelude.{bare};
     ghost use Rattle.model_form.specs.declared.limits.TheConstants.{MAX_LINE};
     ghost use Rattle.trace_text.specs.Json.{refusal_text};
     ghost use Rattle.program_form.specs.ProgramMachine.{ProgramAwaits, ProgramCloses, ProgramSteps};

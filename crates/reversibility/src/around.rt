@@ -1,8 +1,8 @@
 //! The class of a component: the strongly connected component of its home among the modes that open moves lead to.
 
 ghost use Rattle.std.specs.Prelude.{◌≡◌, ◌<◌, ◌≤◌, ◌↔◌, ℕ, IfOk, IfSome, IsNone, IsTrue, MatchOption, length};
+ghost use Rattle.cca_base.specs.Prelude.{HasMode};
 ghost use Rattle.cca_base.specs.declared.limits.TheConstants.{MAX_CHOICES};
-ghost use Rattle.cca_base.specs.Model.{HasMode};
 ghost use Rattle.reversibility.specs.Homes.{IsAround, IsHomeBy, IsHomeFrom, IsClassFrom};
 ghost use Rattle.reversibility.specs.Levels.{AreMovesWithin, MoveLeads};
 ghost use Rattle.reversibility.specs.ClassParts.{in_row};

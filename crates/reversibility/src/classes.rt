@@ -1,8 +1,7 @@
 //! For each component the modes that have a way back around a state, and which components are mendable.
 
 ghost use Rattle.std.specs.Prelude.{◌≡◌, ◌↔◌, ◌<◌, IsTrue, IfOk, length, slice_index};
-ghost use Rattle.cca_base.specs.Flags.{is_set};
-ghost use Rattle.cca_base.specs.State.{IsState};
+ghost use Rattle.cca_base.specs.Prelude.{is_set, IsState};
 ghost use Rattle.reach_laws.specs.Classes.{Covers, Stands};
 ghost use Rattle.reversibility.specs.Chains.{AreOpenChains};
 ghost use Rattle.reversibility.specs.ClassParts.{IsClasses, CoversState, in_row};
@@ -29,7 +28,7 @@ impl std::marker::Model for Classes {
 
     ghost Value = { ClassParts };
 
-    ghost use Rattle.cca_base.specs.Coded.{model_codes};
+    ghost use Rattle.cca_base.specs.Prelude.{model_codes};
 
     ghost coded = { Prim.hlevel model_codes };
 

@@ -2,7 +2,7 @@
 //! component needs alone.
 
 ghost use Rattle.std.specs.Prelude.{◌+◌, ◌-◌, ◌<◌, OnOk, drop, length};
-ghost use Rattle.cca_base.specs.State.{IsState};
+ghost use Rattle.cca_base.specs.Prelude.{IsState};
 ghost use Rattle.reversibility.specs.Homes.{AreDone};
 
 use crate::around::class_around;

@@ -1,9 +1,7 @@
 //! The script behind an accepted model, made line by line.
 
 ghost use Rattle.std.specs.Prelude.{◌≡◌, ◌+◌, ◌-◌, ◌<◌, ◌≤◌, ◌^◌, ℕ, [], IfOk, IfSome, option_to_list};
-ghost use Rattle.cca_base.specs.Accepted.{IsCompiled};
-ghost use Rattle.cca_base.specs.Plans.{Promising};
-ghost use Rattle.cca_base.specs.Trace.{start, MayCome};
+ghost use Rattle.cca_base.specs.Prelude.{start, IsCompiled, MayCome, Promising};
 ghost use Rattle.formula_syntax.specs.Lookups.{NamesFit};
 ghost use Rattle.line_machine.specs.Next.{next_of};
 ghost use Rattle.line_machine.specs.declared.machine.TheConstants.{MAX_LINES};
@@ -36,7 +34,7 @@ pub struct Script {
 impl std::marker::Model for Script {
     ghost use Rattle.formula_syntax.specs.Lookups.{NamesFit};
     ghost use Rattle.run_form.specs.ScriptMachine.{ScriptState};
-    ghost use Rattle.cca_base.specs.Coded.{model_codes};
+    ghost use Rattle.cca_base.specs.Prelude.{model_codes};
 
     ghost Value = { ScriptState };
 
@@ -171,7 +169,7 @@ impl Script {
 
 // By the clauses of the trait a line gives `ScriptSteps`, and the end of the input `ScriptCloses` (specs/ScriptMachine.antt).
 impl Machine for Script {
-    ghost use Rattle.cca_base.specs.Refusals.{bare};
+    ghost use Rattle.cca_base.specs.Prelude.{bare};
     ghost use Rattle.model_form.specs.declared.limits.TheConstants.{MAX_LINE};
     ghost use Rattle.trace_text.specs.Json.{refusal_text};
     ghost use Rattle.run_form.specs.Notations.{is_json};

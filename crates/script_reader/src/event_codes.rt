@@ -2,7 +2,7 @@
 
 ghost use Rattle.std.specs.Prelude.{◌≡◌, not};
 ghost use Rattle.std.specs.List.{list_any};
-ghost use Rattle.cca_base.specs.Sets.{has};
+ghost use Rattle.cca_base.specs.Prelude.{has};
 ghost use Rattle.script_reader.specs.EventCodes.{has_item, has_item_twice, is_sensed, is_broken_pair, goal_code, observe_code, mirror_code};
 
 use crate::context::Context;

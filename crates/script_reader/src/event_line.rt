@@ -2,7 +2,7 @@
 
 ghost use Rattle.std.specs.Prelude.{Ok, map, IfOk, IfSome};
 ghost use Rattle.text_base.specs.Tokens.{token_view};
-ghost use Rattle.cca_base.specs.Trace.{MayCome};
+ghost use Rattle.cca_base.specs.Prelude.{MayCome};
 ghost use Rattle.script_reader.specs.Items.{shown_item};
 ghost use Rattle.script_reader.specs.EventLines.{AnswersAs, as_event, by_tokens, event_of, event_line};
 

@@ -3,10 +3,10 @@
 ghost use Rattle.std.specs.Prelude.{◌≡◌, ◌↔◌, ℕ, List, [], Some, None, Ok, Err};
 ghost use Rattle.text_base.specs.Tokens.{tokens_of};
 ghost use Rattle.text_base.specs.Lexemes.{Lexeme};
+ghost use Rattle.cca_base.specs.Prelude.{PlantModel};
 ghost use Rattle.cca_base.specs.declared.codes.TheConstants.{MALFORMED};
 ghost use Rattle.cca_base.specs.declared.cube.Pair.{Pair};
 ghost use Rattle.cca_base.specs.declared.events.Event.{Event};
-ghost use Rattle.cca_base.specs.PlantModel.{PlantModel};
 ghost use Rattle.script_reader.specs.Items.{Item, IsSpelled, item_of, spelling};
 ghost use Rattle.script_reader.specs.EventLines.{as_event, event_of, event_line};
 ghost use Rattle.script_reader.specs.Laws.{Spells, IsMalformed, IsLeastCode, Applies, IsNamed};

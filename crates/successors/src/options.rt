@@ -1,7 +1,7 @@
 //! The choices of all components at a tick.
 
 ghost use Rattle.std.specs.Prelude.{◌≡◌, IfOk};
-ghost use Rattle.cca_base.specs.State.{IsState};
+ghost use Rattle.cca_base.specs.Prelude.{IsState};
 ghost use Rattle.successors.specs.Choices.{AreChoices, mode_after};
 
 use crate::row::{least_costs, row_of};

@@ -2,10 +2,7 @@
 //! takes the mode of each fault.
 
 ghost use Rattle.std.specs.Prelude.{◌≡◌, ◌<◌, IfOk, Some, length, slice_set};
-ghost use Rattle.cca_base.specs.PlantModel.{PlantModel};
-ghost use Rattle.cca_base.specs.Model.{HasMode};
-ghost use Rattle.cca_base.specs.State.{IsState, start_modes};
-ghost use Rattle.cca_base.specs.Successors.{Nominal};
+ghost use Rattle.cca_base.specs.Prelude.{start_modes, HasMode, IsState, Nominal, PlantModel};
 
 use crate::sent::obey;
 use cca_base::{Compiled, List, Pair, State};

@@ -1,11 +1,8 @@
 //! The choices of one component: its nominal mode, and each mode to which a failure leads, at the failure's least cost.
 
 ghost use Rattle.std.specs.Prelude.{◌≡◌, ◌≢◌, All, map, Some, ◌<◌, ◌↔◌, ℕ, Contains, None, IfOk, OnOk, List, ◌++◌, ◌∷◌, [], length, slice_index, slice_index_or};
-ghost use Rattle.cca_base.specs.Model.{HasMode, mode_counts};
-ghost use Rattle.cca_base.specs.State.{IsState};
-ghost use Rattle.cca_base.specs.Successors.{ChangeCosts};
+ghost use Rattle.cca_base.specs.Prelude.{mode_counts, ChangeCosts, HasMode, IsRow, IsState};
 ghost use Rattle.cca_base.specs.declared.model.Failure.{Failure};
-ghost use Rattle.cca_base.specs.Choices.{IsRow};
 ghost use Rattle.successors.specs.Choices.{AreLeast, AreAllLeast, IsLeast, AreChanges, IsAdded, lesser_of};
 
 use cca_base::{Choice, Component, Failure, List, Model};

@@ -1,9 +1,7 @@
 //! Where a command sends a component, and the plant with it. A guard is tested by the prime implicants of its move, so this takes no memory.
 
 ghost use Rattle.std.specs.Prelude.{◌≡◌, ◌↔◌, ◌<◌, IsTrue, IfSome, IsNone, Some, length, slice_get};
-ghost use Rattle.cca_base.specs.Model.{HasMode};
-ghost use Rattle.cca_base.specs.State.{IsState};
-ghost use Rattle.cca_base.specs.Successors.{IsCommanded, Nominal};
+ghost use Rattle.cca_base.specs.Prelude.{HasMode, IsCommanded, IsState, Nominal};
 ghost use Rattle.cca_base.specs.declared.model.Move.{Move};
 ghost use Rattle.successors.specs.Nominal.{IsSent, NoneSent, SomeStands};
 

@@ -3,7 +3,7 @@
 ghost use Rattle.std.specs.Prelude.{◌≡◌, length, ◌≤◌};
 ghost use Rattle.std.specs.List.{list_all, prefix_len};
 ghost use Rattle.std.specs.Char.{is_ascii_digit};
-ghost use Rattle.cca_base.specs.Names.{is_word_byte};
+ghost use Rattle.cca_base.specs.Prelude.{is_word_byte};
 ghost use Rattle.text_base.specs.Bytes.{is_blank, is_symbol, is_comment_byte};
 
 /// Whether the byte is a space or a tab.

@@ -1,7 +1,7 @@
 //! Words that are names.
 
 ghost use Rattle.std.specs.Prelude.{◌≡◌, false, IfSome, IfNone, IsTrue};
-ghost use Rattle.cca_base.specs.Names.{is_word, is_reserved, is_name};
+ghost use Rattle.cca_base.specs.Prelude.{is_name, is_reserved, is_word};
 
 use crate::bytes::are_word_bytes;
 use cca_base::{MAX_NAME, Name};

@@ -1,8 +1,7 @@
 //! What bears on which events may come next: the observations that are pending, and the variables that are mirrored.
 
 ghost use Rattle.std.specs.Prelude.{◌≡◌, [], IfOk};
-ghost use Rattle.cca_base.specs.Cube.{IsRising};
-ghost use Rattle.cca_base.specs.Trace.{MayCome};
+ghost use Rattle.cca_base.specs.Prelude.{IsRising, MayCome};
 ghost use Rattle.trace_laws.specs.Events.{PendingAfter, mirrored_after};
 
 use cca_base::{Event, List, Model, Seen, VarSet};

@@ -1,9 +1,7 @@
 //! Where an executive stands, and what each event but a tick changes of it.
 
 ghost use Rattle.std.specs.Prelude.{◌≡◌, [], IfOk, OnOk, OnErr};
-ghost use Rattle.cca_base.specs.Cube.{IsRising};
-ghost use Rattle.cca_base.specs.State.{IsState, start_modes};
-ghost use Rattle.cca_base.specs.Trace.{start, MayCome, Changes, command_of};
+ghost use Rattle.cca_base.specs.Prelude.{command_of, start, start_modes, Changes, IsRising, IsState, MayCome};
 ghost use Rattle.trace_laws.specs.Events.{AsGiven, IsTick};
 
 use crate::known::{Known, nothing_seen};
@@ -31,7 +29,7 @@ pub struct Standing {
 impl std::marker::Model for Standing {
     ghost use Rattle.std.specs.Coded.{codes};
     ghost use Rattle.std.specs.Option.{option_map};
-    ghost use Rattle.cca_base.specs.Trace.{ExecutiveState};
+    ghost use Rattle.cca_base.specs.Prelude.{ExecutiveState};
 
     ghost Value = { ExecutiveState };
 

@@ -3,7 +3,7 @@
 ghost use Rattle.std.specs.Prelude.{◌≡◌, ◌<◌, ◌≤◌, ◌^◌, Some, All, length, map, nat_eq, IfOk, IfSome, OnOk};
 ghost use Rattle.std.specs.Cmp.Lexicographic.{pointwise};
 ghost use Rattle.indexmap.specs.IndexMap.{Updates};
-ghost use Rattle.cca_base.specs.Names.{AreNames};
+ghost use Rattle.cca_base.specs.Prelude.{AreNames};
 ghost use Rattle.formula_syntax.specs.Lookups.{place_of};
 ghost use Rattle.model_syntax.specs.Reader.{NumbersFit};
 ghost use Rattle.trace_text.specs.LineWords.{IsReadFrom};

@@ -3,8 +3,8 @@
 ghost use Rattle.std.specs.Prelude.{◌≡◌, ◌≢◌, ◌↔◌, ◌<◌, ◌≤◌, ◌^◌, [], ◌∷◌, ◌++◌, ℕ, List, codes, length, map, slice_get, IfOk, IfSome, IsTrue, MatchOption};
 ghost use Rattle.std.specs.Fmt.{decimal};
 ghost use Rattle.std.specs.Option.{option_map};
+ghost use Rattle.cca_base.specs.Prelude.{IsState};
 ghost use Rattle.cca_base.specs.declared.limits.TheConstants.{MAX_CHOICES};
-ghost use Rattle.cca_base.specs.State.{IsState};
 ghost use Rattle.formula_syntax.specs.Lookups.{place_of};
 ghost use Rattle.trace_text.specs.LineWords.{AreChosen, IsReadFrom, mode_words, plan_words, choice_words, value_words};
 ghost use Rattle.trace_text.specs.Names.{HaveChoices, choice_text, name_at, rows_of};

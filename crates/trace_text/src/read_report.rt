@@ -2,8 +2,7 @@
 
 ghost use Rattle.std.specs.Prelude.{◌≡◌, [], ◌∷◌, codes, map, IfOk};
 ghost use Rattle.std.specs.Fmt.{decimal};
-ghost use Rattle.cca_base.specs.PlantModel.{PlantModel};
-ghost use Rattle.cca_base.specs.Model.{HasMode};
+ghost use Rattle.cca_base.specs.Prelude.{HasMode, PlantModel};
 ghost use Rattle.trace_text.specs.LineWords.{IsReadFrom, reply_words, report_words, shown_words};
 ghost use Rattle.trace_text.specs.Names.{pair_text_at};
 ghost use Rattle.trace_text.specs.TraceLines.{FitsReply, FitsReport, FitsShown};

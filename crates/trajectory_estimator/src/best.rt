@@ -2,7 +2,7 @@
 //! trajectory, the box is split by the reason.
 
 ghost use Rattle.std.specs.Prelude.{◌≡◌, ◌≤◌, All, IfOk, length, map};
-ghost use Rattle.cca_base.specs.State.{IsState};
+ghost use Rattle.cca_base.specs.Prelude.{IsState};
 ghost use Rattle.trajectory_estimator.specs.Asked.{AreValues, IsBestOf, entry_of, modes_of};
 ghost use Rattle.trajectory_estimator.specs.Reasons.{AreNoted};
 ghost use Rattle.trajectory_estimator.specs.Splits.{IsBestBox};

@@ -1,7 +1,7 @@
 //! Why a gate is as it is in a state.
 
 ghost use Rattle.std.specs.Prelude.{◌≡◌, ◌≢◌, ◌<◌, Contains, IfOk, IfSome, IsNone, Some, false, length, slice_get, true};
-ghost use Rattle.cca_base.specs.State.{Extends, IsState};
+ghost use Rattle.cca_base.specs.Prelude.{Extends, IsState};
 ghost use Rattle.trajectory_estimator.specs.Reasons.{AreFailing, IsCauseOf, ShowsGuard};
 
 use crate::clash::{push_pairs, standing};

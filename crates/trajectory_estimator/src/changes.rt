@@ -1,7 +1,7 @@
 //! What the failures of each component cost, from each of its modes.
 
 ghost use Rattle.std.specs.Prelude.{◌≡◌, ◌<◌, ◌≤◌, [], All, IfOk, length, slice_index_or};
-ghost use Rattle.cca_base.specs.Model.{IsComponent};
+ghost use Rattle.cca_base.specs.Prelude.{IsComponent};
 ghost use Rattle.cca_base.specs.declared.limits.TheConstants.{MAX_CHOICES};
 ghost use Rattle.trajectory_estimator.specs.Changes.{AreChangesOf, row_at};
 ghost use Rattle.trajectory_estimator.specs.Columns.{AreNear};

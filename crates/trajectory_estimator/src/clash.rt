@@ -1,7 +1,7 @@
 //! Clashes that a box's first states hold: one that was noted before, or a fresh one.
 
 ghost use Rattle.std.specs.Prelude.{◌≡◌, ◌++◌, ◌<◌, Contains, IfOk, IfSome, IsNone, OnOk, length, map, true};
-ghost use Rattle.cca_base.specs.State.{Extends};
+ghost use Rattle.cca_base.specs.Prelude.{Extends};
 ghost use Rattle.trajectory_estimator.specs.Boxes.{IsBox, IsReason};
 ghost use Rattle.trajectory_estimator.specs.Reasons.{AreNoted, AtEach, CanShowAt, IsClashAt, NoCube, NoneStands, pair_limit};
 

@@ -1,7 +1,7 @@
 //! One component's cheapest modes through a window, by dynamic programming from the last record to the first (Bellman).
 
 ghost use Rattle.std.specs.Prelude.{◌≡◌, ◌<◌, ◌≤◌, ◌+◌, ◌*◌, ◌^◌, All, IfOk, IfSome, IsNone, OnOk, length, slice_index};
-ghost use Rattle.cca_base.specs.Model.{HasMode};
+ghost use Rattle.cca_base.specs.Prelude.{HasMode};
 ghost use Rattle.cca_base.specs.declared.limits.TheConstants.{MAX_COST};
 ghost use Rattle.trajectory_estimator.specs.Boxes.{IsColumn, NoColumn};
 ghost use Rattle.trajectory_estimator.specs.Columns.{AreAllLandings, IsBestColumn, NoBest, with_step};

@@ -1,7 +1,7 @@
 //! One component of a question: where it may go from each mode at each record, and what it costs at least from there to the end.
 
 ghost use Rattle.std.specs.Prelude.{◌≡◌, ◌<◌, ◌≤◌, ◌+◌, IfOk, length, slice_index};
-ghost use Rattle.cca_base.specs.Model.{HasMode, WellFormed, mode_counts};
+ghost use Rattle.cca_base.specs.Prelude.{mode_counts, HasMode, WellFormed};
 ghost use Rattle.trajectory_estimator.specs.Columns.{AreAllLandings, AreLandings, AreTargets, IsKept, IsRestCost, IsStepFrom};
 ghost use Rattle.trajectory_estimator.specs.declared.record.TheConstants.{MAX_WINDOW};
 

@@ -1,8 +1,7 @@
 //! Gates of a box that are other than those that its first states really have.
 
 ghost use Rattle.std.specs.Prelude.{◌≡◌, ◌↔◌, ◌<◌, ℕ, All, Contains, IfOk, IfSome, IsNone, IsTrue, length};
-ghost use Rattle.cca_base.specs.Model.{HasMode, IsMove};
-ghost use Rattle.cca_base.specs.State.{IsState};
+ghost use Rattle.cca_base.specs.Prelude.{HasMode, IsMove, IsState};
 ghost use Rattle.trajectory_estimator.specs.Boxes.{IsBox, IsReason};
 ghost use Rattle.trajectory_estimator.specs.Reasons.{AtEach, CostsAlike, IsCauseBefore, IsGoodAt, IsNamedBy, sent_to, state_before};
 ghost use Rattle.trajectory_estimator.specs.declared.record.TheConstants.{MAX_WINDOW};

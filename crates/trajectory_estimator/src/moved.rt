@@ -1,8 +1,7 @@
 //! Where a command's own moves send a component.
 
 ghost use Rattle.std.specs.Prelude.{◌≡◌, ◌<◌, ◌↔◌, IfSome, IsNone, IsTrue, length};
-ghost use Rattle.cca_base.specs.Accepted.{IsCompiled};
-ghost use Rattle.cca_base.specs.Model.{WellFormed};
+ghost use Rattle.cca_base.specs.Prelude.{IsCompiled, WellFormed};
 ghost use Rattle.trajectory_estimator.specs.Asked.{IsCommandOf};
 ghost use Rattle.trajectory_estimator.specs.Columns.{IsOwnTarget, NoOwn};
 

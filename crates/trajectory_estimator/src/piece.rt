@@ -1,7 +1,7 @@
 //! A box with other modes of one component.
 
 ghost use Rattle.std.specs.Prelude.{◌≡◌, ◌≢◌, ◌<◌, ◌≤◌, ◌+◌, ℕ, Bool, List, true, All, IfOk, IfSome, IsNone, length, max, slice_index_or, slice_set};
-ghost use Rattle.cca_base.specs.State.{IsState};
+ghost use Rattle.cca_base.specs.Prelude.{IsState};
 ghost use Rattle.trajectory_estimator.specs.Limits.{IsLimit, box_of};
 ghost use Rattle.trajectory_estimator.specs.Pieces.{AreGatesWith, IsBoxTo, IsWay, Narrows, with_column};
 

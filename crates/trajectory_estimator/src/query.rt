@@ -1,8 +1,7 @@
 //! What is asked of a window, with what is made once for all questions.
 
 ghost use Rattle.std.specs.Prelude.{◌≡◌, ◌≤◌, All, length, map};
-ghost use Rattle.cca_base.specs.Accepted.{IsCompiled};
-ghost use Rattle.cca_base.specs.State.{IsState};
+ghost use Rattle.cca_base.specs.Prelude.{IsCompiled, IsState};
 ghost use Rattle.consistency.specs.Worlds.{AreWorldsOf};
 ghost use Rattle.trajectory_estimator.specs.Asked.{AreValues, entry_of};
 ghost use Rattle.trajectory_estimator.specs.Changes.{AreChangesOf};
@@ -29,7 +28,7 @@ pub struct Query<'a> {
 
 impl<'a> std::marker::Model for Query<'a> {
     ghost use Rattle.std.specs.Prelude.{◌≡◌, map};
-    ghost use Rattle.cca_base.specs.Coded.{model_codes};
+    ghost use Rattle.cca_base.specs.Prelude.{model_codes};
     ghost use Rattle.trajectory_estimator.specs.Asked.{Asked, entry_of};
     ghost use Rattle.trajectory_estimator.specs.Queries.{IsQuery};
 

@@ -1,7 +1,7 @@
 //! What one component's step costs.
 
 ghost use Rattle.std.specs.Prelude.{◌<◌, length};
-ghost use Rattle.cca_base.specs.Model.{HasMode};
+ghost use Rattle.cca_base.specs.Prelude.{HasMode};
 ghost use Rattle.successors.specs.Choices.{IsChange};
 
 use crate::query::Query;

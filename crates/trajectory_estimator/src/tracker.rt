@@ -1,8 +1,7 @@
 //! A tracker: it follows a plant that somebody else commands, keeps the last ticks open, and revises them by what is seen later.
 
 ghost use Rattle.std.specs.Prelude.{◌≡◌, ◌<◌, ◌≤◌, false, ◌+◌, ◌-◌, ◌^◌, IfOk, OnErr, OnOk, drop, length, map};
-ghost use Rattle.cca_base.specs.Accepted.{IsCompiled};
-ghost use Rattle.cca_base.specs.State.{IsState, start_modes};
+ghost use Rattle.cca_base.specs.Prelude.{start_modes, IsCompiled, IsState};
 ghost use Rattle.trajectory_estimator.specs.Asked.{AreValues, IsBestOf, entry_of, modes_of};
 ghost use Rattle.trajectory_estimator.specs.Tracked.{TicksBy, tracked_start};
 ghost use Rattle.trajectory_estimator.specs.NextWindows.{IsNextWindow, IsWindowIn};
@@ -38,7 +37,7 @@ pub struct Tracker {
 }
 
 impl Model for Tracker {
-    ghost use Rattle.cca_base.specs.Coded.{model_codes};
+    ghost use Rattle.cca_base.specs.Prelude.{model_codes};
     ghost use Rattle.trajectory_estimator.specs.Queries.{IsTracker};
     ghost use Rattle.trajectory_estimator.specs.Tracked.{Tracked, stands};
 

@@ -1,9 +1,7 @@
 //! The lines behind an accepted model, in which target states are asked for.
 
 ghost use Rattle.std.specs.Prelude.{All, IfOk, OnErr, OnOk, length, ◌<◌, ◌≡◌, ◌≤◌};
-ghost use Rattle.cca_base.specs.Model.{HasMode, IsFormula};
-ghost use Rattle.cca_base.specs.PlantModel.{PlantModel};
-ghost use Rattle.cca_base.specs.State.{IsState};
+ghost use Rattle.cca_base.specs.Prelude.{HasMode, IsFormula, IsState, PlantModel};
 ghost use Rattle.goal_interpreter.specs.declared.weights.TheConstants.{MAX_WEIGHT};
 ghost use Rattle.reversibility.specs.ClassParts.{CoversState};
 ghost use Rattle.want_form.specs.Wishes.{put_in};
@@ -45,12 +43,11 @@ pub struct Wishing {
 }
 
 impl std::marker::Model for Wishing {
-    ghost use Rattle.cca_base.specs.State.{IsState};
+    ghost use Rattle.cca_base.specs.Prelude.{model_codes, IsState};
     ghost use Rattle.formula_syntax.specs.Lookups.{NamesFit};
     ghost use Rattle.goal_interpreter.specs.Weights.{AreWeights};
     ghost use Rattle.guard_compiler.specs.Rules.{AreRulesOf};
     ghost use Rattle.want_form.specs.WishMachine.{WishState};
-    ghost use Rattle.cca_base.specs.Coded.{model_codes};
 
     ghost Value = { WishState };
 
@@ -195,7 +192,7 @@ impl Wishing {
 // By the clauses of the trait a line gives `WantSteps`, and the end of the input `EndsAtEnd` (specs/WishMachine.antt).
 impl Machine for Wishing {
     ghost use Rattle.std.specs.Prelude.{⊤, false};
-    ghost use Rattle.cca_base.specs.Refusals.{bare};
+    ghost use Rattle.cca_base.specs.Prelude.{bare};
     ghost use Rattle.model_form.specs.NoLines.{EndsAtEnd, end_one_way};
     ghost use Rattle.model_form.specs.declared.limits.TheConstants.{MAX_LINE};
     ghost use Rattle.trace_text.specs.Json.{refusal_text};

@@ -2,7 +2,7 @@
 
 ghost use Rattle.std.specs.Prelude.{◌≡◌, ◌++◌, ◌+◌, ◌<◌, ◌≤◌, ◌^◌, All, IfOk, IfSome, OnOk};
 ghost use Rattle.std.specs.Option.{is_some};
-ghost use Rattle.cca_base.specs.State.{HasValue};
+ghost use Rattle.cca_base.specs.Prelude.{HasValue};
 ghost use Rattle.line_machine.specs.Next.{next_of};
 ghost use Rattle.line_machine.specs.declared.machine.TheConstants.{MAX_LINES};
 ghost use Rattle.model_form.specs.FormStates.{form_first};
@@ -40,7 +40,7 @@ pub struct Watching {
 
 impl std::marker::Model for Watching {
     ghost use Rattle.std.specs.Prelude.{◌≡◌};
-    ghost use Rattle.cca_base.specs.Coded.{model_codes};
+    ghost use Rattle.cca_base.specs.Prelude.{model_codes};
     ghost use Rattle.formula_syntax.specs.Lookups.{NamesFit};
     ghost use Rattle.model_syntax.specs.Reader.{NumbersFit};
     ghost use Rattle.trajectory_estimator.specs.Asked.{AreValues, entry_of};
@@ -206,7 +206,7 @@ impl Watching {
 // By the clauses of the trait a line gives `WatchSteps`, and the end of the input `EndsAtEnd` (specs/WatchMachine.antt).
 impl Machine for Watching {
     ghost use Rattle.std.specs.Prelude.{false};
-    ghost use Rattle.cca_base.specs.Refusals.{bare};
+    ghost use Rattle.cca_base.specs.Prelude.{bare};
     ghost use Rattle.model_form.specs.NoLines.{EndsAtEnd, end_one_way};
     ghost use Rattle.model_form.specs.declared.limits.TheConstants.{MAX_LINE};
     ghost use Rattle.trace_text.specs.Json.{refusal_text};
