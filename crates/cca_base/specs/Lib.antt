@@ -11,6 +11,7 @@ pub mod Formula
 pub mod Goals
 pub mod Implicants
 pub mod Laws
+pub mod LeastCosts
 pub mod Model
 pub mod MoveIndex
 pub mod Names

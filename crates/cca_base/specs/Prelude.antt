@@ -7,6 +7,7 @@ pub use Rattle.cca_base.specs.Estimates.{IsEarlier}
 pub use Rattle.cca_base.specs.Flags.{is_set, unset, IsSet}
 pub use Rattle.cca_base.specs.Formula.{is_within, subject_value, subject_within, truth}
 pub use Rattle.cca_base.specs.Goals.{IsFirstUnreached}
+pub use Rattle.cca_base.specs.LeastCosts.{lesser_of, IsChange, IsLeast}
 pub use Rattle.cca_base.specs.Model.{empty_model, in_second, is_broken, mode_counts, value_counts, with_command, with_component, with_failure, with_move, with_rule, with_variable, HasMode, IsComplete, IsComponent, IsFormula, IsInChain, IsMove, WellFormed}
 pub use Rattle.cca_base.specs.Names.{is_name, is_reserved, is_word, is_word_byte, AreNames}
 pub use Rattle.cca_base.specs.Orders.{IsEffectsFirst, IsFirstMissing, IsSorted}

@@ -9,6 +9,7 @@ use Rattle.list_laws.proofs.Kept.{filter_less}
 use Rattle.cca_base.specs.declared.cube.Pair.{Pair}
 use Rattle.cca_base.specs.declared.model.Move.{Move}
 use Rattle.cca_base.specs.PlantModel.{PlantModel}
+use Rattle.cca_base.specs.Cube.{IsPart}
 use Rattle.cca_base.specs.Model.{HasMode}
 use Rattle.cca_base.specs.Implicants.{Suffices, PrimeImplicant, source_pair}
 use Rattle.cca_base.specs.Repairs.{pairs_from}
@@ -53,6 +54,55 @@ one_pair cube rises p q in_p in_q same =
       | inr (inr gt) ↦ absurd (omega (arith, rises in_q.0 in_p.0 p gt in_p.1, item_p, item_q, same))
     ]
 
+-- what holds of a cube holds of one with more pairs, and can be decided: so a rising cube of which it holds has a minimal part
+module _ (Holds : List Pair → Type 0) (more : (few more : List Pair) → ((p : Pair) → Contains few p → Contains more p) → Holds few → Holds more)
+    (decide : (cube : List Pair) → Dec (Holds cube)) where
+  -- a rising part of the cube of which it holds, and of no proper part of it
+  pub record IsLeastPart (cube few : List Pair) : Type 0 where
+    pub rises : Rises few
+    pub holds : Holds few
+    pub minimal : (part : List Pair) → IsPart part few → Holds part → IsPart few part
+    pub among : (p : Pair) → Contains few p → Contains cube p
+
+  abbrev without : Pair → List Pair → List Pair
+  without p cube = filter (λ q. not (q.item == p.item)) cube
+
+  -- A cube none of whose pairs can be left out is minimal.
+  least_when : (cube : List Pair) → Rises cube → Holds cube → ((p : Pair) → Contains cube p → Holds (without p cube) → ⊥) → IsLeastPart cube cube
+  least_when cube rises holds none = record {
+    rises = rises;
+    holds = holds;
+    minimal = λ part is_part held. all_from (Contains part) cube (λ p among.
+        elim (search_list (λ (q : Pair). q.item ≡ p.item) (λ q. dec_equal q.item p.item) part) [
+          | inl found ↦ subst (Contains part) (one_pair cube rises found.0 p (All-contains (Contains cube) part found.0 is_part found.1) among found.2) found.1
+          | inr apart ↦ absurd (none p among (more part (without p cube)
+              (λ q in_part. to_filter (λ r. not (r.item == p.item)) cube q (not_from_false (q.item == p.item) (ne_eqb q.item p.item (apart q in_part)))
+              (All-contains (Contains cube) part q is_part in_part)) held))
+        ]);
+    among = λ p inside. inside;
+  }
+
+  part_within : (n : ℕ) (cube : List Pair) → length cube ≤ n → Rises cube → Holds cube → (few : List Pair) × IsLeastPart cube few
+  part_within zero cube le rises holds = (cube, least_when cube rises holds (λ p among _. omega (arith, le, among.1)))
+  part_within (suc n) cube le rises holds =
+      elim (search_list (λ p. Holds (without p cube)) (λ p. decide (without p cube)) cube) [
+        | inl found ↦
+            let p : Pair = found.0 in
+            let less : length (without p cube) < length cube =
+            filter_less (λ q. not (q.item == p.item)) cube p found.1 (not_from_true (p.item == p.item) (eq-eqb p.item p.item refl)) in
+            let rest = part_within n (without p cube) (omega (arith, less, le)) (AllPairs-filter (λ a b. a.item < b.item) (λ q. not (q.item == p.item)) cube rises) found.2 in
+            (rest.0, record {
+              rises = rest.1.rises;
+              holds = rest.1.holds;
+              minimal = rest.1.minimal;
+              among = λ q inside. (from_filter (λ r. not (r.item == p.item)) cube q (rest.1.among q inside)).1;
+            })
+        | inr none ↦ (cube, least_when cube rises holds none)
+      ]
+
+  pub least_part : (cube : List Pair) → Rises cube → Holds cube → (few : List Pair) × IsLeastPart cube few
+  least_part cube = part_within (length cube) cube (omega arith)
+
 module _ (m : PlantModel) (move : Move) where
   pub suffices_more : (few more : List Pair) → ((p : Pair) → Contains few p → Contains more p) → Suffices m move few → Suffices m move more
   suffices_more few more part h t state extends =
@@ -70,50 +120,23 @@ module _ (m : PlantModel) (move : Move) where
     pub others : (p : Pair) → Contains cube p → p.item ≢ move.component
     pub suffices : Suffices m move cube
 
-  abbrev without : Pair → List Pair → List Pair
-  without p cube = filter (λ q. not (q.item == p.item)) cube
-
-  smaller : (cube : List Pair) (p : Pair) → Candidate cube → Suffices m move (without p cube) → Candidate (without p cube)
-  smaller cube p c suffices = record {
-    rises = AllPairs-filter (λ a b. a.item < b.item) (λ q. not (q.item == p.item)) cube c.rises;
-    modes = λ q among. c.modes q (from_filter (λ r. not (r.item == p.item)) cube q among).1;
-    others = λ q among. c.others q (from_filter (λ r. not (r.item == p.item)) cube q among).1;
-    suffices = suffices;
-  }
-
-  -- A candidate none of whose pairs can be left out is minimal.
-  prime_when : (cube : List Pair) → Candidate cube → ((p : Pair) → Contains cube p → Suffices m move (without p cube) → ⊥) → PrimeImplicant m move cube
-  prime_when cube c none = record {
-    rising = c.rises;
-    modes = all_from (λ p. HasMode m p.item p.value) cube c.modes;
-    others = all_from (λ p. p.item ≢ move.component) cube c.others;
-    suffices = c.suffices;
-    minimal = λ part is_part suffices. all_from (Contains part) cube (λ p among.
-        elim (search_list (λ (q : Pair). q.item ≡ p.item) (λ q. dec_equal q.item p.item) part) [
-          | inl found ↦ subst (Contains part) (one_pair cube c.rises found.0 p (All-contains (Contains cube) part found.0 is_part found.1) among found.2) found.1
-          | inr apart ↦ absurd (none p among (suffices_more part (without p cube)
-              (λ q in_part. to_filter (λ r. not (r.item == p.item)) cube q (not_from_false (q.item == p.item) (ne_eqb q.item p.item (apart q in_part)))
-              (All-contains (Contains cube) part q is_part in_part)) suffices))
-        ]);
-  }
-
-  pub minimal_part : (n : ℕ) (cube : List Pair) → length cube ≤ n → Candidate cube → (prime : List Pair) × PrimeImplicant m move prime × ((p : Pair) → Contains prime p → Contains cube p)
-  minimal_part zero cube le c = (cube, prime_when cube c (λ p among _. omega (arith, le, among.1)), λ p among. among)
-  minimal_part (suc n) cube le c =
-      elim (search_list (λ p. Suffices m move (without p cube))
-      (λ p. dec_follows m (source_pair move ∷ without p cube) move.guard) cube) [
-        | inl found ↦
-            let p : Pair = found.0 in
-            let less : length (without p cube) < length cube =
-            filter_less (λ q. not (q.item == p.item)) cube p found.1 (not_from_true (p.item == p.item) (eq-eqb p.item p.item refl)) in
-            let rest = minimal_part n (without p cube) (omega (arith, less, le)) (smaller cube p c found.2) in
-            (rest.0, rest.1, λ q among. (from_filter (λ r. not (r.item == p.item)) cube q (rest.2 q among)).1)
-        | inr none ↦ (cube, prime_when cube c none, λ p among. among)
-      ]
+  pub minimal_part : (cube : List Pair) → Candidate cube → (prime : List Pair) × PrimeImplicant m move prime × ((p : Pair) → Contains prime p → Contains cube p)
+  minimal_part cube c =
+      let (few, least) = least_part (Suffices m move) suffices_more (λ q. dec_follows m (source_pair move ∷ q) move.guard) cube c.rises c.suffices in (
+        few,
+        record {
+          rising = least.rises;
+          modes = all_from (λ p. HasMode m p.item p.value) few (λ p inside. c.modes p (least.among p inside));
+          others = all_from (λ p. p.item ≢ move.component) few (λ p inside. c.others p (least.among p inside));
+          suffices = least.holds;
+          minimal = least.minimal;
+        },
+        least.among,
+      )
 
 pub prime_parts : SufficientCubesHavePrimes
 prime_parts m move cube h =
-    let found = minimal_part m move (length cube) cube (omega arith) (record {
+    let found = minimal_part m move cube (record {
       rises = h.rising;
       modes = λ p among. All-contains (λ q. HasMode m q.item q.value) cube p h.modes among;
       others = λ p among. All-contains (λ q. q.item ≢ move.component) cube p h.others among;

@@ -11,8 +11,8 @@ use Rattle.cca_base.specs.Cube.{IsRising}
 use Rattle.cca_base.specs.Model.{HasMode}
 use Rattle.cca_base.specs.State.{Follows}
 use Rattle.cca_base.proofs.Members.{all_from, contains_cases, contains_here, contains_none, to_filter, from_filter}
-use Rattle.cca_laws.proofs.Decided.{dec_follows, dec_equal}
-use Rattle.cca_laws.proofs.Minimal.{search_list, one_pair}
+use Rattle.cca_laws.proofs.Decided.{dec_follows}
+use Rattle.cca_laws.proofs.Minimal.{least_part}
 use Rattle.guard_compiler.specs.Conjunctions.{AddsWish, all_of, IsConjunction}
 use Rattle.guard_compiler.specs.LeastUnions.{AreLeastUnions}
 use Rattle.guard_compiler.specs.Wishes.{AreImplicants, IsImplicant}
@@ -34,42 +34,18 @@ module _ (m : PlantModel) (f : Formula) where
     pub modes : (p : Pair) → Contains cube p → HasMode m p.item p.value
     pub follows : Follows m cube f
 
-  abbrev without : Pair → List Pair → List Pair
-  without p cube = filter (λ q. not (q.item == p.item)) cube
-
-  smaller : (cube : List Pair) (p : Pair) → Candidate cube → Follows m (without p cube) f → Candidate (without p cube)
-  smaller cube p c follows = record {
-    rises = AllPairs-filter (λ a b. a.item < b.item) (λ q. not (q.item == p.item)) cube c.rises;
-    modes = λ q among. c.modes q (from_filter (λ r. not (r.item == p.item)) cube q among).1;
-    follows = follows;
-  }
-
-  implicant_when : (cube : List Pair) → Candidate cube → ((p : Pair) → Contains cube p → Follows m (without p cube) f → ⊥) → IsImplicant m f cube
-  implicant_when cube c none = record {
-    rising = c.rises;
-    modes = all_from (λ p. HasMode m p.item p.value) cube c.modes;
-    follows = c.follows;
-    minimal = λ part is_part follows. all_from (Contains part) cube (λ p among.
-        elim (search_list (λ (q : Pair). q.item ≡ p.item) (λ q. dec_equal q.item p.item) part) [
-          | inl found ↦ subst (Contains part) (one_pair cube c.rises found.0 p (All-contains (Contains cube) part found.0 is_part found.1) among found.2) found.1
-          | inr apart ↦ absurd (none p among (follows_more part (without p cube)
-              (λ q in_part. to_filter (λ r. not (r.item == p.item)) cube q (not_from_false (q.item == p.item) (ne_eqb q.item p.item (apart q in_part)))
-              (All-contains (Contains cube) part q is_part in_part)) follows))
-        ]);
-  }
-
-  pub minimal_part : (n : ℕ) (cube : List Pair) → length cube ≤ n → Candidate cube → (prime : List Pair) × IsImplicant m f prime × ((p : Pair) → Contains prime p → Contains cube p)
-  minimal_part zero cube le c = (cube, implicant_when cube c (λ p among _. omega (arith, le, among.1)), λ p among. among)
-  minimal_part (suc n) cube le c =
-      elim (search_list (λ p. Follows m (without p cube) f) (λ p. dec_follows m (without p cube) f) cube) [
-        | inl found ↦
-            let p : Pair = found.0 in
-            let less : length (without p cube) < length cube =
-            filter_less (λ q. not (q.item == p.item)) cube p found.1 (not_from_true (p.item == p.item) (eq-eqb p.item p.item refl)) in
-            let rest = minimal_part n (without p cube) (omega (arith, less, le)) (smaller cube p c found.2) in
-            (rest.0, rest.1, λ q among. (from_filter (λ r. not (r.item == p.item)) cube q (rest.2 q among)).1)
-        | inr none ↦ (cube, implicant_when cube c none, λ p among. among)
-      ]
+  pub minimal_part : (cube : List Pair) → Candidate cube → (prime : List Pair) × IsImplicant m f prime × ((p : Pair) → Contains prime p → Contains cube p)
+  minimal_part cube c =
+      let (few, least) = least_part (λ q. Follows m q f) follows_more (λ q. dec_follows m q f) cube c.rises c.follows in (
+        few,
+        record {
+          rising = least.rises;
+          modes = all_from (λ p. HasMode m p.item p.value) few (λ p inside. c.modes p (least.among p inside));
+          follows = least.holds;
+          minimal = least.minimal;
+        },
+        least.among,
+      )
 
 -- ---- the implicants of a conjunction
 
@@ -93,7 +69,7 @@ module _ (m : PlantModel) where
   has_parts f = record {
     more = follows_more m f;
     some = λ cube up modes follows.
-        let found = minimal_part m f (length cube) cube (omega arith) (record { rises = up; modes = λ p among. All-contains IsOfModel cube p modes among; follows = follows }) in
+        let found = minimal_part m f cube (record { rises = up; modes = λ p among. All-contains IsOfModel cube p modes among; follows = follows }) in
         (found.0, is_minimal f found.0 found.1, all_from (Contains cube) found.0 found.2);
   }
 

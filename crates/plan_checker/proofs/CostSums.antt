@@ -14,14 +14,15 @@ use Rattle.cca_base.specs.State.{IsState}
 use Rattle.cca_base.specs.Successors.{Costs, ChangeCosts, Nominal}
 use Rattle.cca_base.proofs.NominalLaws.{one_nominal}
 use Rattle.cca_laws.proofs.CostLaws.{one_cost}
-use Rattle.plan_checker.specs.Costs.{failing, lesser_of, IsLeastCost, IsChangeCost, AreParts, IsTotal}
+use Rattle.cca_base.specs.LeastCosts.{failing, lesser_of, IsLeast, IsChange}
+use Rattle.plan_checker.specs.Costs.{AreParts, IsTotal}
 
 -- ---- least costs
 
 module _ (failures : List Failure) (x : Failure) (c from to : ℕ) where
   -- a failure of this kind
-  pub least_more : (known : Option ℕ) → x.component ≡ c → x.source ≡ from → x.target ≡ to → IsLeastCost failures c from to known
-      → IsLeastCost (failures ++ x ∷ []) c from to (Some (lesser_of known x.cost))
+  pub least_more : (known : Option ℕ) → x.component ≡ c → x.source ≡ from → x.target ≡ to → IsLeast failures c from to known
+      → IsLeast (failures ++ x ∷ []) c from to (Some (lesser_of known x.cost))
   least_more None own leaves leads none =
       let is : x ≡ failing c from to x.cost = λ i. record { component = own i; source = leaves i; target = leads i; cost = x.cost } in (
         subst (Contains (failures ++ x ∷ [])) is (Contains-push failures x),
@@ -47,7 +48,7 @@ module _ (failures : List Failure) (x : Failure) (c from to : ℕ) where
       )
 
   -- a failure of another kind
-  pub least_same : (known : Option ℕ) → ((cost : ℕ) → x ≡ failing c from to cost → ⊥) → IsLeastCost failures c from to known → IsLeastCost (failures ++ x ∷ []) c from to known
+  pub least_same : (known : Option ℕ) → ((cost : ℕ) → x ≡ failing c from to cost → ⊥) → IsLeast failures c from to known → IsLeast (failures ++ x ∷ []) c from to known
   least_same None other none = λ cost among. elim (Contains-push_cases failures x (failing c from to cost) among) [
     | inl before ↦ none cost before
     | inr e ↦ other cost e
@@ -66,7 +67,7 @@ no_change : (m : PlantModel) (c from nominal to cost : ℕ) → to ≢ nominal �
 no_change m c from nominal to cost other none (inl (same, nothing)) = other same
 no_change m c from nominal to cost other none (inr (apart, failure, least)) = none failure
 
-pub change_of : (m : PlantModel) (c from nominal to : ℕ) (known : Option ℕ) → to ≢ nominal → IsLeastCost m.failures c from to known → IsChangeCost m c from nominal to known
+pub change_of : (m : PlantModel) (c from nominal to : ℕ) (known : Option ℕ) → to ≢ nominal → IsLeast m.failures c from to known → IsChange m c from nominal to known
 change_of m c from nominal to None other none = λ cost h. no_change m c from nominal to cost other (none cost) h
 change_of m c from nominal to (Some known) other (has, least) = inr (other, has, least)
 

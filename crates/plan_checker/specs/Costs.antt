@@ -4,25 +4,6 @@ use Rattle.cca_base.specs.declared.model.Failure.{Failure}
 use Rattle.cca_base.specs.PlantModel.{PlantModel}
 use Rattle.cca_base.specs.Successors.{ChangeCosts}
 
--- a failure of the component between two modes, at this cost
-abbrev pub failing : ℕ → ℕ → ℕ → ℕ → Failure
-failing c from to cost = record { component = c; source = from; target = to; cost = cost }
-
--- the least cost of such failures among these, if there is one
-abbrev pub IsLeastCost : List Failure → ℕ → ℕ → ℕ → Option ℕ → Type 0
-IsLeastCost failures c from to None = (cost : ℕ) → Contains failures (failing c from to cost) → ⊥
-IsLeastCost failures c from to (Some least) = Contains failures (failing c from to least) × ((cost : ℕ) → Contains failures (failing c from to cost) → least ≤ cost)
-
--- the lesser of a cost and one that may be known
-abbrev pub lesser_of : Option ℕ → ℕ → ℕ
-lesser_of None cost = cost
-lesser_of (Some known) cost = min known cost
-
--- what the component's change costs, if it has a cost
-abbrev pub IsChangeCost : PlantModel → ℕ → ℕ → ℕ → ℕ → Option ℕ → Type 0
-IsChangeCost m c from nominal to None = (cost : ℕ) → ChangeCosts m c from nominal to cost → ⊥
-IsChangeCost m c from nominal to (Some cost) = ChangeCosts m c from nominal to cost
-
 -- the costs are those of the first components' changes
 pub record AreParts (m : PlantModel) (s nominal s2 : List ℕ) (count : ℕ) (parts : List ℕ) : Type 0 where
   pub full : length parts ≡ count

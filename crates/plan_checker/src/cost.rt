@@ -1,9 +1,9 @@
 //! What the estimate costs from the last one and the last command.
 
 ghost use Rattle.std.specs.Prelude.{◌≡◌, ◌↔◌, ◌++◌, ◌∷◌, [], IsTrue, IfOk, List};
-ghost use Rattle.cca_base.specs.Prelude.{Costs, IsState};
+ghost use Rattle.cca_base.specs.Prelude.{lesser_of, Costs, IsChange, IsLeast, IsState};
 ghost use Rattle.cca_base.specs.declared.model.Failure.{Failure};
-ghost use Rattle.plan_checker.specs.Costs.{lesser_of, IsLeastCost, IsChangeCost, IsTotal};
+ghost use Rattle.plan_checker.specs.Costs.{IsTotal};
 
 use crate::rules::Rules;
 use crate::states::is_state;
@@ -29,8 +29,8 @@ fn with_failure(
     from: u8,
     to: u8,
 ) -> Option<u32>
-    ensures { (fs : List Failure) → IsLeastCost fs component from to least →
-        IsLeastCost (fs ++ failure.now ∷ []) component from to result }
+    ensures { (fs : List Failure) → IsLeast fs component from to least →
+        IsLeast (fs ++ failure.now ∷ []) component from to result }
 {
     if failure.component != component {
         return least;
@@ -46,7 +46,7 @@ fn with_failure(
 
 /// The least cost of a failure of the component from one mode to another. None comes exactly where there is none.
 fn least_cost(model: &Model, component: u16, from: u8, to: u8) -> Option<u32>
-    ensures { IsLeastCost model.now.failures component from to result }
+    ensures { IsLeast model.now.failures component from to result }
 {
     let mut least: Option<u32> = None;
     for failure in model.failures().as_slice() {
@@ -57,7 +57,7 @@ fn least_cost(model: &Model, component: u16, from: u8, to: u8) -> Option<u32>
 
 /// What it costs the component to go from one mode to another. None comes exactly where it has no cost.
 fn change_cost(model: &Model, component: u16, from: u8, nominal: u8, to: u8) -> Option<u32>
-    ensures { IsChangeCost model.now component from nominal to result }
+    ensures { IsChange model.now component from nominal to result }
 {
     if to == nominal {
         return Some(0);

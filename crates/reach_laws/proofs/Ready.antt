@@ -55,7 +55,7 @@ steps_are_ready m s t k state step =
                 ]
           ]));
     } in
-    let found = minimal_part m step.move (length cube) cube (omega arith) candidate in
+    let found = minimal_part m step.move cube candidate in
     record {
       cube = found.0;
       prime = found.1;

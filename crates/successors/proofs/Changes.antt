@@ -22,7 +22,8 @@ use Rattle.cca_base.proofs.Members.{all_from, contains_here, contains_there, con
 use Rattle.cca_base.specs.declared.choice.Choice.{Choice}
 use Rattle.cca_base.specs.declared.limits.TheConstants.{MAX_COST}
 use Rattle.cca_base.specs.Choices.{IsRow, choice_cmp}
-use Rattle.successors.specs.Choices.{AreLeast, AreAllLeast, IsLeast, IsChange, AreChanges, IsAdded, failing, lesser_of, same_mode}
+use Rattle.cca_base.specs.LeastCosts.{IsLeast, IsChange, failing, lesser_of}
+use Rattle.successors.specs.Choices.{AreLeast, AreAllLeast, AreChanges, IsAdded, same_mode}
 use Rattle.cca_laws.proofs.CostLaws.{one_change}
 
 cost_of : (f : Failure) (c from to k : ℕ) → f ≡ failing c from to k → f.cost ≡ k

@@ -1,5 +1,5 @@
 -- Rows of choices, and what each component may become.
-use Rattle.std.specs.Prelude.{◌≡◌, ◌↔◌, ℕ, ◌<◌, ◌≤◌, List, [], ◌∷◌, ◌++◌, length, All, Contains, Option, Some, None, Bool, ◌==◌, min, if◌then◌else◌, slice_set, slice_index, slice_index_or}
+use Rattle.std.specs.Prelude.{◌≡◌, ◌↔◌, ℕ, ◌<◌, ◌≤◌, List, [], ◌∷◌, ◌++◌, length, All, Contains, Option, Some, None, Bool, ◌==◌, if◌then◌else◌, slice_set, slice_index, slice_index_or}
 use Rattle.cca_base.specs.declared.cube.Pair.{Pair}
 use Rattle.cca_base.specs.declared.model.Failure.{Failure}
 use Rattle.cca_base.specs.PlantModel.{PlantModel}
@@ -7,15 +7,7 @@ use Rattle.cca_base.specs.Model.{HasMode, mode_counts}
 use Rattle.cca_base.specs.Successors.{Nominal, ChangeCosts}
 use Rattle.cca_base.specs.declared.choice.Choice.{Choice}
 use Rattle.cca_base.specs.Choices.{IsRow, AreRows}
-
--- a failure of the component between these modes, at this cost
-abbrev pub failing : ℕ → ℕ → ℕ → ℕ → Failure
-failing c from to cost = record { component = c; source = from; target = to; cost = cost }
-
--- the least cost of such failures among these, if there is one
-abbrev pub IsLeast : List Failure → ℕ → ℕ → ℕ → Option ℕ → Type 0
-IsLeast failures c from to None = (cost : ℕ) → Contains failures (failing c from to cost) → ⊥
-IsLeast failures c from to (Some k) = Contains failures (failing c from to k) × ((cost : ℕ) → Contains failures (failing c from to cost) → k ≤ cost)
+use Rattle.cca_base.specs.LeastCosts.{IsLeast}
 
 -- the least costs of the component's failures from a mode, mode by mode
 abbrev pub AreLeast : List Failure → ℕ → ℕ → List (Option ℕ) → Type 0
@@ -24,16 +16,6 @@ AreLeast fs c from costs = (mode : ℕ) → mode < length costs → IsLeast fs c
 -- the same of each component, from its mode
 abbrev pub AreAllLeast : List Failure → List ℕ → List (List (Option ℕ)) → Type 0
 AreAllLeast fs s table = (c : ℕ) → c < length table → AreLeast fs c (slice_index s c) (slice_index_or table c [])
-
--- the lesser of a cost and one that may be known
-abbrev pub lesser_of : Option ℕ → ℕ → ℕ
-lesser_of None cost = cost
-lesser_of (Some k) cost = min k cost
-
--- what the component's change to the mode costs, if it can change to it
-abbrev pub IsChange : PlantModel → ℕ → ℕ → ℕ → ℕ → Option ℕ → Type 0
-IsChange m c from nominal to None = (cost : ℕ) → ChangeCosts m c from nominal to cost → ⊥
-IsChange m c from nominal to (Some k) = ChangeCosts m c from nominal to k
 
 -- exactly the changes to modes below this one
 abbrev pub AreChanges : PlantModel → ℕ → ℕ → ℕ → ℕ → List Choice → Type 0

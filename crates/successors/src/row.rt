@@ -1,9 +1,9 @@
 //! The choices of one component: its nominal mode, and each mode to which a failure leads, at the failure's least cost.
 
 ghost use Rattle.std.specs.Prelude.{◌≡◌, ◌≢◌, All, map, Some, ◌<◌, ◌↔◌, ℕ, Contains, None, IfOk, OnOk, List, ◌++◌, ◌∷◌, [], length, slice_index, slice_index_or};
-ghost use Rattle.cca_base.specs.Prelude.{mode_counts, ChangeCosts, HasMode, IsRow, IsState};
+ghost use Rattle.cca_base.specs.Prelude.{lesser_of, mode_counts, ChangeCosts, HasMode, IsLeast, IsRow, IsState};
 ghost use Rattle.cca_base.specs.declared.model.Failure.{Failure};
-ghost use Rattle.successors.specs.Choices.{AreLeast, AreAllLeast, IsLeast, AreChanges, IsAdded, lesser_of};
+ghost use Rattle.successors.specs.Choices.{AreLeast, AreAllLeast, AreChanges, IsAdded};
 
 use cca_base::{Choice, Component, Failure, List, Model};
 use std::alloc::{AllocError, Global};

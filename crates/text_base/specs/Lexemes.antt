@@ -36,12 +36,7 @@ abbrev pub same_kind : Kind → Kind → Bool
 same_kind Word Word = true
 same_kind Number Number = true
 same_kind Symbol Symbol = true
-same_kind Word Number = false
-same_kind Word Symbol = false
-same_kind Number Word = false
-same_kind Number Symbol = false
-same_kind Symbol Word = false
-same_kind Symbol Number = false
+same_kind a b = false
 
 -- the second is the first
 abbrev pub is_lexeme : Lexeme → Lexeme → Bool

@@ -14,6 +14,7 @@ use Rattle.cca_laws.proofs.Tiny.{one_at, two_at}
 use Rattle.trace_laws.specs.Examples.{lit_record, sent_on}
 use Rattle.trace_laws.specs.Held.{IsHeldStretch}
 use Rattle.trace_laws.specs.HeldExamples.{HeldIsExcused, HeldIsLost, HeldIsServed, HeldSentTwice, IsNoneHeld, asked_again, held_ticks, other_goal, wrong_estimate}
+use Rattle.trace_laws.proofs.LampTicks.{lost, not_achieved}
 
 -- a goal that is set leaves the plant alone
 goal_alone : All LeavesPlantAlone (event.Goal lit ∷ [])
@@ -55,12 +56,6 @@ held_is_served = (
     stands = held_stands;
   },
 )
-
-not_achieved : (k : ℕ) → ◌≡◌ {A = Option Reply} (Some (Send k)) (Some Achieved) → ⊥
-not_achieved k e = absurd cc
-
-lost : (c mode : ℕ) → ◌≡◌ {A = Option Reply} (Some (Unreachable c mode)) (Some Achieved) → ⊥
-lost c mode e = absurd cc
 
 pub held_sent_twice : HeldSentTwice
 held_sent_twice h = not_achieved 1 ((h lit 0 1 (two_held 1 (Send 1))).stands 1 (asked_again 1 (Some 0) 1 (Send 1)) (omega arith) (omega arith) refl)

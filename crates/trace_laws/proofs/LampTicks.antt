@@ -50,10 +50,10 @@ lit_is_served = (
   },
 )
 
-not_achieved : (k : ℕ) → ◌≡◌ {A = Option Reply} (Some (Send k)) (Some Achieved) → ⊥
+pub not_achieved : (k : ℕ) → ◌≡◌ {A = Option Reply} (Some (Send k)) (Some Achieved) → ⊥
 not_achieved k e = absurd cc
 
-lost : (c mode : ℕ) → ◌≡◌ {A = Option Reply} (Some (Unreachable c mode)) (Some Achieved) → ⊥
+pub lost : (c mode : ℕ) → ◌≡◌ {A = Option Reply} (Some (Unreachable c mode)) (Some Achieved) → ⊥
 lost c mode e = absurd cc
 
 true_false : true ≡ false → ⊥

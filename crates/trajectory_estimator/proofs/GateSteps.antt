@@ -11,7 +11,7 @@ use Rattle.cca_base.specs.State.{IsState}
 use Rattle.cca_base.specs.Successors.{ChangeCosts}
 use Rattle.cca_base.proofs.Commands.{same_component, same_move}
 use Rattle.cca_laws.proofs.CostLaws.{one_change}
-use Rattle.successors.specs.Choices.{IsChange}
+use Rattle.cca_base.specs.LeastCosts.{IsChange}
 use Rattle.trajectory_estimator.specs.Reasons.{IsAsGood, IsNamedBy, sent_to, StepCosts}
 use Rattle.window_laws.specs.Columns.{IsGate, IsOwn, Sends}
 

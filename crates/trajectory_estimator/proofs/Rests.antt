@@ -14,7 +14,7 @@ use Rattle.cca_base.specs.PlantModel.{PlantModel}
 use Rattle.cca_base.specs.Relations.{numbers_below}
 use Rattle.cca_base.specs.Successors.{ChangeCosts}
 use Rattle.cca_base.proofs.Commands.{same_move}
-use Rattle.successors.specs.Choices.{failing}
+use Rattle.cca_base.specs.LeastCosts.{failing}
 use Rattle.trajectory_estimator.specs.Asked.{Asked}
 use Rattle.trajectory_estimator.specs.Limits.{can_be, may_stand}
 use Rattle.trajectory_estimator.specs.Columns.{IsBestRest, IsRest, may_take}

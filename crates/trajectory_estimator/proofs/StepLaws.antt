@@ -6,7 +6,8 @@ use Rattle.list_laws.proofs.Places.{some_at}
 use Rattle.cca_base.specs.Model.{HasMode, WellFormed, mode_counts}
 use Rattle.cca_base.specs.Relations.{numbers_below}
 use Rattle.cca_base.specs.Successors.{ChangeCosts}
-use Rattle.successors.specs.Choices.{AreLeast, IsLeast}
+use Rattle.cca_base.specs.LeastCosts.{IsLeast}
+use Rattle.successors.specs.Choices.{AreLeast}
 use Rattle.trajectory_estimator.specs.Asked.{Asked}
 use Rattle.trajectory_estimator.specs.Limits.{can_be, may_stand}
 use Rattle.trajectory_estimator.specs.Columns.{AreLandings, AreTargets, IsBestRest, IsRest, IsStepFrom, IsTarget, StepsOn, cost_of, may_take}

@@ -1,8 +1,7 @@
 //! What one component's step costs.
 
 ghost use Rattle.std.specs.Prelude.{◌<◌, length};
-ghost use Rattle.cca_base.specs.Prelude.{HasMode};
-ghost use Rattle.successors.specs.Choices.{IsChange};
+ghost use Rattle.cca_base.specs.Prelude.{HasMode, IsChange};
 
 use crate::query::Query;
 use successors::change;

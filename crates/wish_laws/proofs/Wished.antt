@@ -29,7 +29,7 @@ module _ (m : PlantModel) (f : Formula) where
   holds_by_implicant t state = (
     (λ holds.
         let whole = pairs_of t in
-        let found = minimal_part m f (length whole) whole (omega arith) (record {
+        let found = minimal_part m f whole (record {
           rises = pairs_rise 0 t;
           modes = λ p among. (let at = stands_in t p among in
               let inside : p.item < length t = slice_get_within t p.item p.value at in

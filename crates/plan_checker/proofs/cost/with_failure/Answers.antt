@@ -1,6 +1,6 @@
 use Rattle.std.proofs.Common.{[], ◌∷◌, ◌++◌, Some, ap, subst, sym}
 use Rattle.cca_base.specs.declared.model.Failure.{Failure}
-use Rattle.plan_checker.specs.Costs.{IsLeastCost}
+use Rattle.cca_base.specs.LeastCosts.{IsLeast}
 use Rattle.plan_checker.proofs.CostSums.{least_more, least_same}
 use Rattle.plan_checker.proofs.cost.with_failure.Goals as goal
 
@@ -18,5 +18,5 @@ returns-then-failure-to c fs h =
 
 pub returns : goal.returns
 returns c fs h =
-    subst (λ n. IsLeastCost (fs ++ c.args.failure.now ∷ []) c.args.component c.args.from c.args.to (Some n)) (sym c.lesser.ensures)
+    subst (λ n. IsLeast (fs ++ c.args.failure.now ∷ []) c.args.component c.args.from c.args.to (Some n)) (sym c.lesser.ensures)
     (least_more fs c.args.failure.now c.args.component c.args.from c.args.to c.args.least c.if-failure-component.false c.if-failure-from.false c.if-failure-to.false h)

@@ -3,7 +3,8 @@ use Rattle.std.proofs.lemmas.List.{get_or_default}
 use Rattle.cca_base.specs.Model.{mode_counts}
 use Rattle.cca_base.specs.declared.model.Component.{Component}
 use Rattle.cca_base.specs.Choices.{IsRow}
-use Rattle.successors.specs.Choices.{AreChanges, IsLeast}
+use Rattle.cca_base.specs.LeastCosts.{IsLeast}
+use Rattle.successors.specs.Choices.{AreChanges}
 use Rattle.successors.proofs.Changes.{row_none, row_more, change_is, row_sorted, sorted_each, mode_count}
 use Rattle.successors.proofs.row.row_of.Goals as goal
 
