@@ -151,7 +151,7 @@ module _ {X : Type 0} where
       ap (λ n. take n (xs ++ x ∷ [])) shorter ∙ take-append_seam xs (x ∷ [])
 
   -- what was pushed and taken back again
-  pub popped : (xs : List X) (x : X) (more less : List X) → less ≡ take (length more - 1) more → more ≡ xs ++ x ∷ [] → less ≡ xs
+  popped : (xs : List X) (x : X) (more less : List X) → less ≡ take (length more - 1) more → more ≡ xs ++ x ∷ [] → less ≡ xs
   popped xs x more less took pushed = took ∙ ap (λ (ys : List X). take (length ys - 1) ys) pushed ∙ last_taken xs x
 
   -- the rows without the last number of one, which was put there
@@ -290,13 +290,15 @@ module _ (cs : List Component) (ks : List (List ℕ)) (moves : List Move) (x y :
         | inr plain ↦ subst (AreNexts (moves ++ move ∷ [])) (sym (cond-false move.repair grown x.next.items plain)) (nexts_stay moves move x.next.items plain h.next)
       ]
 
--- a model that is as it was has an index with the same rows
-pub same_model : (m n : PlantModel) (x y : MoveIndex) → n ≡ m → SameRows x y → WellFormed m × IsIndex m.components m.commands m.moves x
-    → WellFormed n × IsIndex n.components n.commands n.moves y
-same_model m n x y same rows (well, index) = (
-  subst WellFormed (sym same) well,
-  subst (λ (o : PlantModel). IsIndex o.components o.commands o.moves y) (sym same) (rows_same m.components m.commands m.moves x y index rows),
-)
+-- a model from one of whose lists the last element was taken, after it was pushed, has an index with the same rows
+pub put_back : {X : Type 0} (m : PlantModel) (with_list : List X → PlantModel) (xs : List X) (x : X) (more less : List X) (old new : MoveIndex) → with_list xs ≡ m
+    → less ≡ take (length more - 1) more → more ≡ xs ++ x ∷ [] → SameRows old new → WellFormed m × IsIndex m.components m.commands m.moves old
+    → WellFormed (with_list less) × IsIndex (with_list less).components (with_list less).commands (with_list less).moves new
+put_back m with_list xs x more less old new own took pushed rows (well, index) =
+    let same : with_list less ≡ m = ap with_list (popped xs x more less took pushed) ∙ own in (
+      subst WellFormed (sym same) well,
+      subst (λ (o : PlantModel). IsIndex o.components o.commands o.moves new) (sym same) (rows_same m.components m.commands m.moves old new index rows),
+    )
 
 -- ---- a move of the model has its rows
 

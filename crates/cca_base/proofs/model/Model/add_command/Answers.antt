@@ -1,8 +1,8 @@
-use Rattle.std.proofs.Common.{List, ℕ, sym, ap, subst}
+use Rattle.std.proofs.Common.{List, ℕ, refl, sym, subst}
 use Rattle.cca_base.specs.PlantModel.{PlantModel, plant_model}
 use Rattle.cca_base.specs.Model.{WellFormed, with_command}
 use Rattle.cca_base.specs.MoveIndex.{IsIndex}
-use Rattle.cca_base.proofs.MoveIndexLaws.{popped, same_model, command_more}
+use Rattle.cca_base.proofs.MoveIndexLaws.{put_back, command_more}
 use Rattle.cca_base.proofs.model.Model.add_command.Goals as goal
 
 pub invariant_of-self-in-Ok : goal.invariant_of-self-in-Ok
@@ -19,5 +19,5 @@ pub invariant_of-self-in-Err : goal.invariant_of-self-in-Err
 invariant_of-self-in-Err c =
     let inside = c.self.inside in
     let m : PlantModel = plant_model inside.version inside.components inside.variables inside.rules inside.commands inside.moves inside.failures in
-    let back = popped m.commands c.args.x c.push.new.self c.take_back.new.self c.take_back.ensures c.in_ok-push.ensures.ok in
-    same_model m (record m { commands = c.take_back.new.self }) inside.index c.add_command.new.self (ap (λ xs. record m { commands = xs }) back) c.in-Err.ensures.err c.self.invariant
+    put_back m (λ xs. record m { commands = xs }) m.commands c.args.x c.push.new.self c.take_back.new.self inside.index c.add_command.new.self refl
+    c.take_back.ensures c.in_ok-push.ensures.ok c.in-Err.ensures.err c.self.invariant

@@ -1,9 +1,9 @@
-use Rattle.std.proofs.Common.{List, sym, ap, subst}
+use Rattle.std.proofs.Common.{List, refl, sym, subst}
 use Rattle.cca_base.specs.declared.model.Component.{Component}
 use Rattle.cca_base.specs.PlantModel.{PlantModel, plant_model}
 use Rattle.cca_base.specs.Model.{WellFormed, with_component}
 use Rattle.cca_base.specs.MoveIndex.{IsIndex, HasComponentMore}
-use Rattle.cca_base.proofs.MoveIndexLaws.{popped, same_model, component_more}
+use Rattle.cca_base.proofs.MoveIndexLaws.{put_back, component_more}
 use Rattle.cca_base.proofs.model.Model.add_component.Goals as goal
 
 pub invariant_of-self-in-Ok : goal.invariant_of-self-in-Ok
@@ -20,5 +20,5 @@ pub invariant_of-self-in-Err : goal.invariant_of-self-in-Err
 invariant_of-self-in-Err c =
     let inside = c.self.inside in
     let m : PlantModel = plant_model inside.version inside.components inside.variables inside.rules inside.commands inside.moves inside.failures in
-    let back = popped m.components c.args.x c.push.new.self c.take_back.new.self c.take_back.ensures c.in_ok-push.ensures.ok in
-    same_model m (record m { components = c.take_back.new.self }) inside.index c.add_component.new.self (ap (λ xs. record m { components = xs }) back) c.in-Err.ensures.err c.self.invariant
+    put_back m (λ xs. record m { components = xs }) m.components c.args.x c.push.new.self c.take_back.new.self inside.index c.add_component.new.self refl
+    c.take_back.ensures c.in_ok-push.ensures.ok c.in-Err.ensures.err c.self.invariant

@@ -1,9 +1,9 @@
-use Rattle.std.proofs.Common.{List, ◌≡◌, length, sym, ap, subst}
+use Rattle.std.proofs.Common.{List, ◌≡◌, length, refl, sym, subst}
 use Rattle.cca_base.specs.declared.model.Move.{Move}
 use Rattle.cca_base.specs.PlantModel.{PlantModel, plant_model}
 use Rattle.cca_base.specs.Model.{WellFormed, with_move}
 use Rattle.cca_base.specs.MoveIndex.{IsIndex, HasMoveMore}
-use Rattle.cca_base.proofs.MoveIndexLaws.{popped, same_model, move_more, HasRows, last_has_rows, is_last}
+use Rattle.cca_base.proofs.MoveIndexLaws.{put_back, move_more, HasRows, last_has_rows, is_last}
 use Rattle.cca_base.proofs.model.Model.add_move.Goals as goal
 
 rows : (c : goal.After-get) → HasRows c.self.inside.index c.get.result.now
@@ -45,5 +45,5 @@ pub invariant_of-self-in-Err : goal.invariant_of-self-in-Err
 invariant_of-self-in-Err c =
     let inside = c.self.inside in
     let m : PlantModel = plant_model inside.version inside.components inside.variables inside.rules inside.commands inside.moves inside.failures in
-    let back = popped m.moves c.args.x c.push.new.self c.take_back.new.self c.take_back.ensures c.in_ok-push.ensures.ok in
-    same_model m (record m { moves = c.take_back.new.self }) inside.index c.add_move.new.self (ap (λ xs. record m { moves = xs }) back) c.in-Err.ensures.err c.self.invariant
+    put_back m (λ xs. record m { moves = xs }) m.moves c.args.x c.push.new.self c.take_back.new.self inside.index c.add_move.new.self refl
+    c.take_back.ensures c.in_ok-push.ensures.ok c.in-Err.ensures.err c.self.invariant
