@@ -6,9 +6,8 @@ ghost use Rattle.serde_json.specs.View.{view, members_view};
 ghost use Rattle.serde_json.specs.Written.{has_float};
 ghost use Rattle.trace_text.specs.Json.{with_members, reply_members, shown_members, report_object, bare_detail, refusal_object, json_line, report_json, refusal_json};
 
-use crate::members::{
-    component_bytes, mode_bytes, modes_value, name_bytes, put_number, put_text, put_word,
-};
+use crate::members::{modes_value, put_number, put_text, put_word};
+use crate::names::{component_bytes, mode_bytes, name_bytes};
 use crate::refusal::{code_name, push_detail};
 use cca_base::{List, Model, Refusal, Reply, Shown, TickReport};
 use serde_json::{Map, Value};

@@ -4,9 +4,10 @@ ghost use Rattle.std.specs.Prelude.{◌≡◌, ◌∷◌, [], All, IsAscii, IfOk
 ghost use Rattle.serde_json.specs.Data.{number, unsigned, string, put};
 ghost use Rattle.serde_json.specs.View.{view, members_view};
 ghost use Rattle.trace_text.specs.Json.{HasAsciiNames, modes_members, modes_object, with_members};
-ghost use Rattle.trace_text.specs.Names.{name_at, component_name, mode_name};
+ghost use Rattle.trace_text.specs.Names.{name_at};
 
-use cca_base::{Component, Name};
+use crate::names::name_bytes;
+use cca_base::Component;
 use serde_json::{Map, Value};
 use std::alloc::{AllocError, Global};
 
@@ -58,36 +59,6 @@ pub fn put_word(
 {
     let value = Value::try_from_str(alloc, word)?;
     serde_json::put(map, alloc, key, value)
-}
-
-/// The name at a place, or no bytes.
-pub fn name_bytes(names: &[Name], at: usize) -> &[u8]
-    ensures { result.now ≡ name_at names.now at }
-{
-    match names.get(at) {
-        Some(name) => name.bytes(),
-        None => b"",
-    }
-}
-
-/// The name of a component, or no bytes.
-pub fn component_bytes(components: &[Component], c: usize) -> &[u8]
-    ensures { result.now ≡ component_name components.now c }
-{
-    match components.get(c) {
-        Some(component) => component.name.bytes(),
-        None => b"",
-    }
-}
-
-/// The name of a component's mode, or no bytes.
-pub fn mode_bytes(components: &[Component], c: usize, mode: u8) -> &[u8]
-    ensures { result.now ≡ mode_name components.now c mode }
-{
-    match components.get(c) {
-        Some(component) => name_bytes(component.modes.as_slice(), mode as usize),
-        None => b"",
-    }
 }
 
 /// A component's name with the name of one of its modes.

@@ -2,7 +2,7 @@
 
 ghost use Rattle.std.specs.Prelude.{◌≡◌, ◌++◌, OnOk};
 ghost use Rattle.std.specs.Fmt.{decimal};
-ghost use Rattle.trace_text.specs.Names.{name_at, choice_text, mode_text, mode_text_at, pair_text, pair_text_at, pairs_text, component_name, components_text, move_text, move_text_at};
+ghost use Rattle.trace_text.specs.Names.{name_at, choice_text, mode_text, mode_text_at, pair_text, pair_text_at, pairs_text, component_name, components_text, mode_name, move_text, move_text_at};
 
 use cca_base::{Component, Model, Move, Name, Pair};
 use std::alloc::{AllocError, Global};
@@ -15,12 +15,40 @@ pub fn push_number(alloc: Global, out: &mut Vec<u8>, n: u64) -> Result<(), Alloc
     Ok(())
 }
 
+/// The name at a place, or no bytes.
+pub fn name_bytes(names: &[Name], at: usize) -> &[u8]
+    ensures { result.now ≡ name_at names.now at }
+{
+    match names.get(at) {
+        Some(name) => name.bytes(),
+        None => b"",
+    }
+}
+
+/// The name of a component, or no bytes.
+pub fn component_bytes(components: &[Component], c: usize) -> &[u8]
+    ensures { result.now ≡ component_name components.now c }
+{
+    match components.get(c) {
+        Some(component) => component.name.bytes(),
+        None => b"",
+    }
+}
+
+/// The name of a component's mode, or no bytes.
+pub fn mode_bytes(components: &[Component], c: usize, mode: u8) -> &[u8]
+    ensures { result.now ≡ mode_name components.now c mode }
+{
+    match components.get(c) {
+        Some(component) => name_bytes(component.modes.as_slice(), mode as usize),
+        None => b"",
+    }
+}
+
 pub fn push_name(out: &mut Vec<u8>, names: &[Name], at: usize) -> Result<(), AllocError>
     ensures { OnOk result (out.new.items ≡ out.old.items ++ name_at names.now at) }
 {
-    if let Some(name) = names.get(at) {
-        out.extend_from_slice(name.bytes())?;
-    }
+    out.extend_from_slice(name_bytes(names, at))?;
     Ok(())
 }
 
@@ -102,19 +130,6 @@ pub fn push_pairs(
     Ok(())
 }
 
-fn push_component(
-    out: &mut Vec<u8>,
-    components: &[Component],
-    number: usize,
-) -> Result<(), AllocError>
-    ensures { OnOk result (out.new.items ≡ out.old.items ++ component_name components.now number) }
-{
-    if let Some(component) = components.get(number) {
-        out.extend_from_slice(component.name.bytes())?;
-    }
-    Ok(())
-}
-
 /// Each component's name, behind a space.
 pub fn push_components(
     out: &mut Vec<u8>,
@@ -126,7 +141,7 @@ pub fn push_components(
 {
     for c in list {
         out.push(b' ')?;
-        push_component(out, components, *c as usize)?;
+        out.extend_from_slice(component_bytes(components, *c as usize))?;
     }
     Ok(())
 }

@@ -6,8 +6,7 @@ ghost use Rattle.trace_text.specs.LineWords.{is_only_long, value_words, plan_wor
 ghost use Rattle.trace_text.specs.ProofLines.{plan_line, route_text, world_line};
 ghost use Rattle.trace_text.specs.Words.{behind_spaces};
 
-use crate::members::name_bytes;
-use crate::names::{push_choice, push_name};
+use crate::names::{name_bytes, push_choice, push_name};
 use cca_base::{List, Model, Name, PlanEnd, Route, Variable, World};
 use std::alloc::{AllocError, Global};
 

@@ -20,5 +20,4 @@ pub invariant_of-self-in-Err : goal.invariant_of-self-in-Err
 invariant_of-self-in-Err c =
     let inside = c.self.inside in
     let m : PlantModel = plant_model inside.version inside.components inside.variables inside.rules inside.commands inside.moves inside.failures in
-    put_back m (λ xs. record m { components = xs }) m.components c.args.x c.push.new.self c.take_back.new.self inside.index c.add_component.new.self refl
-    c.take_back.ensures c.in_ok-push.ensures.ok c.in-Err.ensures.err c.self.invariant
+    put_back m (λ xs. record m { components = xs }) m.components c.args.x c.push.new.self c.take_back.new.self inside.index c.add_component.new.self refl c.take_back.ensures c.in_ok-push.ensures.ok c.in-Err.ensures.err c.self.invariant
