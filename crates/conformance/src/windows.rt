@@ -14,19 +14,9 @@ use trajectory_estimator::{MAX_WINDOW, Record, Tracker, Trajectory, Window, best
 type Row<'a> = (Option<u16>, Pairs<'a>);
 
 /// The valve that sticks, with a driver that fails.
-const FAILING_DRIVER: &str = "titan 1
-component drv = off, on start off
-component valve = closed, open, stuck start closed
-var flow = none, some sensed
-rule flow = some iff valve = open
-move drv off -> on by drv_on when true
-move drv on -> off by drv_off when true
-move valve closed -> open by v_open when drv = on
-move valve open -> closed by v_close when drv = on
-repair valve stuck -> closed by v_reset when drv = on
-fail valve closed -> stuck cost 4
-fail valve open -> stuck cost 6
-fail drv on -> off cost 2";
+fn failing_driver(alloc: Global) -> Option<String> {
+    format!(in alloc; "{STICKING_VALVE}\nfail drv on -> off cost 2").ok()
+}
 
 /// The driver is switched on, a tick passes, and then the valve is opened, but nothing flows.
 const NO_FLOW: &[Row<'static>] = &[
@@ -110,6 +100,14 @@ fn explains(alloc: Global, text: &str, rows: &[Row<'_>], wanted: Path<'_>) -> bo
     }
 }
 
+/// Whether the rows over the valve with a driver that fails are best explained so.
+fn explains_failing(alloc: Global, rows: &[Row<'_>], wanted: Path<'_>) -> bool {
+    match failing_driver(alloc) {
+        Some(text) => explains(alloc, text.as_str(), rows, wanted),
+        None => false,
+    }
+}
+
 /// Whether nothing explains the rows.
 fn is_unexplained(alloc: Global, text: &str, rows: &[Row<'_>]) -> bool {
     match best_of(alloc, text, rows) {
@@ -121,7 +119,7 @@ fn is_unexplained(alloc: Global, text: &str, rows: &[Row<'_>]) -> bool {
 #[test]
 fn the_best_trajectory_has_an_earlier_failure(rt: HostRuntime) {
     let driver: [&[u8]; 4] = [&[0, 0], &[1, 0], &[0, 0], &[0, 0]];
-    assert!(rt; explains(rt.alloc(), FAILING_DRIVER, NO_FLOW, (&driver, 2)));
+    assert!(rt; explains_failing(rt.alloc(), NO_FLOW, (&driver, 2)));
     let valve: [&[u8]; 4] = [&[0, 0], &[1, 0], &[1, 0], &[1, 2]];
     assert!(rt; explains(rt.alloc(), STICKING_VALVE, NO_FLOW, (&valve, 4)));
 }
@@ -184,9 +182,17 @@ fn opened(alloc: Global, text: &str) -> Option<Tracker>
     Tracker::open(alloc, compiled).ok()
 }
 
+/// A tracker over the valve with a driver that fails, before its first tick.
+fn opened_failing(alloc: Global) -> Option<Tracker>
+    ensures { IfSome result (λ t. t.state.ticks ≡ 0) }
+{
+    let text = failing_driver(alloc)?;
+    opened(alloc, text.as_str())
+}
+
 /// Whether a fourth tick revises the third.
 fn revises_the_third_tick(alloc: Global) -> bool {
-    let Some(mut tracker) = opened(alloc, FAILING_DRIVER) else {
+    let Some(mut tracker) = opened_failing(alloc) else {
         return false;
     };
     let first = ticked(alloc, &mut tracker, (None, &[]));
