@@ -26,54 +26,27 @@ use Rattle.control_syntax.specs.Reading.{Reading, led, end_of}
 -- `program` stands a second time, or another line before it
 abbrev pub IsOutOfPlace : Reading → Item → Type 0
 IsOutOfPlace r Program = r.started ≡ true
-IsOutOfPlace r (Reach pairs) = r.started ≡ false
-IsOutOfPlace r (Await formula) = r.started ≡ false
-IsOutOfPlace r Seq = r.started ≡ false
-IsOutOfPlace r Both = r.started ≡ false
-IsOutOfPlace r (Choose formula) = r.started ≡ false
-IsOutOfPlace r Otherwise = r.started ≡ false
-IsOutOfPlace r (Repeat rounds) = r.started ≡ false
-IsOutOfPlace r Done = r.started ≡ false
-IsOutOfPlace r End = r.started ≡ false
+IsOutOfPlace r i = r.started ≡ false
 
 -- a name of the line is no component, or no mode of it; of a formula, a name or a value is not declared
 abbrev pub NamesUnknown : PlantModel → Item → Type 0
 NamesUnknown m (Reach pairs) = (p : NamedPair) × Contains pairs p × (mode_pair m p ≡ None)
 NamesUnknown m (Await formula) = names_unknown m formula ≡ true
 NamesUnknown m (Choose formula) = names_unknown m formula ≡ true
-NamesUnknown m Program = ⊥
-NamesUnknown m Seq = ⊥
-NamesUnknown m Both = ⊥
-NamesUnknown m Otherwise = ⊥
-NamesUnknown m (Repeat rounds) = ⊥
-NamesUnknown m Done = ⊥
-NamesUnknown m End = ⊥
+NamesUnknown m i = ⊥
 
 -- the formula's text is too deep, or the number is none from 1 to the most rounds
 abbrev pub IsGreat : Item → Type 0
 IsGreat (Await formula) = is_deep formula ≡ true
 IsGreat (Choose formula) = is_deep formula ≡ true
 IsGreat (Repeat rounds) = (rounds < 1) ⊎ (MAX_ROUNDS < rounds)
-IsGreat Program = ⊥
-IsGreat (Reach pairs) = ⊥
-IsGreat Seq = ⊥
-IsGreat Both = ⊥
-IsGreat Otherwise = ⊥
-IsGreat Done = ⊥
-IsGreat End = ⊥
+IsGreat i = ⊥
 
 -- the lines between `program` and `end` are as many as may be, and this is a further one
 abbrev pub IsLineTooMany : Reading → Item → Type 0
 IsLineTooMany r Program = ⊥
 IsLineTooMany r End = ⊥
-IsLineTooMany r (Reach pairs) = MAX_LINES ≤ r.count
-IsLineTooMany r (Await formula) = MAX_LINES ≤ r.count
-IsLineTooMany r Seq = MAX_LINES ≤ r.count
-IsLineTooMany r Both = MAX_LINES ≤ r.count
-IsLineTooMany r (Choose formula) = MAX_LINES ≤ r.count
-IsLineTooMany r Otherwise = MAX_LINES ≤ r.count
-IsLineTooMany r (Repeat rounds) = MAX_LINES ≤ r.count
-IsLineTooMany r Done = MAX_LINES ≤ r.count
+IsLineTooMany r i = MAX_LINES ≤ r.count
 
 -- the line begins a block inside as many others as may be
 abbrev pub IsBlockTooMany : Reading → Item → Type 0
@@ -81,12 +54,7 @@ IsBlockTooMany r Seq = MAX_BLOCKS ≤ length r.place.open_blocks
 IsBlockTooMany r Both = MAX_BLOCKS ≤ length r.place.open_blocks
 IsBlockTooMany r (Choose formula) = MAX_BLOCKS ≤ length r.place.open_blocks
 IsBlockTooMany r (Repeat rounds) = MAX_BLOCKS ≤ length r.place.open_blocks
-IsBlockTooMany r Program = ⊥
-IsBlockTooMany r (Reach pairs) = ⊥
-IsBlockTooMany r (Await formula) = ⊥
-IsBlockTooMany r Otherwise = ⊥
-IsBlockTooMany r Done = ⊥
-IsBlockTooMany r End = ⊥
+IsBlockTooMany r i = ⊥
 
 -- a limit is passed
 abbrev pub PassesLimit : Reading → Item → Type 0
@@ -95,49 +63,24 @@ PassesLimit r i = IsGreat i ⊎ (IsLineTooMany r i ⊎ IsBlockTooMany r i)
 -- a pair of a `reach` has a broken mode
 abbrev pub WantsBroken : PlantModel → Item → Type 0
 WantsBroken m (Reach pairs) = (p : NamedPair) × (q : Pair) × Contains pairs p × (mode_pair m p ≡ Some q) × (is_broken m.moves q.item q.value ≡ true)
-WantsBroken m Program = ⊥
-WantsBroken m (Await formula) = ⊥
-WantsBroken m Seq = ⊥
-WantsBroken m Both = ⊥
-WantsBroken m (Choose formula) = ⊥
-WantsBroken m Otherwise = ⊥
-WantsBroken m (Repeat rounds) = ⊥
-WantsBroken m Done = ⊥
-WantsBroken m End = ⊥
+WantsBroken m i = ⊥
 
 -- a `reach` names a component twice
 abbrev pub NamesTwice : Item → Type 0
 NamesTwice (Reach pairs) = HaveNameTwice pairs
-NamesTwice Program = ⊥
-NamesTwice (Await formula) = ⊥
-NamesTwice Seq = ⊥
-NamesTwice Both = ⊥
-NamesTwice (Choose formula) = ⊥
-NamesTwice Otherwise = ⊥
-NamesTwice (Repeat rounds) = ⊥
-NamesTwice Done = ⊥
-NamesTwice End = ⊥
+NamesTwice i = ⊥
 
 -- a `choose` before its `otherwise`
 abbrev pub IsChoose : Kind → Type 0
 IsChoose (kind.Choose f) = Unit {0}
-IsChoose kind.Seq = ⊥
-IsChoose kind.Both = ⊥
-IsChoose (kind.Otherwise f first) = ⊥
-IsChoose (kind.Repeat n) = ⊥
+IsChoose k = ⊥
 
 -- `done` closes no block; `otherwise` doesn't stand directly in a `choose`, or is its second one; `end` stands inside a block
 abbrev pub IsUnmatched : Reading → Item → Type 0
 IsUnmatched r Done = r.place.open_blocks ≡ []
 IsUnmatched r Otherwise = (b : Block) (bs : List Block) → r.place.open_blocks ≡ b ∷ bs → IsChoose b.kind → ⊥
 IsUnmatched r End = r.place.open_blocks ≡ [] → ⊥
-IsUnmatched r Program = ⊥
-IsUnmatched r (Reach pairs) = ⊥
-IsUnmatched r (Await formula) = ⊥
-IsUnmatched r Seq = ⊥
-IsUnmatched r Both = ⊥
-IsUnmatched r (Choose formula) = ⊥
-IsUnmatched r (Repeat rounds) = ⊥
+IsUnmatched r i = ⊥
 
 -- the code applies to the item behind what was read
 abbrev pub Applies : PlantModel → Reading → Item → ℕ → Type 0

@@ -36,15 +36,7 @@ UnmatchedByLines = (m : PlantModel) (texts : List (List ℕ)) (ls : List Line) (
 -- the line is `done`
 abbrev pub closes_block : Line → Bool
 closes_block line.Done = true
-closes_block line.Program = false
-closes_block (line.Reach pairs) = false
-closes_block (line.Await f) = false
-closes_block line.Seq = false
-closes_block line.Both = false
-closes_block (line.Choose f) = false
-closes_block line.Otherwise = false
-closes_block (line.Repeat n) = false
-closes_block line.End = false
+closes_block l = false
 
 -- the lines that count for the limits are those behind `program`, and the open blocks are those that were begun and not closed
 abbrev pub LimitsCountLines : Type 0

@@ -20,15 +20,7 @@ use Rattle.control_syntax.specs.declared.line.Line.TheVariants as line
 -- the line is `program`
 abbrev pub is_program : Line → Bool
 is_program line.Program = true
-is_program (line.Reach pairs) = false
-is_program (line.Await f) = false
-is_program line.Seq = false
-is_program line.Both = false
-is_program (line.Choose f) = false
-is_program line.Otherwise = false
-is_program (line.Repeat n) = false
-is_program line.Done = false
-is_program line.End = false
+is_program l = false
 
 -- the line is `program` a second time, or another before it
 abbrev pub out_of_place : Bool → Line → Bool
@@ -38,14 +30,7 @@ out_of_place started l = if is_program l then started else not started
 abbrev pub is_inside : Line → Bool
 is_inside line.Program = false
 is_inside line.End = false
-is_inside (line.Reach pairs) = true
-is_inside (line.Await f) = true
-is_inside line.Seq = true
-is_inside line.Both = true
-is_inside (line.Choose f) = true
-is_inside line.Otherwise = true
-is_inside (line.Repeat n) = true
-is_inside line.Done = true
+is_inside l = true
 
 -- the line begins a block
 abbrev pub begins_block : Line → Bool
@@ -53,12 +38,7 @@ begins_block line.Seq = true
 begins_block line.Both = true
 begins_block (line.Choose f) = true
 begins_block (line.Repeat n) = true
-begins_block line.Program = false
-begins_block line.End = false
-begins_block (line.Reach pairs) = false
-begins_block (line.Await f) = false
-begins_block line.Otherwise = false
-begins_block line.Done = false
+begins_block l = false
 
 -- the lines are too many, or the open blocks
 abbrev pub passes_limit : ℕ → ℕ → Line → Bool
@@ -67,23 +47,12 @@ passes_limit count open_blocks l = (is_inside l && nat_le MAX_LINES count) || (b
 -- the pairs that a line asks for
 abbrev pub asked_pairs : Line → List Pair
 asked_pairs (line.Reach pairs) = pairs
-asked_pairs line.Program = []
-asked_pairs (line.Await f) = []
-asked_pairs line.Seq = []
-asked_pairs line.Both = []
-asked_pairs (line.Choose f) = []
-asked_pairs line.Otherwise = []
-asked_pairs (line.Repeat n) = []
-asked_pairs line.Done = []
-asked_pairs line.End = []
+asked_pairs l = []
 
 -- the block is a `choose` before its `otherwise`
 abbrev pub is_choose : Kind → Bool
 is_choose (kind.Choose f) = true
-is_choose kind.Seq = false
-is_choose kind.Both = false
-is_choose (kind.Otherwise f first) = false
-is_choose (kind.Repeat n) = false
+is_choose k = false
 
 -- the innermost open block is so
 abbrev pub in_choose : List Block → Bool
@@ -100,13 +69,7 @@ abbrev pub is_unmatched : List Block → Line → Bool
 is_unmatched blocks line.Done = none_open blocks
 is_unmatched blocks line.Otherwise = not (in_choose blocks)
 is_unmatched blocks line.End = not (none_open blocks)
-is_unmatched blocks line.Program = false
-is_unmatched blocks (line.Reach pairs) = false
-is_unmatched blocks (line.Await f) = false
-is_unmatched blocks line.Seq = false
-is_unmatched blocks line.Both = false
-is_unmatched blocks (line.Choose f) = false
-is_unmatched blocks (line.Repeat n) = false
+is_unmatched blocks l = false
 
 -- the least code of the line, behind so many lines and inside these open blocks
 unfoldable pub code_of : PlantModel → Bool → ℕ → List Block → Line → Option ℕ

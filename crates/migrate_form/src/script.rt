@@ -78,23 +78,19 @@ impl ScriptInSecond {
 
 // By the clauses of the trait a line gives `MigrateSteps`, and the end of the input `EndsAtEnd` (specs/MigrateMachine.antt).
 impl Machine for ScriptInSecond {
-    ghost use Rattle.std.specs.Prelude.{⊤, false};
-    ghost use Rattle.cca_base.specs.Prelude.{bare};
-    ghost use Rattle.model_form.specs.NoLines.{EndsAtEnd, end_one_way};
-    ghost use Rattle.model_form.specs.declared.limits.TheConstants.{MAX_LINE};
-    ghost use Rattle.trace_text.specs.Json.{refusal_text};
-    ghost use Rattle.migrate_form.specs.MigrateMachine.{MigrateSteps};
+    ghost use Rattle.model_form.specs.NoLines.{end_one_way};
+    ghost use Rattle.migrate_form.specs.MigrateMachine.{script_machine};
     ghost use Rattle.migrate_form.specs.OneStep.{steps_one};
 
-    ghost limit_of = { λ x. MAX_LINE };
+    ghost limit_of = { script_machine.limit_of };
 
-    ghost refusal = { λ x n code. refusal_text false x.model n (bare code) };
+    ghost refusal = { script_machine.refusal };
 
-    ghost steps = { MigrateSteps };
+    ghost steps = { script_machine.steps };
 
-    ghost closes = { λ x n. EndsAtEnd };
+    ghost closes = { script_machine.closes };
 
-    ghost awaits = { λ x n. ⊤ };
+    ghost awaits = { script_machine.awaits };
 
     ghost steps_are_one = { steps_one };
 

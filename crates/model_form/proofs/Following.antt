@@ -1,13 +1,16 @@
 -- An input's answer by what is said behind its model follows from another one.
-use Rattle.std.proofs.Common.{ℕ, Bool, List}
+use Rattle.std.proofs.Common.{ℕ, Bool, false, List, [], ◌++◌, refl, sym, ap, subst, ◌∙◌}
 use Rattle.cca_base.specs.Accepted.{CompiledModel, IsCompiled}
 use Rattle.cca_base.specs.PlantModel.{PlantModel}
+use Rattle.line_machine.specs.Completes.{Completes}
+use Rattle.line_machine.specs.Next.{Next, GoesOn}
 use Rattle.line_machine.specs.declared.machine.End.{End}
 use Rattle.line_machine.specs.declared.machine.Machine.{Ghosts}
 use Rattle.model_form.specs.Acceptance.{Acceptance, AcceptedAs, RefusedFor, IsAcceptanceOf}
 use Rattle.model_form.specs.Answers.{Saying, AnswersByAcceptance, AnswersByEnd, IsAnswer, PrintsBehind, TextsAreAnswers, AreTold}
 use Rattle.model_form.specs.FormMachine.{form_machine}
 use Rattle.model_form.specs.FormStates.{form_first}
+use Rattle.model_form.specs.LineMachines.{form_of_lines}
 use Rattle.model_form.specs.ModelTexts.{ModelText, WholeModel, RefusedModel}
 use Rattle.model_form.specs.declared.form.ModelForm.{Ghosts as FormGhosts}
 use Rattle.model_form.proofs.TextsAreAnswers.{texts_are_answers}
@@ -35,3 +38,15 @@ are_told form m f Says told tells =
       says = λ input e text is. answer_follows (form.is_json f) (PrintsBehind form m f) Says told input e text (t.says f input e text is);
       comes = λ input e text is. t.comes f input e text (answer_follows (form.is_json f) Says (PrintsBehind form m f) tells input e text is);
     }
+
+-- the same of a form of lines: what its machine prints from where it first stands is what is said
+module _ {S : Type 0} (first : CompiledModel → S) (m : Ghosts S) (Says : Saying) where
+  behind : (b : CompiledModel) (n : ℕ) (ls : List (List ℕ)) (e : End) (text : List ℕ) → PrintsBehind (form_of_lines first) m (record {}) b n ls e text → Completes m (GoesOn (first b)) n ls e text
+  behind b n ls e text p = subst (λ (z : List ℕ). Completes m (GoesOn (first b)) n ls e z) (sym (p.parts ∙ ap (λ (z : List ℕ). z ++ p.rest) p.begins.1)) (subst (λ (v : Next S). Completes m v n ls e p.rest) p.begins.0 p.completes)
+
+  pub lines_told : ((b : CompiledModel) (n : ℕ) (ls : List (List ℕ)) (e : End) (text : List ℕ) → IsCompiled b → Completes m (GoesOn (first b)) n ls e text → Says b n ls e text)
+      → ((b : CompiledModel) (n : ℕ) (ls : List (List ℕ)) (e : End) (text : List ℕ) → IsCompiled b → Says b n ls e text → Completes m (GoesOn (first b)) n ls e text)
+      → AreTold (form_machine (form_of_lines first) m) (form_first (record {})) false Says
+  lines_told told tells =
+      are_told (form_of_lines first) m (record {}) Says (λ b n ls e text compiled p. told b n ls e text compiled (behind b n ls e text p))
+      (λ b n ls e text compiled h. record { next = GoesOn (first b); first = []; begins = (refl, refl); rest = text; completes = tells b n ls e text compiled h; parts = refl })

@@ -4,13 +4,19 @@ use Rattle.cca_base.specs.Accepted.{CompiledModel}
 use Rattle.cca_base.specs.PlantModel.{PlantModel}
 use Rattle.line_machine.specs.declared.machine.End.{End}
 use Rattle.line_machine.specs.declared.machine.End.TheVariants.{Ended, Rejected, Refused}
+use Rattle.line_machine.specs.declared.machine.Machine.{Ghosts}
+use Rattle.line_machine.proofs.RunsAreOne.{IsFixed}
 use Rattle.model_form.specs.Acceptance.{Acceptance, AcceptedAs, RefusedFor, IsAcceptanceOf}
-use Rattle.model_form.specs.Answers.{Saying, AnswersByAcceptance, AnswersByEnd}
+use Rattle.model_form.specs.Answers.{Saying, AnswersByAcceptance, AnswersByEnd, AreTold}
+use Rattle.model_form.specs.FormMachine.{form_machine}
+use Rattle.model_form.specs.FormMeaning.{FormAgrees, reading_lines}
+use Rattle.model_form.specs.FormStates.{form_first}
+use Rattle.model_form.specs.LineMachines.{form_of_lines}
 use Rattle.model_form.specs.LinesEnds.{LinesEnd, AllRead, RefusedAt, Ending, EndsLines, RefusesSomewhere, ending}
 use Rattle.model_form.specs.ModelEnds.{IsRefused}
 use Rattle.model_form.specs.ModelTexts.{ModelText, WholeModel, RefusedModel}
 use Rattle.model_form.specs.OneStep.{acceptance_is_one}
-use Rattle.model_form.proofs.Agreeing.{EndsAgree}
+use Rattle.model_form.proofs.Agreeing.{EndsAgree, agrees}
 
 -- how the program ends by how the lines do
 abbrev end_of : PlantModel → LinesEnd → End
@@ -78,7 +84,7 @@ module _ (Says : Saying) (EndsSo : Ending)
   lines_is_refused end e text h (inl refused) = refuses_so Says end e text h refused
   lines_is_refused end e text h (inr (line, code, ends)) = (ends_so end e text (RefusedAt line code) h ends).1
 
-  pub lines_agree : EndsAgree Says (EndsLines EndsSo AllRead) (RefusesSomewhere EndsSo)
+  lines_agree : EndsAgree Says (EndsLines EndsSo AllRead) (RefusesSomewhere EndsSo)
   lines_agree = record {
     ended = lines_ended;
     refused = lines_refused;
@@ -86,3 +92,8 @@ module _ (Says : Saying) (EndsSo : Ending)
     is_ended = λ end e text h ends. (ends_so end e text AllRead h ends).1;
     is_refused = lines_is_refused;
   }
+
+  -- the form's texts are told, and each line leads one way
+  pub lines_form_agrees : {S : Type 0} (first : CompiledModel → S) (m : Ghosts S) → AreTold (form_machine (form_of_lines first) m) (form_first (record {})) false Says → IsFixed (form_machine (form_of_lines first) m)
+      → FormAgrees (reading_lines first m Says EndsSo)
+  lines_form_agrees first m told fixed = agrees Says (EndsLines EndsSo AllRead) (RefusesSomewhere EndsSo) (form_machine (form_of_lines first) m) (form_first (record {})) told fixed lines_agree

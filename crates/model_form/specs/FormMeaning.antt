@@ -1,10 +1,16 @@
 -- What a form of words means, and that its machine does it: one record of each for every form.
-use Rattle.std.specs.Prelude.{◌≡◌, ℕ, List, Option, None}
+use Rattle.std.specs.Prelude.{◌≡◌, ℕ, false, List, Option, None}
+use Rattle.cca_base.specs.Accepted.{CompiledModel}
 use Rattle.line_machine.specs.Runs.{IsText}
 use Rattle.line_machine.specs.declared.machine.End.{End}
 use Rattle.line_machine.specs.declared.machine.End.TheVariants as ends
 use Rattle.line_machine.specs.declared.machine.Machine.{Ghosts}
 use Rattle.line_machine.proofs.RunsAreOne.{IsFixed}
+use Rattle.model_form.specs.Answers.{Saying, AnswersByEnd}
+use Rattle.model_form.specs.FormMachine.{form_machine}
+use Rattle.model_form.specs.FormStates.{form_first}
+use Rattle.model_form.specs.LineMachines.{form_of_lines}
+use Rattle.model_form.specs.LinesEnds.{Ending, IsReadWhole, HasRefusedLine}
 use Rattle.model_form.specs.ModelTexts.{ModelText, EndsModel}
 
 -- a form's machine and its first state; the document that it reads in place of the source, if it makes one; how it ends and what it
@@ -23,6 +29,11 @@ pub record FormMeaning : Type 1 where
 abbrev pub reading : {S : Type 0} → Ghosts S → S → (ModelText → End → List ℕ → Type 0) → (List ℕ → Type 0) → (List ℕ → Type 0) → FormMeaning
 reading {S} m first says whole refused =
     record { State = S; machine = m; first = first; made = None; says = says; nothing_refused = whole; some_refused = refused; some_rejected = λ input. ⊥ }
+
+-- a form of lines: by where it stands before the first of them, its machine, what it says of an accepted model, and how the lines behind that end
+abbrev pub reading_lines : {S : Type 0} → (CompiledModel → S) → Ghosts S → Saying → Ending → FormMeaning
+reading_lines first m Says EndsSo =
+    reading (form_machine (form_of_lines first) m) (form_first (record {})) (AnswersByEnd false Says) (IsReadWhole EndsSo) (HasRefusedLine EndsSo)
 
 -- its texts are what it says, both ways; each line leads one way; and its end tells what was refused or rejected, both ways
 pub record FormAgrees (k : FormMeaning) : Type 0 where

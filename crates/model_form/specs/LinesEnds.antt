@@ -7,7 +7,7 @@ use Rattle.line_machine.specs.declared.machine.End.TheVariants.{Ended}
 use Rattle.model_form.specs.Acceptance.{AcceptedAs, IsAcceptanceOf}
 use Rattle.model_form.specs.Answers.{Answer, answer, refused_answer}
 use Rattle.model_form.specs.Limits.{line_code}
-use Rattle.model_form.specs.ModelEnds.{IsRefused}
+use Rattle.model_form.specs.ModelEnds.{HasEnd, IsRefused}
 use Rattle.model_form.specs.ModelTexts.{ModelText, WholeModel, RefusedModel}
 
 -- all lines are read, or one of them is refused
@@ -70,3 +70,11 @@ module _ (EndsSo : Ending) where
   -- the model is refused, or a line behind it
   abbrev pub RefusesSomewhere : ModelText → Type 0
   RefusesSomewhere end = IsRefused end ⊎ ((line code : ℕ) × EndsLines (RefusedAt line code) end)
+
+  -- the model of the input is accepted, and all lines behind it are read
+  abbrev pub IsReadWhole : List ℕ → Type 0
+  IsReadWhole = HasEnd (EndsLines AllRead)
+
+  -- the model of the input is refused, or a line behind it
+  abbrev pub HasRefusedLine : List ℕ → Type 0
+  HasRefusedLine = HasEnd RefusesSomewhere

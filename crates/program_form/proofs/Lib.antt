@@ -1,5 +1,4 @@
 pub mod EventLines
-pub mod EventsComeHere
 pub mod MadeEvents
 pub mod OneSequence
 pub mod ProgramAgrees

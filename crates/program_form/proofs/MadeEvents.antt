@@ -15,15 +15,10 @@ use Rattle.program_form.specs.ProgramMachine.{MakesEvent, Prepares, event_text, 
 use Rattle.program_form.specs.PutIn.{Sequencer, Told, PutsBefore, TurnsBefore, ends, left_by}
 use Rattle.program_form.specs.Stages.{RunsWell}
 use Rattle.program_form.proofs.RunningWell.{well_again}
+use Rattle.program_form.proofs.Sequencing.{tick_is}
 
 pub no_tick : (e : Event) → (e ≡ event.Tick → ⊥) → IsTick e → ⊥
-no_tick event.Tick other tick = other refl
-no_tick event.Reset other tick = tick
-no_tick (event.Goal pairs) other tick = tick
-no_tick event.Clear other tick = tick
-no_tick (event.Observe pairs) other tick = tick
-no_tick (event.Fault p) other tick = tick
-no_tick (event.Mirror v) other tick = tick
+no_tick e other tick = other (tick_is e tick)
 
 -- a tick, with the turn before it
 pub tick_made : {V E : Type 0} (items : V → List ℕ) (b : CompiledModel) (x z y : ExecutiveState) (c next : Control) (ended : Bool) (report : TickReport) (r : Result V E)

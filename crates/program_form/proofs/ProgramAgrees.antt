@@ -3,16 +3,14 @@ use Rattle.std.proofs.Common.{◌≡◌, ℕ, List, refl, sym, ap, ◌∙◌}
 use Rattle.cca_base.specs.Accepted.{CompiledModel}
 use Rattle.line_machine.specs.declared.machine.End.{End}
 use Rattle.model_form.specs.FormMeaning.{FormAgrees}
-use Rattle.model_form.specs.FormStates.{form_first}
-use Rattle.model_form.specs.LinesEnds.{LinesEnd, AllRead, EndsLines, RefusesSomewhere, ending}
-use Rattle.model_form.proofs.Agreeing.{agrees}
-use Rattle.model_form.proofs.LinesAgree.{lines_agree}
+use Rattle.model_form.specs.LinesEnds.{LinesEnd, ending}
+use Rattle.model_form.proofs.LinesAgree.{lines_form_agrees}
 use Rattle.program_form.specs.Printed.{SaysRun}
-use Rattle.program_form.specs.ProgramMachine.{program_machine}
+use Rattle.program_form.specs.ProgramMachine.{lines_machine, program_first}
 use Rattle.program_form.specs.ProgramMeaning.{EndsSequence, program_meaning}
 use Rattle.program_form.specs.Sequences.{Sequence}
 use Rattle.program_form.proofs.OneSequence.{sequence_one}
-use Rattle.program_form.proofs.ProgramEnds.{program_fixed}
+use Rattle.program_form.proofs.ProgramEnds.{program_ends}
 use Rattle.program_form.proofs.ProgramsTold.{programs_are_told}
 
 -- the program ends as the lines do
@@ -24,4 +22,4 @@ one_end : (b : CompiledModel) (n : ℕ) (ls : List (List ℕ)) (x y : LinesEnd) 
 one_end b n ls x y (r, says, is) (q, also, was) = sym is ∙ ap (λ (z : Sequence). z.ending) (sequence_one b.model n ls r q says also) ∙ was
 
 pub program_agrees : FormAgrees program_meaning
-program_agrees = agrees SaysRun (EndsLines EndsSequence AllRead) (RefusesSomewhere EndsSequence) program_machine (form_first (record {})) programs_are_told program_fixed (lines_agree SaysRun EndsSequence ends_as one_end)
+program_agrees = lines_form_agrees SaysRun EndsSequence ends_as one_end program_first lines_machine programs_are_told program_ends.fixed

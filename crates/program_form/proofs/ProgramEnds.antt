@@ -1,5 +1,5 @@
 -- The form ends behind a line only where that is refused, and is never rejected.
-use Rattle.std.proofs.Common.{◌≡◌, ◌⊎◌, ℕ, List, Option, Some, None, Result, Ok, Err}
+use Rattle.std.proofs.Common.{◌≡◌, ℕ, List, Option, Some, None, Result, Ok, Err}
 use Rattle.cca_base.specs.Accepted.{CompiledModel}
 use Rattle.cca_base.specs.PlantModel.{PlantModel}
 use Rattle.cca_base.specs.Trace.{ExecutiveState}
@@ -8,23 +8,14 @@ use Rattle.control_laws.specs.Turns.{Control}
 use Rattle.control_syntax.specs.Reading.{Reading, led}
 use Rattle.control_syntax.specs.declared.line.Line.{Line}
 use Rattle.line_machine.specs.Next.{Stops}
-use Rattle.line_machine.specs.Runs.{IsSure, IsText}
 use Rattle.line_machine.specs.declared.machine.End.{End}
 use Rattle.line_machine.specs.declared.machine.End.TheVariants.{Rejected, Refused}
 use Rattle.line_machine.proofs.EndsSo.{same_end, not_end}
-use Rattle.line_machine.proofs.RunsAreOne.{IsFixed}
-use Rattle.model_form.specs.FormStates.{FormState}
-use Rattle.model_form.specs.OneStep.{goes_on_one_way}
-use Rattle.model_form.specs.declared.lines.OfLines.{OfLines}
-use Rattle.model_form.proofs.FormEnds.{form_is_fixed}
-use Rattle.model_form.proofs.NeverRejected.{refused_not, ended_not, never_rejected}
-use Rattle.model_form.proofs.RefusedOnly.{IsRefused, sure_refused}
+use Rattle.model_form.proofs.NeverRejected.{refused_not, ended_not}
+use Rattle.model_form.proofs.RefusedOnly.{EndsByRefusal, IsRefused, ends_by_refusal}
 use Rattle.program_form.specs.OneStep.{closes_one, steps_one}
 use Rattle.program_form.specs.Sequences.{event_line}
-use Rattle.program_form.specs.ProgramMachine.{ProgramState, Stage, Reads, Runs, MakesBy, ReadsBy, StepsIn, ProgramSteps, ClosesIn, behind_line, lines_machine, program_first, program_form, program_machine, running}
-
-begins_refused : (f : OfLines) (b : CompiledModel) (n : ℕ) (e : End) (text : List ℕ) → program_form.begins f b n (Stops e) text → IsRefused e
-begins_refused f b n e text h = absurd (not_end e (program_first b) h.0)
+use Rattle.program_form.specs.ProgramMachine.{ProgramState, Stage, Reads, Runs, MakesBy, ReadsBy, StepsIn, ProgramSteps, ClosesIn, behind_line, lines_machine, program_first, running}
 
 makes_refused : (r : Result (Option Event) ℕ) (b : CompiledModel) (x : ExecutiveState) (c : Control) (n : ℕ) (e : End) (text : List ℕ) → MakesBy r b x c n (Stops e) text → IsRefused e
 makes_refused (Err code) b x c n e text h = same_end e Refused h.0
@@ -46,13 +37,5 @@ closes_not : (s : Stage) (m : PlantModel) (n : ℕ) (e : End) (text : List ℕ) 
 closes_not (Reads y) m n e text h = refused_not e h.0
 closes_not (Runs c) m n e text h = ended_not e h.0
 
-pub program_sure_refused : (first : FormState OfLines ProgramState) (bytes : List ℕ) (e : End) (text : List ℕ) → IsSure program_machine first bytes (Stops e) text → IsRefused e
-program_sure_refused = sure_refused program_form lines_machine begins_refused steps_refused
-
-pub program_never_rejected : (first : FormState OfLines ProgramState) (bytes text : List ℕ) → IsText program_machine first bytes Rejected text ⊎ IsSure program_machine first bytes (Stops Rejected) text → ⊥
-program_never_rejected =
-    never_rejected program_form lines_machine (λ f b n e text h. refused_not e (begins_refused f b n e text h)) (λ x n l e text h. refused_not e (steps_refused x n l e text h)) (λ x n e text h. closes_not x.stage x.compiled.model n e text h)
-
--- a state and a line lead to one state and one text
-pub program_fixed : IsFixed program_machine
-program_fixed = form_is_fixed program_form lines_machine (λ f b n u v a c. goes_on_one_way) (record { steps = steps_one; closes = closes_one })
+pub program_ends : EndsByRefusal program_first lines_machine
+program_ends = ends_by_refusal program_first lines_machine steps_refused (λ x n e text h. closes_not x.stage x.compiled.model n e text h) (record { steps = steps_one; closes = closes_one })

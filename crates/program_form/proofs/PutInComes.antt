@@ -4,6 +4,7 @@ use Rattle.std.specs.Prelude.{option_to_list}
 use Rattle.cca_base.specs.Accepted.{CompiledModel, IsCompiled}
 use Rattle.cca_base.specs.Orders.{IsSorted}
 use Rattle.cca_base.specs.Plans.{Promising}
+use Rattle.cca_base.specs.PlantModel.{PlantModel}
 use Rattle.cca_base.specs.Trace.{ExecutiveState, AllMayCome, MayCome}
 use Rattle.cca_base.specs.declared.cube.Pair.{Pair}
 use Rattle.cca_base.specs.declared.events.Event.{Event}
@@ -12,6 +13,8 @@ use Rattle.control_laws.specs.Turns.{Control}
 use Rattle.control_syntax.specs.declared.part.Part.{Part}
 use Rattle.model_form.specs.Limits.{line_code, unless_long}
 use Rattle.cca_base.specs.declared.events.TickReport.{TickReport}
+use Rattle.script_reader.proofs.EventsMayCome.{tokens_come}
+use Rattle.text_base.specs.Tokens.{tokens_of}
 use Rattle.trace_laws.specs.Events.{Acts, mirrored_after}
 use Rattle.trace_laws.proofs.EventsJoin.{event_first}
 use Rattle.trace_laws.proofs.PendingKnown.{one_pending}
@@ -19,10 +22,14 @@ use Rattle.program_form.specs.ProgramMachine.{Prepares, report_of, sequencer}
 use Rattle.program_form.specs.PutIn.{Told, PutsBefore, TurnsBefore, asks}
 use Rattle.program_form.specs.Sequences.{Sequence, SaysBy, SaysEvents, event_line}
 use Rattle.program_form.specs.Stages.{RunsWell}
-use Rattle.program_form.proofs.EventsComeHere.{comes_here}
 use Rattle.program_form.proofs.EventLines.{AreMade, first_made, known}
 use Rattle.program_form.proofs.RunningWell.{goal_comes, well_after, well_again}
 use Rattle.program_form.proofs.Sequencing.{prepared}
+
+-- an event of a line behind the program may come
+comes_here : (m : PlantModel) (pending : List Pair) (mirrored : ℕ) (line : List ℕ) (e : Event) → event_line m pending mirrored line ≡ Ok (Some e) → MayCome m pending mirrored e
+unfolding event_line
+comes_here m pending mirrored line e h = tokens_come m pending mirrored e false (tokens_of line) h
 
 module _ (b : CompiledModel) (compiled : IsCompiled b) where
   abbrev AllCome : ExecutiveState → List Event → Type 0

@@ -162,20 +162,20 @@ text_first m None others = refl
 text_first m (Some told) others = refl
 
 -- a tick has a report, and no other event has one
+pub tick_is : (e : Event) → IsTick e → e ≡ event.Tick
+tick_is event.Tick tick = refl
+tick_is event.Reset tick = absurd tick
+tick_is (event.Goal pairs) tick = absurd tick
+tick_is event.Clear tick = absurd tick
+tick_is (event.Observe pairs) tick = absurd tick
+tick_is (event.Fault p) tick = absurd tick
+tick_is (event.Mirror v) tick = absurd tick
+
 pub told_reports : (b : CompiledModel) (z : ExecutiveState) (e : Event) (y : ExecutiveState) (report : Option TickReport) (others reports : List TickReport) (before next : Control) (own : Option Told) → IsToldOf e before next own
     → Acts b (Promising b) z e y report → reports ≡ option_to_list report ++ others → (more : List Told) → reports ≡ reports_of (option_to_list own ++ more) → (report ≡ report_of own) × (others ≡ reports_of more)
 told_reports b z e y None others reports before next None told acts split more is = (refl, sym split ∙ is)
 told_reports b z e y (Some r) others reports before next None told acts split more is = absurd (told acts.0)
-told_reports b z e y None others reports before next (Some t) told acts split more is = absurd (no_tick e told.0 acts)
-  where
-    no_tick : (f : Event) → IsTick f → Changes b.model (IsSorted b.order) z f y → ⊥
-    no_tick event.Tick tick act = act
-    no_tick event.Reset tick act = tick
-    no_tick (event.Goal pairs) tick act = tick
-    no_tick event.Clear tick act = tick
-    no_tick (event.Observe pairs) tick act = tick
-    no_tick (event.Fault p) tick act = tick
-    no_tick (event.Mirror v) tick act = tick
+told_reports b z e y None others reports before next (Some t) told acts split more is = absurd (subst (λ (f : Event). Changes b.model (IsSorted b.order) z f y) (tick_is e told.0) acts)
 told_reports b z e y (Some r) others reports before next (Some t) told acts split more is =
     let lists : r ∷ others ≡ t.report ∷ reports_of more = sym split ∙ is in
     (ap (λ s. Some s) (let h : r ∷ others ≡ t.report ∷ reports_of more = lists in head_same r t.report others (reports_of more) h), tail_same r t.report others (reports_of more) lists)

@@ -14,7 +14,7 @@ use Rattle.control_syntax.specs.Written.{AreRead}
 use Rattle.control_syntax.specs.declared.line.Line.{Line}
 use Rattle.control_syntax.specs.declared.part.Part.{Part}
 use Rattle.model_form.specs.Limits.{line_code, unless_long}
-use Rattle.script_reader.specs.EventLines.{as_event, by_form, by_tokens, event_of, named_event, unless}
+use Rattle.script_reader.specs.EventLines.{as_event, by_form, by_tokens, event_here, event_of, named_event, unless}
 use Rattle.script_reader.specs.Items.{Item, Goal, Clear, Observe, Fault, Mirror, Reset, Tick, item_of}
 use Rattle.script_reader.specs.Named.{variable_of, stands_for, each_pair}
 use Rattle.script_reader.specs.declared.named.Naming.TheVariants.{Modes, Values}
@@ -23,7 +23,7 @@ use Rattle.text_base.specs.Lexemes.{lexeme}
 use Rattle.text_base.specs.Tokens.{Tok, tokens_of}
 use Rattle.trace_laws.specs.Events.{mirrored_after}
 use Rattle.program_form.specs.PutInLaws.{sets_no_goal}
-use Rattle.program_form.specs.Sequences.{Sequence, ProgramBy, ReadsLine, SaysBy, SaysEvents, SaysNext, SaysProgram, event_here, event_line, line_says}
+use Rattle.program_form.specs.Sequences.{Sequence, ProgramBy, ReadsLine, SaysBy, SaysEvents, SaysNext, SaysProgram, event_line, line_says}
 use Rattle.program_form.specs.WrittenPrograms.{AreShort, IsWrittenFirst, LinesSetNoGoal, ProgramsAreWritten}
 
 module _ (m : PlantModel) where

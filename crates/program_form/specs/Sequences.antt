@@ -1,6 +1,6 @@
 -- What the lines behind a model say: a control program, and the events behind it.
 use Rattle.std.specs.Prelude.{◌≡◌, ℕ, ◌+◌, List, [], ◌∷◌, Option, Some, None, Result, Ok, Err}
-use Rattle.cca_base.specs.declared.codes.TheConstants.{ENDS_EARLY, MALFORMED}
+use Rattle.cca_base.specs.declared.codes.TheConstants.{ENDS_EARLY}
 use Rattle.cca_base.specs.declared.cube.Pair.{Pair}
 use Rattle.cca_base.specs.declared.events.Event.{Event}
 use Rattle.cca_base.specs.PlantModel.{PlantModel}
@@ -10,8 +10,7 @@ use Rattle.control_syntax.specs.declared.line.Line.{Line}
 use Rattle.control_syntax.specs.declared.part.Part.{Part}
 use Rattle.model_form.specs.Limits.{line_code, unless_long}
 use Rattle.model_form.specs.LinesEnds.{LinesEnd, AllRead, RefusedAt}
-use Rattle.script_reader.specs.EventLines.{by_tokens, event_of}
-use Rattle.script_reader.specs.Items.{Item, Goal, Clear, Observe, Fault, Mirror, Reset, Tick}
+use Rattle.script_reader.specs.EventLines.{by_tokens, event_here}
 use Rattle.text_base.specs.Tokens.{tokens_of}
 use Rattle.trace_laws.specs.Events.{PendingAfter, mirrored_after}
 
@@ -27,17 +26,7 @@ with_event e r = record { program = r.program; events = e ∷ r.events; ending =
 
 -- ---- events
 
--- what a line says that has one of a script's forms: a goal is set and cleared by the program alone
-abbrev pub event_here : PlantModel → List Pair → ℕ → Item → Result Event ℕ
-event_here m pending mirrored (Goal pairs) = Err MALFORMED
-event_here m pending mirrored Clear = Err MALFORMED
-event_here m pending mirrored (Observe pairs) = event_of m pending mirrored (Observe pairs)
-event_here m pending mirrored (Fault pair) = event_of m pending mirrored (Fault pair)
-event_here m pending mirrored (Mirror name) = event_of m pending mirrored (Mirror name)
-event_here m pending mirrored Reset = event_of m pending mirrored Reset
-event_here m pending mirrored Tick = event_of m pending mirrored Tick
-
--- what a line behind a program says, with these pending observations and these mirrored variables: an event, or none where it has no tokens; or its code
+-- what a line behind a program says, where the program alone sets and clears goals, with these pending observations and these mirrored variables: an event, or none where it has no tokens; or its code
 unfoldable pub event_line : PlantModel → List Pair → ℕ → List ℕ → Result (Option Event) ℕ
 event_line m pending mirrored line = by_tokens (event_here m pending mirrored) (tokens_of line)
 

@@ -2,7 +2,6 @@
 //! clears the executive's goals; for each tick the text has its report, and a line where the program has ended.
 #![tactic(auto)]
 
-mod event_line;
 mod laws;
 mod programmed;
 mod told;

@@ -10,7 +10,7 @@ ghost use Rattle.line_machine.specs.declared.machine.TheConstants.{MAX_LINES};
 ghost use Rattle.model_form.specs.FormStates.{form_first};
 ghost use Rattle.control_laws.specs.Turns.{TurnsBy};
 ghost use Rattle.control_syntax.specs.Kept.{MayRunSoFar};
-ghost use Rattle.script_reader.specs.EventLines.{AnswersAs};
+ghost use Rattle.script_reader.specs.EventLines.{AnswersAs, AnswersWhatMayCome};
 ghost use Rattle.script_reader.specs.SaidLines.{Answers};
 ghost use Rattle.trace_laws.specs.Events.{Acts, IsTick};
 ghost use Rattle.program_form.specs.PutIn.{Told, TurnsBefore, asks, ends, left_by};
@@ -18,7 +18,6 @@ ghost use Rattle.program_form.specs.ProgramMachine.{MakesBy, MakesEvent, Prepare
 ghost use Rattle.program_form.specs.Sequences.{event_line};
 ghost use Rattle.program_form.specs.Stages.{ReadsTo, RunsWell, begun};
 
-use crate::event_line::read_event_here;
 use crate::told::told;
 use cca_base::codes::ENDS_EARLY;
 use cca_base::{Event, List, Model, Name, Pair, Refusal, Stop, Subject, TickReport};
@@ -31,7 +30,7 @@ use line_machine::{End, Machine, Said};
 use model_form::{
     Accepted, BehindModel, MAX_LINE, OfLines, WithModel, nothing, refusal_of, refuse_stop,
 };
-use script_reader::Context;
+use script_reader::{Context, read_event_by};
 use std::alloc::{AllocError, Global};
 use std::mem;
 
@@ -217,8 +216,8 @@ fn make_other(
     Ok(())
 }
 
-/// Makes an event, and answers what is printed of it.
-#[tactic(auto, using(crate::proofs::MadeEvents::no_tick))]
+/// Makes an event, which is one tick at most, and answers what is printed of it.
+#[tactic(auto, using(crate::proofs::MadeEvents::no_tick, crate::proofs::TicksCount::makes_count))]
 fn make(
     alloc: Global,
     executive: &mut Executive,
@@ -233,6 +232,8 @@ fn make(
         × MakesEvent executive.old.compiled executive.old.state runner.old event.now
         executive.new.state runner.new own
         × (text.items ≡ event_text executive.old.compiled.model own)) }
+    ensures ticks { IfOk result (λ text.
+        executive.new.state.ticks < executive.old.state.ticks + 2) }
     ensures compiled { executive.new.compiled ≡ executive.old.compiled }
     ensures well { RunsWell executive.old.compiled.model runner.new }
 {
@@ -266,6 +267,7 @@ fn read_program(
 }
 
 /// What a line behind the program says, with what the executive has pending and mirrored.
+#[tactic(auto, unfolding(crate::specs::Sequences::event_line))]
 fn read_event(
     alloc: Global,
     executive: &Executive,
@@ -275,9 +277,8 @@ fn read_event(
     requires fit { NamesFit names.now executive.now.compiled.model }
     ensures answer { AnswersAs result (event_line executive.now.compiled.model
         executive.now.state.pending executive.now.state.mirrored line.now) }
-    ensures may_come { IfOk result (λ event.
-        IfSome event (MayCome executive.now.compiled.model executive.now.state.pending
-        executive.now.state.mirrored)) }
+    ensures may_come { AnswersWhatMayCome executive.now.compiled.model
+        executive.now.state.pending executive.now.state.mirrored result }
     ensures compiled { IsCompiled executive.now.compiled }
 {
     let context = Context {
@@ -285,31 +286,7 @@ fn read_event(
         pending: executive.pending(),
         mirrored: executive.mirrored(),
     };
-    read_event_here(alloc, &context, line)
-}
-
-/// Makes an event; that is one tick at most.
-#[tactic(auto, using(crate::proofs::TicksCount::makes_count))]
-fn make_one(
-    alloc: Global,
-    executive: &mut Executive,
-    runner: &mut Runner,
-    event: &Event,
-) -> Result<Vec<u8>, AllocError>
-    requires may_come { MayCome executive.old.compiled.model executive.old.state.pending
-        executive.old.state.mirrored event.now }
-    requires well { RunsWell executive.old.compiled.model runner.old }
-    requires room { executive.old.state.ticks + 1 < 2 ^ 64 }
-    ensures makes { IfOk result (λ text. (own : Option Told)
-        × MakesEvent executive.old.compiled executive.old.state runner.old event.now
-        executive.new.state runner.new own
-        × (text.items ≡ event_text executive.old.compiled.model own)) }
-    ensures ticks { IfOk result (λ text.
-        executive.new.state.ticks < executive.old.state.ticks + 2) }
-    ensures compiled { executive.new.compiled ≡ executive.old.compiled }
-    ensures well { RunsWell executive.old.compiled.model runner.new }
-{
-    make(alloc, executive, runner, event)
+    read_event_by(alloc, &context, false, line)
 }
 
 /// Takes a line behind the program.
@@ -337,7 +314,7 @@ fn run_line(
 {
     match read_event(alloc, executive, names, line) {
         Ok(Some(event)) => {
-            let text = make_one(alloc, executive, runner, &event)?;
+            let text = make(alloc, executive, runner, &event)?;
             Ok(Said { text, end: None })
         }
         Ok(None) => Ok(nothing(alloc)),

@@ -1,6 +1,6 @@
 -- What a line is taken as may come.
 use Rattle.std.proofs.Common.{◌≡◌, ◌≢◌, ℕ, ◌<◌, Bool, true, false, not, ◌||◌, ◌==◌, List, [], ◌∷◌, length, map, Option, Some, None, Result, Ok, Err, All, Contains, slice_get, refl, sym, ap, subst, arith}
-use Rattle.std.specs.Prelude.{IfOk, IfSome}
+use Rattle.std.specs.Prelude.{IfSome}
 use Rattle.std.specs.List.{list_any}
 use Rattle.std.specs.Option.{option_map_or}
 use Rattle.std.proofs.lemmas.Bool.{or_parts, not-false, eqb-false}
@@ -31,7 +31,7 @@ use Rattle.script_reader.specs.declared.named.Naming.TheVariants.{Modes, Values}
 use Rattle.script_reader.specs.Items.{Item, Goal, Clear, Observe, Fault, Mirror, Reset, Tick, item_of, IsSpelled}
 use Rattle.script_reader.specs.Named.{component_of, variable_of, mode_pair, value_pair, stands_for, each_pair}
 use Rattle.script_reader.specs.EventCodes.{has_item, has_item_twice, is_sensed, is_broken_pair, goal_code, observe_code, mirror_code}
-use Rattle.script_reader.specs.EventLines.{unless, named_event, event_of, as_event, by_form, by_tokens, event_line, AnswersAs}
+use Rattle.script_reader.specs.EventLines.{unless, named_event, event_of, event_here, event_by, as_event, by_form, by_tokens, event_line, AnswersAs, AnswersWhatMayCome}
 use Rattle.script_reader.proofs.EachPair.{as_many, comes_from, pair_parts}
 use Rattle.script_reader.proofs.ItemGrammar.{item_written}
 
@@ -162,25 +162,39 @@ module _ (m : PlantModel) (pending : List Pair) (mirrored : ℕ) (e : Event) whe
   item_comes Reset s h = subst (MayCome m pending mirrored) (ok_is event.Reset e h) tt
   item_comes Tick s h = subst (MayCome m pending mirrored) (ok_is event.Tick e h) tt
 
+  here_comes : (i : Item) → IsSpelled i → event_here m pending mirrored i ≡ Ok e → MayCome m pending mirrored e
+  here_comes (Goal named) s h = absurd cc
+  here_comes Clear s h = absurd cc
+  here_comes (Observe named) s h = item_comes (Observe named) s h
+  here_comes (Fault named) s h = item_comes (Fault named) s h
+  here_comes (Mirror name) s h = item_comes (Mirror name) s h
+  here_comes Reset s h = item_comes Reset s h
+  here_comes Tick s h = item_comes Tick s h
+
+  by_comes : (goals : Bool) (i : Item) → IsSpelled i → event_by goals m pending mirrored i ≡ Ok e → MayCome m pending mirrored e
+  by_comes true i s h = item_comes i s h
+  by_comes false i s h = here_comes i s h
+
   event_is : (r : Result Event ℕ) → as_event r ≡ Ok (Some e) → r ≡ Ok e
   event_is (Err code) h = absurd cc
   event_is (Ok x) h = ap (λ (y : Event). Ok y) (same_Some x e (ok_is (Some x) (Some e) h))
 
-  form_comes : (ls : List Lexeme) (o : Option Item) → item_of ls ≡ o → by_form (event_of m pending mirrored) o ≡ Ok (Some e) → MayCome m pending mirrored e
-  form_comes ls None f h = absurd cc
-  form_comes ls (Some i) f h = item_comes i (item_written ls i f).1 (event_is (event_of m pending mirrored i) h)
+  form_comes : (goals : Bool) (ls : List Lexeme) (o : Option Item) → item_of ls ≡ o → by_form (event_by goals m pending mirrored) o ≡ Ok (Some e) → MayCome m pending mirrored e
+  form_comes goals ls None f h = absurd cc
+  form_comes goals ls (Some i) f h = by_comes goals i (item_written ls i f).1 (event_is (event_by goals m pending mirrored i) h)
 
-  tokens_come : (t : Result (List Tok) ℕ) → by_tokens (event_of m pending mirrored) t ≡ Ok (Some e) → MayCome m pending mirrored e
-  tokens_come (Err at) h = absurd cc
-  tokens_come (Ok []) h = absurd cc
-  tokens_come (Ok (t ∷ ts)) h = form_comes (map lexeme (t ∷ ts)) (item_of (map lexeme (t ∷ ts))) refl h
+  pub tokens_come : (goals : Bool) (t : Result (List Tok) ℕ) → by_tokens (event_by goals m pending mirrored) t ≡ Ok (Some e) → MayCome m pending mirrored e
+  tokens_come goals (Err at) h = absurd cc
+  tokens_come goals (Ok []) h = absurd cc
+  tokens_come goals (Ok (t ∷ ts)) h = form_comes goals (map lexeme (t ∷ ts)) (item_of (map lexeme (t ∷ ts))) refl h
 
 pub event_comes : (m : PlantModel) (pending : List Pair) (mirrored : ℕ) (line : List ℕ) (o : Option Event) → event_line m pending mirrored line ≡ Ok o → IfSome o (MayCome m pending mirrored)
 unfolding event_line
 event_comes m pending mirrored line None h = tt
-event_comes m pending mirrored line (Some e) h = tokens_come m pending mirrored e (tokens_of line) h
+event_comes m pending mirrored line (Some e) h = tokens_come m pending mirrored e true (tokens_of line) h
 
 -- the event that a call answered may come
-pub line_may_come : (m : PlantModel) (pending : List Pair) (mirrored : ℕ) (line : List ℕ) (r : Result (Option Event) Stop) → AnswersAs r (event_line m pending mirrored line) → IfOk r (λ o. IfSome o (MayCome m pending mirrored))
-line_may_come m pending mirrored line (Ok o) h = event_comes m pending mirrored line o h
-line_may_come m pending mirrored line (Err e) h = tt
+pub line_may_come : (goals : Bool) (m : PlantModel) (pending : List Pair) (mirrored : ℕ) (t : Result (List Tok) ℕ) (r : Result (Option Event) Stop) → AnswersAs r (by_tokens (event_by goals m pending mirrored) t) → AnswersWhatMayCome m pending mirrored r
+line_may_come goals m pending mirrored t (Ok None) h = tt
+line_may_come goals m pending mirrored t (Ok (Some e)) h = tokens_come m pending mirrored e goals t h
+line_may_come goals m pending mirrored t (Err e) h = tt

@@ -1,5 +1,5 @@
 -- What a line of a script says.
-use Rattle.std.specs.Prelude.{◌≡◌, ℕ, List, [], ◌∷◌, map, Option, Some, None, Result, Ok, Err}
+use Rattle.std.specs.Prelude.{◌≡◌, ℕ, Bool, true, false, List, [], ◌∷◌, map, Option, Some, None, Result, Ok, Err, IfOk, IfSome}
 use Rattle.cca_base.specs.declared.codes.TheConstants.{MALFORMED, NAME_UNKNOWN}
 use Rattle.cca_base.specs.declared.cube.Pair.{Pair}
 use Rattle.cca_base.specs.declared.events.Detail.TheVariants.{Nothing}
@@ -8,6 +8,7 @@ use Rattle.cca_base.specs.declared.events.Event.TheVariants as event
 use Rattle.cca_base.specs.declared.events.Stop.{Stop}
 use Rattle.cca_base.specs.declared.events.Stop.TheVariants as stops
 use Rattle.cca_base.specs.PlantModel.{PlantModel}
+use Rattle.cca_base.specs.Trace.{MayCome}
 use Rattle.text_base.specs.Tokens.{Tok, tokens_of}
 use Rattle.text_base.specs.Lexemes.{lexeme}
 use Rattle.script_reader.specs.Items.{Item, Goal, Clear, Observe, Fault, Mirror, Reset, Tick, item_of}
@@ -35,6 +36,21 @@ event_of m pending mirrored (Mirror name) = named_event event.Mirror (mirror_cod
 event_of m pending mirrored Reset = Ok event.Reset
 event_of m pending mirrored Tick = Ok event.Tick
 
+-- the same where goals are set and cleared by no line
+abbrev pub event_here : PlantModel → List Pair → ℕ → Item → Result Event ℕ
+event_here m pending mirrored (Goal pairs) = Err MALFORMED
+event_here m pending mirrored Clear = Err MALFORMED
+event_here m pending mirrored (Observe pairs) = event_of m pending mirrored (Observe pairs)
+event_here m pending mirrored (Fault pair) = event_of m pending mirrored (Fault pair)
+event_here m pending mirrored (Mirror name) = event_of m pending mirrored (Mirror name)
+event_here m pending mirrored Reset = event_of m pending mirrored Reset
+event_here m pending mirrored Tick = event_of m pending mirrored Tick
+
+-- by whether lines set and clear goals
+abbrev pub event_by : Bool → PlantModel → List Pair → ℕ → Item → Result Event ℕ
+event_by true = event_of
+event_by false = event_here
+
 -- an event
 abbrev pub as_event : Result Event ℕ → Result (Option Event) ℕ
 as_event (Ok e) = Ok (Some e)
@@ -60,3 +76,7 @@ abbrev pub AnswersAs : {X : Type 0} → Result X Stop → Result X ℕ → Type 
 AnswersAs (Ok x) said = said ≡ Ok x
 AnswersAs (Err stops.Memory) said = Unit {0}
 AnswersAs (Err (stops.Refused refusal)) said = (said ≡ Err refusal.code) × (refusal.detail ≡ Nothing)
+
+-- the event that a call answered, if it answered one, may come
+abbrev pub AnswersWhatMayCome : PlantModel → List Pair → ℕ → Result (Option Event) Stop → Type 0
+AnswersWhatMayCome m pending mirrored answer = IfOk answer (λ event. IfSome event (MayCome m pending mirrored))

@@ -29,9 +29,7 @@ NamesUnknown m (Goal pairs) = (p : NamedPair) × Contains pairs p × (mode_pair 
 NamesUnknown m (Observe pairs) = (p : NamedPair) × Contains pairs p × (value_pair m p ≡ None)
 NamesUnknown m (Fault pair) = mode_pair m pair ≡ None
 NamesUnknown m (Mirror name) = variable_of m name ≡ None
-NamesUnknown m Clear = ⊥
-NamesUnknown m Reset = ⊥
-NamesUnknown m Tick = ⊥
+NamesUnknown m i = ⊥
 
 -- the line observes the variable, or mirrors it
 abbrev pub NamesVariable : PlantModel → Item → ℕ → Type 0
@@ -50,12 +48,7 @@ NamesUnsensed m item = (v : ℕ) × NamesVariable m item v × (is_sensed m v ≡
 -- a pair of a goal has a broken mode
 abbrev pub WantsBroken : PlantModel → Item → Type 0
 WantsBroken m (Goal pairs) = (p : NamedPair) × (q : Pair) × Contains pairs p × (mode_pair m p ≡ Some q) × (is_broken m.moves q.item q.value ≡ true)
-WantsBroken m (Observe pairs) = ⊥
-WantsBroken m (Fault pair) = ⊥
-WantsBroken m (Mirror name) = ⊥
-WantsBroken m Clear = ⊥
-WantsBroken m Reset = ⊥
-WantsBroken m Tick = ⊥
+WantsBroken m i = ⊥
 
 -- a later pair has the name of the first, or two of the later ones have one name
 abbrev pub HaveNameTwice : List NamedPair → Type 0
@@ -66,11 +59,7 @@ HaveNameTwice (p ∷ ps) = ((q : NamedPair) × Contains ps q × (q.name ≡ p.na
 abbrev pub NamesTwice : Item → Type 0
 NamesTwice (Goal pairs) = HaveNameTwice pairs
 NamesTwice (Observe pairs) = HaveNameTwice pairs
-NamesTwice (Fault pair) = ⊥
-NamesTwice (Mirror name) = ⊥
-NamesTwice Clear = ⊥
-NamesTwice Reset = ⊥
-NamesTwice Tick = ⊥
+NamesTwice i = ⊥
 
 -- a variable that the line observes or mirrors has a pending observation
 abbrev pub NamesPending : PlantModel → List Pair → Item → Type 0

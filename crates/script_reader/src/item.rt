@@ -71,32 +71,24 @@ pub fn item_of<'a>(alloc: Global, tokens: &[Token<'a>]) -> Result<Option<Item<'a
     ensures { IfOk result (λ read.
         option_map shown_item read ≡ item_of (map lexeme_of tokens.now)) }
 {
-    match tokens {
-        [] => Ok(None),
-        [first, rest @ ..] => {
-            if is_lexeme(first, Kind::Word, b"goal") {
-                match only_pairs(alloc, rest)? {
-                    Some(pairs) => Ok(Some(Item::Goal(pairs))),
-                    None => Ok(None),
-                }
-            } else if is_lexeme(first, Kind::Word, b"clear") {
-                Ok(ended(Item::Clear, rest))
-            } else if is_lexeme(first, Kind::Word, b"observe") {
-                match only_pairs(alloc, rest)? {
-                    Some(pairs) => Ok(Some(Item::Observe(pairs))),
-                    None => Ok(None),
-                }
-            } else if is_lexeme(first, Kind::Word, b"fault") {
-                Ok(fault_at(rest))
-            } else if is_lexeme(first, Kind::Word, b"mirror") {
-                Ok(mirror_at(rest))
-            } else if is_lexeme(first, Kind::Word, b"reset") {
-                Ok(ended(Item::Reset, rest))
-            } else if is_lexeme(first, Kind::Word, b"tick") {
-                Ok(ended(Item::Tick, rest))
-            } else {
-                Ok(None)
-            }
-        }
+    let [first, rest @ ..] = tokens else {
+        return Ok(None);
+    };
+    if is_lexeme(first, Kind::Word, b"goal") {
+        Ok(only_pairs(alloc, rest)?.map(Item::Goal))
+    } else if is_lexeme(first, Kind::Word, b"clear") {
+        Ok(ended(Item::Clear, rest))
+    } else if is_lexeme(first, Kind::Word, b"observe") {
+        Ok(only_pairs(alloc, rest)?.map(Item::Observe))
+    } else if is_lexeme(first, Kind::Word, b"fault") {
+        Ok(fault_at(rest))
+    } else if is_lexeme(first, Kind::Word, b"mirror") {
+        Ok(mirror_at(rest))
+    } else if is_lexeme(first, Kind::Word, b"reset") {
+        Ok(ended(Item::Reset, rest))
+    } else if is_lexeme(first, Kind::Word, b"tick") {
+        Ok(ended(Item::Tick, rest))
+    } else {
+        Ok(None)
     }
 }

@@ -14,11 +14,11 @@ use Rattle.check_form.proofs.CheckAgrees.{check_agrees}
 use Rattle.migrate_form.proofs.MigrateAgrees.{migrate_agrees}
 use Rattle.migrate_form.proofs.MigrateEnds.{migrate_never_rejected}
 use Rattle.want_form.proofs.WantAgrees.{want_agrees}
-use Rattle.want_form.proofs.WantEnds.{want_never_rejected}
+use Rattle.want_form.proofs.WantEnds.{want_ends}
 use Rattle.watch_form.proofs.WatchAgrees.{watch_agrees}
-use Rattle.watch_form.proofs.WatchEnds.{watch_never_rejected}
+use Rattle.watch_form.proofs.WatchEnds.{watch_ends}
 use Rattle.program_form.proofs.ProgramAgrees.{program_agrees}
-use Rattle.program_form.proofs.ProgramEnds.{program_never_rejected}
+use Rattle.program_form.proofs.ProgramEnds.{program_ends}
 use Rattle.titan_top.specs.Meanings.{meaning_of}
 use Rattle.titan_top.specs.declared.words.Form.{Form}
 use Rattle.titan_top.specs.declared.words.Form.TheVariants.{Run, Show, Trial, Check, Migrate, Want, Watch, Program}
@@ -44,6 +44,6 @@ only_check_rejects Show bytes text h = absurd (show_never_rejected (form_first (
 only_check_rejects (Trial seed) bytes text h = absurd (run_never_rejected (run_first (Summary seed)) bytes text h)
 only_check_rejects Check bytes text h = refl
 only_check_rejects Migrate bytes text h = absurd (migrate_never_rejected (form_first (record {})) bytes text h)
-only_check_rejects Want bytes text h = absurd (want_never_rejected (form_first (record {})) bytes text h)
-only_check_rejects Watch bytes text h = absurd (watch_never_rejected (form_first (record {})) bytes text h)
-only_check_rejects Program bytes text h = absurd (program_never_rejected (form_first (record {})) bytes text h)
+only_check_rejects Want bytes text h = absurd (want_ends.never (form_first (record {})) bytes text h)
+only_check_rejects Watch bytes text h = absurd (watch_ends.never (form_first (record {})) bytes text h)
+only_check_rejects Program bytes text h = absurd (program_ends.never (form_first (record {})) bytes text h)

@@ -23,11 +23,11 @@ use Rattle.check_form.proofs.NotBefore.{check_sure_not, check_is_quiet}
 use Rattle.migrate_form.specs.MigrateMachine.{migrate_machine}
 use Rattle.migrate_form.proofs.MigrateEnds.{migrate_sure_refused}
 use Rattle.want_form.specs.WishMachine.{want_machine}
-use Rattle.want_form.proofs.WantEnds.{want_sure_refused}
+use Rattle.want_form.proofs.WantEnds.{want_ends}
 use Rattle.watch_form.specs.WatchMachine.{watch_machine}
-use Rattle.watch_form.proofs.WatchEnds.{watch_sure_refused}
+use Rattle.watch_form.proofs.WatchEnds.{watch_ends}
 use Rattle.program_form.specs.ProgramMachine.{program_machine}
-use Rattle.program_form.proofs.ProgramEnds.{program_sure_refused}
+use Rattle.program_form.proofs.ProgramEnds.{program_ends}
 use Rattle.titan_top.specs.Meanings.{meaning_of}
 use Rattle.titan_top.specs.Output.{NothingRefused}
 use Rattle.titan_top.specs.Statuses.{cut_status, status_of}
@@ -81,39 +81,29 @@ module _ {S : Type 0} (m : Ghosts S) (first : S) (never : (taken text : List ℕ
   ended_at_end left left' out out' (Ok e) s h = at_end_by left left' out out' e (end_ended e h) s
   ended_at_end left left' out out' (Err c) s h = absurd (no_cut_ended c h)
 
-run_never : (w : Notation) (taken text : List ℕ) → IsSure run_machine (run_first w) taken (Stops ends.Ended) text → ⊥
-run_never w taken text h = let k : ends.Ended ≡ ends.Refused = run_sure_refused (run_first w) taken ends.Ended text h in absurd cc
+-- before the end of the input it ends only with a refusal
+module _ {S : Type 0} (m : Ghosts S) (first : S) (refused : (taken : List ℕ) (e : End) (text : List ℕ) → IsSure m first taken (Stops e) text → e ≡ ends.Refused) where
+  read_to_end : (left left' out out' : Option (List ℕ)) (r : Result End Cut) → Streamed m first left left' out out' r → status_of r ≡ Ended → IsAtEnd left'
+  read_to_end = ended_at_end m first (λ taken text h. let k : ends.Ended ≡ ends.Refused = refused taken ends.Ended text h in absurd cc)
 
 pub run_at_end : (w : Notation) (form : Form) (left left' out out' : Option (List ℕ)) (r : Result End Cut) → form ≡ Run w → StreamedFor form left left' out out' r → status_of r ≡ Ended → IsAtEnd left'
-run_at_end w form left left' out out' r is s h = ended_at_end run_machine (run_first w) (run_never w) left left' out out' r (subst (λ (f : Form). StreamedFor f left left' out out' r) is s) h
+run_at_end w form left left' out out' r is s h = read_to_end run_machine (run_first w) (run_sure_refused (run_first w)) left left' out out' r (subst (λ (f : Form). StreamedFor f left left' out out' r) is s) h
 
 pub check_at_end : (form : Form) (left left' out out' : Option (List ℕ)) (r : Result End Cut) → form ≡ Check → StreamedFor form left left' out out' r → status_of r ≡ Ended → IsAtEnd left'
 check_at_end form left left' out out' r is s h =
     ended_at_end check_machine (form_first (record {})) (λ taken text k. check_sure_not (form_first (record {})) taken ends.Ended text k refl) left left' out out' r (subst (λ (f : Form). StreamedFor f left left' out out' r) is s) h
 
-migration_never : (taken text : List ℕ) → IsSure migrate_machine (form_first (record {})) taken (Stops ends.Ended) text → ⊥
-migration_never taken text h = let k : ends.Ended ≡ ends.Refused = migrate_sure_refused (form_first (record {})) taken ends.Ended text h in absurd cc
-
 pub migration_at_end : (form : Form) (left left' out out' : Option (List ℕ)) (r : Result End Cut) → form ≡ Migrate → StreamedFor form left left' out out' r → status_of r ≡ Ended → IsAtEnd left'
-migration_at_end form left left' out out' r is s h = ended_at_end migrate_machine (form_first (record {})) migration_never left left' out out' r (subst (λ (f : Form). StreamedFor f left left' out out' r) is s) h
-
-wishes_never : (taken text : List ℕ) → IsSure want_machine (form_first (record {})) taken (Stops ends.Ended) text → ⊥
-wishes_never taken text h = let k : ends.Ended ≡ ends.Refused = want_sure_refused (form_first (record {})) taken ends.Ended text h in absurd cc
+migration_at_end form left left' out out' r is s h = read_to_end migrate_machine (form_first (record {})) (migrate_sure_refused (form_first (record {}))) left left' out out' r (subst (λ (f : Form). StreamedFor f left left' out out' r) is s) h
 
 pub wishes_at_end : (form : Form) (left left' out out' : Option (List ℕ)) (r : Result End Cut) → form ≡ Want → StreamedFor form left left' out out' r → status_of r ≡ Ended → IsAtEnd left'
-wishes_at_end form left left' out out' r is s h = ended_at_end want_machine (form_first (record {})) wishes_never left left' out out' r (subst (λ (f : Form). StreamedFor f left left' out out' r) is s) h
-
-watch_never : (taken text : List ℕ) → IsSure watch_machine (form_first (record {})) taken (Stops ends.Ended) text → ⊥
-watch_never taken text h = let k : ends.Ended ≡ ends.Refused = watch_sure_refused (form_first (record {})) taken ends.Ended text h in absurd cc
+wishes_at_end form left left' out out' r is s h = read_to_end want_machine (form_first (record {})) (want_ends.sure (form_first (record {}))) left left' out out' r (subst (λ (f : Form). StreamedFor f left left' out out' r) is s) h
 
 pub watch_at_end : (form : Form) (left left' out out' : Option (List ℕ)) (r : Result End Cut) → form ≡ Watch → StreamedFor form left left' out out' r → status_of r ≡ Ended → IsAtEnd left'
-watch_at_end form left left' out out' r is s h = ended_at_end watch_machine (form_first (record {})) watch_never left left' out out' r (subst (λ (f : Form). StreamedFor f left left' out out' r) is s) h
-
-program_never : (taken text : List ℕ) → IsSure program_machine (form_first (record {})) taken (Stops ends.Ended) text → ⊥
-program_never taken text h = let k : ends.Ended ≡ ends.Refused = program_sure_refused (form_first (record {})) taken ends.Ended text h in absurd cc
+watch_at_end form left left' out out' r is s h = read_to_end watch_machine (form_first (record {})) (watch_ends.sure (form_first (record {}))) left left' out out' r (subst (λ (f : Form). StreamedFor f left left' out out' r) is s) h
 
 pub program_at_end : (form : Form) (left left' out out' : Option (List ℕ)) (r : Result End Cut) → form ≡ Program → StreamedFor form left left' out out' r → status_of r ≡ Ended → IsAtEnd left'
-program_at_end form left left' out out' r is s h = ended_at_end program_machine (form_first (record {})) program_never left left' out out' r (subst (λ (f : Form). StreamedFor f left left' out out' r) is s) h
+program_at_end form left left' out out' r is s h = read_to_end program_machine (form_first (record {})) (program_ends.sure (form_first (record {}))) left left' out out' r (subst (λ (f : Form). StreamedFor f left left' out out' r) is s) h
 
 -- ---- what was shown was read to its script
 

@@ -3,16 +3,14 @@ use Rattle.std.proofs.Common.{◌≡◌, ℕ, List, refl, sym, ap, ◌∙◌}
 use Rattle.cca_base.specs.Accepted.{CompiledModel}
 use Rattle.line_machine.specs.declared.machine.End.{End}
 use Rattle.model_form.specs.FormMeaning.{FormAgrees}
-use Rattle.model_form.specs.FormStates.{form_first}
-use Rattle.model_form.specs.LinesEnds.{LinesEnd, AllRead, EndsLines, RefusesSomewhere, ending}
-use Rattle.model_form.proofs.Agreeing.{agrees}
-use Rattle.model_form.proofs.LinesAgree.{lines_agree}
+use Rattle.model_form.specs.LinesEnds.{LinesEnd, ending}
+use Rattle.model_form.proofs.LinesAgree.{lines_form_agrees}
 use Rattle.want_form.specs.Answered.{SaysWishes}
 use Rattle.want_form.specs.WantMeaning.{EndsWishes, want_meaning}
-use Rattle.want_form.specs.WishMachine.{want_machine}
+use Rattle.want_form.specs.WishMachine.{wish_first, wish_machine}
 use Rattle.want_form.specs.Wishes.{Wishes, first_settings}
 use Rattle.want_form.proofs.OneWishes.{wishes_one}
-use Rattle.want_form.proofs.WantEnds.{want_fixed}
+use Rattle.want_form.proofs.WantEnds.{want_ends}
 use Rattle.want_form.proofs.WishesTold.{wishes_are_told}
 
 -- the program ends as the lines do
@@ -24,4 +22,4 @@ one_end : (b : CompiledModel) (n : ℕ) (ls : List (List ℕ)) (x y : LinesEnd) 
 one_end b n ls x y (r, reads, is) (q, also, was) = sym is ∙ ap (λ (z : Wishes). z.ending) (wishes_one b.model ls (first_settings b.model) n r q reads also) ∙ was
 
 pub want_agrees : FormAgrees want_meaning
-want_agrees = agrees SaysWishes (EndsLines EndsWishes AllRead) (RefusesSomewhere EndsWishes) want_machine (form_first (record {})) wishes_are_told want_fixed (lines_agree SaysWishes EndsWishes ends_as one_end)
+want_agrees = lines_form_agrees SaysWishes EndsWishes ends_as one_end wish_first wish_machine wishes_are_told want_ends.fixed

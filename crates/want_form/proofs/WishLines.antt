@@ -44,9 +44,6 @@ module _ (b : CompiledModel) (compiled : IsCompiled b) where
     abbrev Later : Settings → Wishes → Type 0
     Later y rest = ReadsWishes b.model y (n + 1) ls rest
 
-    abbrev line_text : ℕ → List ℕ
-    line_text code = refusal_text false b.model (n + 1) (bare code)
-
     -- the line asks so
     abbrev Asks : Result (Option Request) ℕ → Type 0
     Asks said = SaysByCode (IsAsked b.model) (FollowsBy b.model) (line_code (n + 1) l) x l said
@@ -54,7 +51,7 @@ module _ (b : CompiledModel) (compiled : IsCompiled b) where
     -- ---- from the machine to the wishes
 
     refused_prints : (said : Result (Option Request) ℕ) (code : ℕ) (e : End) (rest : List ℕ) (u : Next WishState) (a : List ℕ) → Asks said → ReadsBy (IsAsked b.model) (FollowsBy b.model) said x (n + 1) Later (refused_at (n + 1) code)
-        → (u ≡ Stops Refused) × (a ≡ line_text code) → Completes wish_machine u (n + 1) ls e rest → Prints x n (l ∷ ls) e (a ++ rest)
+        → (u ≡ Stops Refused) × (a ≡ refusal_text false b.model (n + 1) (bare code)) → Completes wish_machine u (n + 1) ls e rest → Prints x n (l ∷ ls) e (a ++ rest)
     refused_prints said code e rest u a asks by is d =
         let p = at_stop wish_machine Refused (n + 1) ls e rest (subst (λ (v : Next WishState). Completes wish_machine v (n + 1) ls e rest) is.0 d) in
         record {
@@ -63,7 +60,7 @@ module _ (b : CompiledModel) (compiled : IsCompiled b) where
           reads = (said, asks, by);
           are = refl;
           end = p.0;
-          parts = rw (is.1, p.1) (append-nil (line_text code));
+          parts = rw (is.1, p.1) (append-nil (refusal_text false b.model (n + 1) (bare code)));
         }
 
     -- nothing is printed of the line, and it leaves these settings

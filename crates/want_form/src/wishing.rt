@@ -191,23 +191,19 @@ impl Wishing {
 
 // By the clauses of the trait a line gives `WantSteps`, and the end of the input `EndsAtEnd` (specs/WishMachine.antt).
 impl Machine for Wishing {
-    ghost use Rattle.std.specs.Prelude.{⊤, false};
-    ghost use Rattle.cca_base.specs.Prelude.{bare};
-    ghost use Rattle.model_form.specs.NoLines.{EndsAtEnd, end_one_way};
-    ghost use Rattle.model_form.specs.declared.limits.TheConstants.{MAX_LINE};
-    ghost use Rattle.trace_text.specs.Json.{refusal_text};
-    ghost use Rattle.want_form.specs.WishMachine.{WantSteps};
+    ghost use Rattle.model_form.specs.NoLines.{end_one_way};
+    ghost use Rattle.want_form.specs.WishMachine.{wish_machine};
     ghost use Rattle.want_form.specs.OneStep.{steps_one};
 
-    ghost limit_of = { λ x. MAX_LINE };
+    ghost limit_of = { wish_machine.limit_of };
 
-    ghost refusal = { λ x n code. refusal_text false x.compiled.model n (bare code) };
+    ghost refusal = { wish_machine.refusal };
 
-    ghost steps = { WantSteps };
+    ghost steps = { wish_machine.steps };
 
-    ghost closes = { λ x n. EndsAtEnd };
+    ghost closes = { wish_machine.closes };
 
-    ghost awaits = { λ x n. ⊤ };
+    ghost awaits = { wish_machine.awaits };
 
     ghost steps_are_one = { steps_one };
 

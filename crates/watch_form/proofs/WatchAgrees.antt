@@ -3,16 +3,14 @@ use Rattle.std.proofs.Common.{◌≡◌, ℕ, List, refl, sym, ap, ◌∙◌}
 use Rattle.cca_base.specs.Accepted.{CompiledModel}
 use Rattle.line_machine.specs.declared.machine.End.{End}
 use Rattle.model_form.specs.FormMeaning.{FormAgrees}
-use Rattle.model_form.specs.FormStates.{form_first}
-use Rattle.model_form.specs.LinesEnds.{LinesEnd, AllRead, EndsLines, RefusesSomewhere, ending}
-use Rattle.model_form.proofs.Agreeing.{agrees}
-use Rattle.model_form.proofs.LinesAgree.{lines_agree}
+use Rattle.model_form.specs.LinesEnds.{LinesEnd, ending}
+use Rattle.model_form.proofs.LinesAgree.{lines_form_agrees}
 use Rattle.watch_form.specs.Answered.{SaysWatch}
 use Rattle.watch_form.specs.Calls.{Calls, nothing_pending}
-use Rattle.watch_form.specs.WatchMachine.{watch_machine}
+use Rattle.watch_form.specs.WatchMachine.{watch_first, watching_machine}
 use Rattle.watch_form.specs.WatchMeaning.{EndsCalls, watch_meaning}
 use Rattle.watch_form.proofs.OneCalls.{calls_one}
-use Rattle.watch_form.proofs.WatchEnds.{watch_fixed}
+use Rattle.watch_form.proofs.WatchEnds.{watch_ends}
 use Rattle.watch_form.proofs.WatchTold.{watch_is_told}
 
 -- the program ends as the lines do
@@ -24,4 +22,4 @@ one_end : (b : CompiledModel) (n : ℕ) (ls : List (List ℕ)) (x y : LinesEnd) 
 one_end b n ls x y (r, reads, is) (q, also, was) = sym is ∙ ap (λ (z : Calls). z.ending) (calls_one b.model ls nothing_pending n r q reads also) ∙ was
 
 pub watch_agrees : FormAgrees watch_meaning
-watch_agrees = agrees SaysWatch (EndsLines EndsCalls AllRead) (RefusesSomewhere EndsCalls) watch_machine (form_first (record {})) watch_is_told watch_fixed (lines_agree SaysWatch EndsCalls ends_as one_end)
+watch_agrees = lines_form_agrees SaysWatch EndsCalls ends_as one_end watch_first watching_machine watch_is_told watch_ends.fixed

@@ -1,25 +1,16 @@
 -- The form ends behind a line only where that is refused, and is never rejected.
-use Rattle.std.proofs.Common.{◌⊎◌, ℕ, List, Option, Some, None, Result, Ok, Err}
-use Rattle.cca_base.specs.Accepted.{CompiledModel}
+use Rattle.std.proofs.Common.{ℕ, List, Option, Some, None, Result, Ok, Err}
 use Rattle.line_machine.specs.Next.{Stops}
-use Rattle.line_machine.specs.Runs.{IsSure, IsText}
 use Rattle.line_machine.specs.declared.machine.End.{End}
-use Rattle.line_machine.specs.declared.machine.End.TheVariants.{Rejected, Refused}
+use Rattle.line_machine.specs.declared.machine.End.TheVariants.{Refused}
 use Rattle.line_machine.proofs.EndsSo.{same_end, not_end}
-use Rattle.line_machine.proofs.RunsAreOne.{IsFixed}
-use Rattle.model_form.specs.FormStates.{FormState}
 use Rattle.model_form.specs.NoLines.{end_one_way}
-use Rattle.model_form.specs.OneStep.{goes_on_one_way}
-use Rattle.model_form.specs.declared.lines.OfLines.{OfLines}
-use Rattle.model_form.proofs.FormEnds.{form_is_fixed}
-use Rattle.model_form.proofs.RefusedOnly.{IsRefused, sure_refused, never_rejects}
+use Rattle.model_form.proofs.NeverRejected.{ended_not}
+use Rattle.model_form.proofs.RefusedOnly.{EndsByRefusal, IsRefused, ends_by_refusal}
 use Rattle.watch_lines.specs.declared.watch_event.WatchEvent.{WatchEvent}
 use Rattle.watch_lines.specs.declared.watch_event.WatchEvent.TheVariants.{Sent, Observe, Reset, Tick}
 use Rattle.watch_form.specs.OneStep.{steps_one}
-use Rattle.watch_form.specs.WatchMachine.{WatchState, ServesEvent, ServesBy, WatchSteps, watch_first, watch_form, watch_machine, watching_machine}
-
-begins_refused : (f : OfLines) (b : CompiledModel) (n : ℕ) (e : End) (text : List ℕ) → watch_form.begins f b n (Stops e) text → IsRefused e
-begins_refused f b n e text h = absurd (not_end e (watch_first b) h.0)
+use Rattle.watch_form.specs.WatchMachine.{WatchState, ServesEvent, ServesBy, WatchSteps, watch_first, watching_machine}
 
 event_refused : (event : WatchEvent) (x : WatchState) (e : End) (text : List ℕ) → ServesEvent event x (Stops e) text → IsRefused e
 event_refused (Sent command) x e text h = absurd (not_end e _ h.0)
@@ -35,12 +26,5 @@ serves_refused (Ok (Some event)) x n e text h = event_refused event x e text h
 steps_refused : (x : WatchState) (n : ℕ) (l : List ℕ) (e : End) (text : List ℕ) → WatchSteps x n l (Stops e) text → IsRefused e
 steps_refused x n l e text (said, is, h) = serves_refused said x n e text h
 
-pub watch_sure_refused : (first : FormState OfLines WatchState) (bytes : List ℕ) (e : End) (text : List ℕ) → IsSure watch_machine first bytes (Stops e) text → IsRefused e
-watch_sure_refused = sure_refused watch_form watching_machine begins_refused steps_refused
-
-pub watch_never_rejected : (first : FormState OfLines WatchState) (bytes text : List ℕ) → IsText watch_machine first bytes Rejected text ⊎ IsSure watch_machine first bytes (Stops Rejected) text → ⊥
-watch_never_rejected = never_rejects watch_form watching_machine begins_refused steps_refused (λ x n e text h. h.0)
-
--- a state and a line lead to one state and one text
-pub watch_fixed : IsFixed watch_machine
-watch_fixed = form_is_fixed watch_form watching_machine (λ f b n u v a c. goes_on_one_way) (record { steps = steps_one; closes = λ x n e f a c h k. end_one_way h k })
+pub watch_ends : EndsByRefusal watch_first watching_machine
+watch_ends = ends_by_refusal watch_first watching_machine steps_refused (λ x n e text h. ended_not e h.0) (record { steps = steps_one; closes = λ x n e f a c h k. end_one_way h k })

@@ -42,9 +42,6 @@ module _ (b : CompiledModel) where
     abbrev Later : Entry → Calls → Type 0
     Later y rest = ReadsCalls b.model y (n + 1) ls rest
 
-    abbrev line_text : ℕ → List ℕ
-    line_text code = refusal_text false b.model (n + 1) (bare code)
-
     -- the line says so
     abbrev Says : Result (Option WatchEvent) ℕ → Type 0
     Says said = SaysByCode (IsSaid b.model) (FollowsBy b.model) (line_code (n + 1) l) x l said
@@ -60,7 +57,7 @@ module _ (b : CompiledModel) where
     goes_on t z u e rest is d on = on t z (subst (λ (v : Next WatchState). Completes watching_machine v (n + 1) ls e rest) is d)
 
     refused_prints : (said : Result (Option WatchEvent) ℕ) (code : ℕ) (e : End) (rest : List ℕ) (u : Next WatchState) (a : List ℕ) → Says said → ReadsBy (IsSaid b.model) (FollowsBy b.model) said x (n + 1) Later (refused_at (n + 1) code)
-        → (u ≡ Stops Refused) × (a ≡ line_text code) → Completes watching_machine u (n + 1) ls e rest → Prints s x n (l ∷ ls) e (a ++ rest)
+        → (u ≡ Stops Refused) × (a ≡ refusal_text false b.model (n + 1) (bare code)) → Completes watching_machine u (n + 1) ls e rest → Prints s x n (l ∷ ls) e (a ++ rest)
     refused_prints said code e rest u a says by is d =
         let p = at_stop watching_machine Refused (n + 1) ls e rest (subst (λ (v : Next WatchState). Completes watching_machine v (n + 1) ls e rest) is.0 d) in
         record {
@@ -70,7 +67,7 @@ module _ (b : CompiledModel) where
           reads = (said, says, by);
           tracks = (refl, refl);
           end = p.0;
-          parts = rw (is.1, p.1) (append-nil (line_text code));
+          parts = rw (is.1, p.1) (append-nil (refusal_text false b.model (n + 1) (bare code)));
         }
 
     -- no call is made of the line, and this is pending behind it

@@ -205,23 +205,19 @@ impl Watching {
 
 // By the clauses of the trait a line gives `WatchSteps`, and the end of the input `EndsAtEnd` (specs/WatchMachine.antt).
 impl Machine for Watching {
-    ghost use Rattle.std.specs.Prelude.{false};
-    ghost use Rattle.cca_base.specs.Prelude.{bare};
-    ghost use Rattle.model_form.specs.NoLines.{EndsAtEnd, end_one_way};
-    ghost use Rattle.model_form.specs.declared.limits.TheConstants.{MAX_LINE};
-    ghost use Rattle.trace_text.specs.Json.{refusal_text};
-    ghost use Rattle.watch_form.specs.WatchMachine.{WatchSteps, WatchAwaits};
+    ghost use Rattle.model_form.specs.NoLines.{end_one_way};
+    ghost use Rattle.watch_form.specs.WatchMachine.{watching_machine};
     ghost use Rattle.watch_form.specs.OneStep.{steps_one};
 
-    ghost limit_of = { λ x. MAX_LINE };
+    ghost limit_of = { watching_machine.limit_of };
 
-    ghost refusal = { λ x n code. refusal_text false x.compiled.model n (bare code) };
+    ghost refusal = { watching_machine.refusal };
 
-    ghost steps = { WatchSteps };
+    ghost steps = { watching_machine.steps };
 
-    ghost closes = { λ x n. EndsAtEnd };
+    ghost closes = { watching_machine.closes };
 
-    ghost awaits = { WatchAwaits };
+    ghost awaits = { watching_machine.awaits };
 
     ghost steps_are_one = { steps_one };
 

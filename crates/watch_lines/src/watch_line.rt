@@ -111,21 +111,6 @@ fn script_event(alloc: Global, context: &WatchContext, tokens: &[Token]) -> Resu
     }
 }
 
-/// What the words of a line say.
-fn words_event(alloc: Global, context: &WatchContext, tokens: &[Token]) -> Result<WatchEvent, Stop>
-    requires unmirrored { context.now.script.mirrored ≡ 0 }
-    requires fit { NumbersFit context.now.places.now context.now.script.model.commands }
-    requires few { length context.now.script.model.commands ≤ 2 ^ 16 }
-    ensures { Answers result
-        (IsEventOfWords context.now.script.model context.now.script.pending.now.pairs
-        context.now.sent (map lexeme_of tokens.now)) }
-{
-    match next_is(Kind::Word, b"sent", tokens) {
-        Some(rest) => sent_event(context, rest),
-        None => script_event(alloc, context, tokens),
-    }
-}
-
 /// What the tokens of a line say.
 fn tokens_event(
     alloc: Global,
@@ -142,9 +127,9 @@ fn tokens_event(
     if tokens.is_empty() {
         return Ok(None);
     }
-    match words_event(alloc, context, tokens) {
-        Ok(event) => Ok(Some(event)),
-        Err(stop) => Err(stop),
+    match next_is(Kind::Word, b"sent", tokens) {
+        Some(rest) => Ok(Some(sent_event(context, rest)?)),
+        None => Ok(Some(script_event(alloc, context, tokens)?)),
     }
 }
 
