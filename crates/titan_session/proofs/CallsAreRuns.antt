@@ -2,7 +2,7 @@
 use Rattle.std.proofs.Common.{◌≡◌, ℕ, ◌+◌, List, [], ◌∷◌, ◌++◌, length, All, refl, sym, ap, subst, ◌∙◌, append_assoc, append-nil, arith, length-append}
 use Rattle.std.proofs.lemmas.List.Elements.{All-nil, All-cons, All-append}
 use Rattle.line_machine.specs.Completes.{Completes}
-use Rattle.line_machine.specs.Lines.{Lines, lines_in, joined_lines, HasNoLf}
+use Rattle.line_machine.specs.Lines.{lines_in, joined_lines, HasNoLf}
 use Rattle.line_machine.specs.Next.{Next, GoesOn, Stops}
 use Rattle.line_machine.specs.Runs.{Transition, Runs, Closes, IsSure, IsText}
 use Rattle.line_machine.specs.declared.machine.End.{End}
@@ -10,7 +10,7 @@ use Rattle.line_machine.specs.declared.machine.Machine.{Ghosts}
 use Rattle.line_machine.proofs.JoinedLines.{joined_before, joined_are_lines}
 use Rattle.line_machine.proofs.RunsAreOne.{runs_on}
 use Rattle.line_machine.proofs.SureTextBegins.{sure_from}
-use Rattle.titan_session.specs.Sessions.{SessionState, stage_of, Call, Line, Finish, Take, Does, LeadTo, lines_of, taken_of}
+use Rattle.titan_session.specs.Sessions.{SessionState, stage_of, TakesLine, Call, Line, Finish, Take, Does, LeadTo, lines_of, taken_of}
 use Rattle.titan_session.specs.declared.session.Stage.{Stage}
 use Rattle.titan_session.specs.declared.session.Stage.TheVariants.{Going, Over, Lost}
 
@@ -110,14 +110,31 @@ module _ {S : Type 0} (m : Ghosts S) (first : S) where
   lines_are ls h =
       ap lines_in (sym (append-nil (joined_lines ls))) ∙ joined_before ls [] h ∙ ap (λ (l : List (List ℕ)). record { whole = l; tail = [] }) (append-nil ls)
 
+  -- lines that lead here alone decide that
+  decided : (ls : List (List ℕ)) (t : Next S) (said : List ℕ) → All HasNoLf ls → Runs m (GoesOn first) 0 ls t said → IsSure m first (joined_lines ls) t said
+  decided ls t said clean runs =
+      sure_from m first (joined_lines ls) (record { whole = ls; tail = [] }) t said (lines_are ls clean)
+      record { there = t; lines = said; runs = runs; last = []; tail = (refl, refl); parts = sym (append-nil said) }
+
   -- where it goes on, that is what the lines alone decide
   pub so_far : (calls : List Call) (z : SessionState S) (s : S) → LeadTo m first calls z → z.stage ≡ Going s → IsSure m first (joined_lines (lines_of calls)) (GoesOn s) (taken_of calls ++ z.pending)
   so_far calls z s led going =
       let said = taken_of calls ++ z.pending in
-      let h : ReachedBy (Going s) calls z.count said = subst (λ (st : Stage S). ReachedBy st calls z.count said) going (reached calls z led) in
-      let x : Lines = record { whole = lines_of calls; tail = [] } in
-      sure_from m first (joined_lines (lines_of calls)) x (GoesOn s) said (lines_are (lines_of calls) (all_clean calls z led))
-      record { there = GoesOn s; lines = said; runs = h.0; last = []; tail = (refl, refl); parts = sym (append-nil said) }
+      decided (lines_of calls) (GoesOn s) said (all_clean calls z led) (subst (λ (st : Stage S). ReachedBy st calls z.count said) going (reached calls z led)).0
+
+  stops : (u : Next S) (e : End) → stage_of u ≡ Over e → u ≡ Stops e
+  stops (GoesOn s) e h = absurd cc
+  stops (Stops f) e h = cc
+
+  -- where a line ends the session, the lines alone decide that
+  pub stopped : (calls : List Call) (y z : SessionState S) (line : List ℕ) (e : End) → LeadTo m first calls y → (d : TakesLine m y z line) → z.stage ≡ Over e
+      → IsSure m first (joined_lines (lines_of (Line line ∷ calls))) (Stops e) ((taken_of calls ++ y.pending) ++ d.text)
+  stopped calls y z line e led d is =
+      let said = taken_of calls ++ y.pending in
+      let going = subst (λ (st : Stage S). ReachedBy st calls y.count said) d.went_on (reached calls y led) in
+      decided (lines_of (Line line ∷ calls)) (Stops e) (said ++ d.text) (all_clean (Line line ∷ calls) z (y, led, d))
+      (subst (λ (u : Next S). Runs m (GoesOn first) 0 (lines_of (Line line ∷ calls)) u (said ++ d.text)) (stops d.next e (sym d.stands ∙ is))
+      (one_more calls d.state y.count said line d.text d.next going.1 going.0 d.step))
 
   -- no calls that went well lose a session
   pub not_lost : (calls : List Call) (z : SessionState S) → LeadTo m first calls z → z.stage ≡ Lost → ⊥

@@ -1,5 +1,5 @@
 -- What the calls of a session show, in the words of `titan run`.
-use Rattle.std.proofs.Common.{◌≡◌, ℕ, inl, List, ◌++◌}
+use Rattle.std.proofs.Common.{◌≡◌, ℕ, inl, List, ◌∷◌, ◌++◌}
 use Rattle.line_machine.specs.Lines.{joined_lines}
 use Rattle.line_machine.specs.Next.{GoesOn}
 use Rattle.line_machine.specs.Runs.{IsText}
@@ -10,14 +10,14 @@ use Rattle.model_form.specs.Answers.{answer}
 use Rattle.run_form.specs.Printed.{IsRunOf}
 use Rattle.run_form.specs.RunMachine.{run_machine, run_first}
 use Rattle.run_form.specs.declared.notation.Notation.{Notation}
-use Rattle.run_form.proofs.RunEnds.{run_fixed, run_never_rejected}
+use Rattle.run_form.proofs.RunEnds.{run_fixed, run_sure_refused, run_never_rejected}
 use Rattle.run_form.proofs.RunsTold.{runs_are_told}
 use Rattle.run_form.proofs.SureRuns.{runs_are_traced}
 use Rattle.titan_session.specs.RunSessions.{RunSession, AreCalls, said_by}
 use Rattle.titan_session.specs.SessionLaws.{IsRunOfLines, SessionsAreRuns}
-use Rattle.titan_session.specs.Sessions.{Call, lines_of}
+use Rattle.titan_session.specs.Sessions.{Call, Line, lines_of}
 use Rattle.titan_session.specs.declared.session.Stage.TheVariants.{Over}
-use Rattle.titan_session.proofs.CallsAreRuns.{whole, so_far, not_lost}
+use Rattle.titan_session.proofs.CallsAreRuns.{whole, so_far, stopped, not_lost}
 
 -- the whole text of the machine for an input is what a run prints of it, and nothing else is
 run_of : (notation : Notation) (lines : List (List ℕ)) (e : End) (said : List ℕ) → IsText run_machine (run_first notation) (joined_lines lines) e said → IsRunOfLines notation lines (answer e said)
@@ -43,6 +43,7 @@ sessions_are_runs = record {
       ((runs_are_told notation).comes (joined_lines (lines_of calls) ++ more) a.end a.text h);
   prompt = λ notation calls z s led is. so_far run_machine (run_first notation) calls z s led is;
   so_far = λ notation calls z s line_by_line led is. runs_are_traced.so_far notation (joined_lines (lines_of calls)) (said_by calls z) (GoesOn s) line_by_line (so_far run_machine (run_first notation) calls z s led is);
+  by_line = λ notation calls y z line e led d is. run_sure_refused (run_first notation) (joined_lines (lines_of (Line line ∷ calls))) e _ (stopped run_machine (run_first notation) calls y z line e led d is);
   not_rejected = λ notation calls z led is. run_never_rejected (run_first notation) (joined_lines (lines_of calls)) (said_by calls z) (inl (over notation calls z Rejected led is));
   not_lost = λ notation calls z led is. not_lost run_machine (run_first notation) calls z led is;
 }

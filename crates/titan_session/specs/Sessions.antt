@@ -19,6 +19,10 @@ pub record SessionState (S : Type 0) : Type 0 where
 abbrev pub session_first : {S : Type 0} → S → SessionState S
 session_first s = record { stage = Going s; count = 0; pending = [] }
 
+-- memory ran out: nothing is known of the machine, and what waits still does
+abbrev pub session_lost : {S : Type 0} → SessionState S → SessionState S
+session_lost x = record { stage = Lost; count = x.count; pending = x.pending }
+
 -- where a machine goes on, the session does, and where it stops, the session is over
 abbrev pub stage_of : {S : Type 0} → Next S → Stage S
 stage_of (GoesOn s) = Going s

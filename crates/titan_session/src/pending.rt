@@ -1,6 +1,6 @@
 //! Text that waits to be taken: a queue of bytes, taken from its front.
 
-ghost use Rattle.std.specs.Prelude.{◌≡◌, ◌≤◌, ◌⊎◌, ℕ, List, [], ◌++◌, length, take, drop, min, vec_len, OnOk};
+ghost use Rattle.std.specs.Prelude.{◌≡◌, ◌≤◌, ◌⊎◌, ℕ, List, [], ◌++◌, length, take, drop, min, vec_len, OnOk, OnErr};
 
 use std::alloc::{AllocError, Global};
 use std::marker::Model;
@@ -54,9 +54,10 @@ impl Pending {
         }
     }
 
-    /// Puts more behind them.
+    /// Puts more behind them. Out of memory it puts nothing.
     pub fn push(&mut self, text: &[u8]) -> Result<(), AllocError>
-        ensures { OnOk result (self.new ≡ self.old ++ text.now) }
+        ensures pushed { OnOk result (self.new ≡ self.old ++ text.now) }
+        ensures kept { OnErr result (self.new ≡ self.old) }
     {
         self.compact();
         self.bytes.extend_from_slice(text)?;

@@ -42,9 +42,8 @@ impl<M: Machine + Drop> Model for Session<M> {
 }
 
 impl<M: Machine + Drop> Session<M> {
-    ghost use Rattle.titan_session.specs.Sessions.{GivesOut, IsGoing, TakesEnd, TakesLine, session_first};
+    ghost use Rattle.titan_session.specs.Sessions.{GivesOut, IsGoing, TakesEnd, TakesLine, session_first, session_lost};
     ghost use Rattle.line_machine.specs.Lines.{HasNoLf};
-    ghost use Rattle.titan_session.specs.declared.session.Stage.TheVariants.{Lost};
 
     /// Before the first line of a machine.
     pub fn open(alloc: Global, machine: M) -> Session<M>
@@ -77,12 +76,12 @@ impl<M: Machine + Drop> Session<M> {
         }
     }
 
-    /// Hands a line, without its LF, to the machine. Out of memory the session is lost.
+    /// Hands a line, without its LF, to the machine. Out of memory the session is lost, and what waits still does.
     pub fn line(&mut self, alloc: Global, line: &[u8]) -> Result<(), AllocError>
         requires goes_on { IsGoing self.old.stage }
         requires clean { HasNoLf line.now }
         ensures said { OnOk result (TakesLine M.Machine self.old self.new line.now) }
-        ensures lost { OnErr result (self.new.stage ≡ Lost) }
+        ensures lost { OnErr result (self.new ≡ session_lost self.old) }
     {
         let Stage::Going(mut machine) = mem::replace(&mut self.stage, Stage::Lost) else {
             unreachable!()
@@ -97,11 +96,11 @@ impl<M: Machine + Drop> Session<M> {
         Ok(())
     }
 
-    /// Tells the machine that no line comes any more. Out of memory the session is lost.
+    /// Tells the machine that no line comes any more. Out of memory the session is lost, and what waits still does.
     pub fn finish(&mut self, alloc: Global) -> Result<(), AllocError>
         requires goes_on { IsGoing self.old.stage }
         ensures said { OnOk result (TakesEnd M.Machine self.old self.new) }
-        ensures lost { OnErr result (self.new.stage ≡ Lost) }
+        ensures lost { OnErr result (self.new ≡ session_lost self.old) }
     {
         let Stage::Going(mut machine) = mem::replace(&mut self.stage, Stage::Lost) else {
             unreachable!()
