@@ -1,13 +1,13 @@
 -- The calls of C are calls of a session.
-use Rattle.std.proofs.Common.{◌≡◌, ℕ, List, Option, Some, inl, inr, refl, sym, subst, ◌∙◌}
+use Rattle.std.proofs.Common.{◌≡◌, ℕ, List, ◌∷◌, take, Option, Some, inl, inr, refl, sym, subst, ◌∙◌}
 use Rattle.run_form.specs.RunLaws.{IsLineByLine}
 use Rattle.run_form.specs.declared.notation.Notation.{Notation}
 use Rattle.titan_session.specs.RunSessions.{RunSession, AreCalls}
-use Rattle.titan_session.specs.Sessions.{Call}
+use Rattle.titan_session.specs.Sessions.{Call, Line, Finish, Take}
 use Rattle.titan_c.specs.CallLaws.{HoldsAfter, CallsLeadOn}
-use Rattle.titan_c.specs.Calls.{Prints}
+use Rattle.titan_c.specs.Calls.{Prints, HandedOver}
 
-same : (x y : RunSession) → Some x ≡ Some y → x ≡ y
+pub same : (x y : RunSession) → Some x ≡ Some y → x ≡ y
 same x y e = cc
 
 -- what is held is led to
@@ -20,10 +20,13 @@ line_by_line words notation (inl (number, is)) = subst IsLineByLine (sym is) (λ
 line_by_line words notation (inr (inl (number, is))) = subst IsLineByLine (sym is) (λ counts. refl)
 line_by_line words notation (inr (inr (number, is))) = subst IsLineByLine (sym is) (λ counts. refl)
 
+handed : (notation : Notation) (calls : List Call) (old new : Option RunSession) (out out' : List ℕ) (n status : ℕ) → HandedOver old new out out' n status → HoldsAfter notation calls old → HoldsAfter notation (Take (take n out') ∷ calls) new
+handed notation calls old new out out' n status w h = (w.after, w.now, (w.before, led notation calls old w.before w.was h, w.hands.gives))
+
 pub calls_lead_on : CallsLeadOn
 calls_lead_on = record {
   opened = λ words held h. (h.0, h.1, line_by_line words h.0 h.1, (_, h.2, refl));
-  line = λ notation calls old new line out out' n status w h. (w.after, w.now, (w.between, (w.before, led notation calls old w.before w.was h, w.takes), w.hands.gives));
-  end = λ notation calls old new out out' n status w h. (w.after, w.now, (w.between, (w.before, led notation calls old w.before w.was h, w.takes), w.hands.gives));
-  take = λ notation calls old new out out' n status w h. (w.after, w.now, (w.before, led notation calls old w.before w.was h, w.hands.gives));
+  line = λ notation calls old new line out out' n status w h. handed notation (Line line ∷ calls) (Some w.between) new out out' n status w.hands (w.between, refl, (w.before, led notation calls old w.before w.was h, w.takes));
+  end = λ notation calls old new out out' n status w h. handed notation (Finish ∷ calls) (Some w.between) new out out' n status w.hands (w.between, refl, (w.before, led notation calls old w.before w.was h, w.takes));
+  take = λ notation calls old new out out' n status w h. handed notation calls old new out out' n status w h;
 }

@@ -1,17 +1,19 @@
 -- What the calls of C wrote is what a run prints of their lines.
-use Rattle.std.proofs.Common.{◌≡◌, ◌⊎◌, ◌<◌, ◌++◌, ℕ, List, [], length, Some, inl, inr, refl, sym, ap, subst, ◌∙◌, append-nil, arith}
+use Rattle.std.proofs.Common.{◌≡◌, ◌⊎◌, ◌<◌, ◌∷◌, ◌++◌, ℕ, List, [], length, Option, Some, inl, inr, refl, sym, ap, subst, ◌∙◌, append-nil, arith}
+use Rattle.line_machine.specs.Next.{Next, GoesOn, Stops}
 use Rattle.line_machine.specs.declared.machine.End.{End}
 use Rattle.line_machine.specs.declared.machine.End.TheVariants.{Ended, Rejected, Refused}
 use Rattle.model_form.specs.Answers.{answer}
 use Rattle.run_form.specs.declared.notation.Notation.{Notation}
 use Rattle.titan_session.specs.RunSessions.{RunSession, RunState, AreCalls}
 use Rattle.titan_session.specs.SessionLaws.{IsRunOfLines}
-use Rattle.titan_session.specs.Sessions.{Call, IsGoing, lines_of, taken_of}
+use Rattle.titan_session.specs.Sessions.{stage_of, Call, Finish, IsGoing, lines_of, taken_of}
 use Rattle.titan_session.specs.declared.session.Stage.{Stage}
 use Rattle.titan_session.specs.declared.session.Stage.TheVariants.{Going, Over, Lost}
 use Rattle.titan_session.proofs.SessionsAreRuns.{sessions_are_runs}
-use Rattle.titan_c.specs.CallLaws.{CallsPrintRuns, HoldsAfter}
-use Rattle.titan_c.proofs.CallsLeadOn.{led}
+use Rattle.titan_c.specs.CallLaws.{CallsPrintRuns, HoldsAfter, IsPlace}
+use Rattle.titan_c.specs.Calls.{HandedOver}
+use Rattle.titan_c.proofs.CallsLeadOn.{same, led}
 use Rattle.titan_c.specs.Statuses.{status_of}
 use Rattle.titan_c.specs.declared.status.TheConstants.{GOES_ON, ENDED, REFUSED}
 
@@ -30,7 +32,7 @@ refused_stage (Over Refused) h = refl
 refused_stage (Over Rejected) h = let never : 3 ≡ 2 = h in absurd (omega (arith, never))
 refused_stage Lost h = let never : 5 ≡ 2 = h in absurd (omega (arith, never))
 
-few_by : (s : Stage RunState) → (s ≡ Over Rejected → ⊥) → (s ≡ Lost → ⊥) → (status_of s ≡ GOES_ON) ⊎ ((status_of s ≡ ENDED) ⊎ (status_of s ≡ REFUSED))
+few_by : (s : Stage RunState) → (s ≡ Over Rejected → ⊥) → (s ≡ Lost → ⊥) → IsPlace (status_of s)
 few_by (Going x) rejected lost = inl refl
 few_by (Over Ended) rejected lost = inr (inl refl)
 few_by (Over Refused) rejected lost = inr (inr refl)
@@ -45,6 +47,23 @@ all_taken notation calls z e led is none =
 
 held : (notation : Notation) (calls : List Call) (z : RunSession) → HoldsAfter notation calls (Some z) → AreCalls notation calls z
 held notation calls z h = led notation calls (Some z) z refl h
+
+few : (notation : Notation) (calls : List Call) (z : RunSession) → AreCalls notation calls z → IsPlace (status_of z.stage)
+few notation calls z led = few_by z.stage (sessions_are_runs.not_rejected notation calls z led) (sessions_are_runs.not_lost notation calls z led)
+
+-- what hands over stands where it stood
+stands : (x : RunSession) (new : Option RunSession) (out out' : List ℕ) (n status : ℕ) → HandedOver (Some x) new out out' n status → status_of x.stage ≡ status
+stands x new out out' n status w =
+    ap (λ (y : RunSession). status_of y.stage) (same x w.before w.was) ∙ ap (λ (s : Stage RunState). status_of s) (sym w.hands.gives.stays) ∙ sym w.status_is
+
+of_line : (s : Stage RunState) (u : Next RunState) → s ≡ stage_of u → ((e : End) → s ≡ Over e → e ≡ Refused) → (status_of s ≡ GOES_ON) ⊎ (status_of s ≡ REFUSED)
+of_line s (GoesOn x) is only = inl (ap (λ (t : Stage RunState). status_of t) is)
+of_line s (Stops e) is only = inr (ap (λ (t : Stage RunState). status_of t) (is ∙ ap (λ (f : End). Over f) (only e is)))
+
+of_end : (s : Stage RunState) (e : End) → s ≡ Over e → (s ≡ Over Rejected → ⊥) → (status_of s ≡ ENDED) ⊎ (status_of s ≡ REFUSED)
+of_end s Ended is rejected = inl (ap (λ (t : Stage RunState). status_of t) is)
+of_end s Refused is rejected = inr (ap (λ (t : Stage RunState). status_of t) is)
+of_end s Rejected is rejected = absurd (rejected is)
 
 going : (s : Stage RunState) → status_of s ≡ GOES_ON → IsGoing s
 going (Going x) h = tt
@@ -62,7 +81,15 @@ pub calls_print_runs : CallsPrintRuns
 calls_print_runs = record {
   ended = λ notation calls z h status none. all_taken notation calls z Ended (held notation calls z h) (ended_stage z.stage status) none;
   refused = λ notation calls z h status none. all_taken notation calls z Refused (held notation calls z h) (refused_stage z.stage status) none;
-  few = λ notation calls z h. let led = held notation calls z h in few_by z.stage (sessions_are_runs.not_rejected notation calls z led) (sessions_are_runs.not_lost notation calls z led);
+  few = λ notation calls z h. few notation calls z (held notation calls z h);
+  line = λ notation calls old new line out out' n status h w.
+      subst (λ (k : ℕ). (k ≡ GOES_ON) ⊎ (k ≡ REFUSED)) (stands w.between new out out' n status w.hands)
+      (of_line w.between.stage w.takes.next w.takes.stands (λ e is. sessions_are_runs.by_line notation calls w.before w.between line e (led notation calls old w.before w.was h) w.takes is));
+  end = λ notation calls old new out out' n status h w.
+      subst (λ (k : ℕ). (k ≡ ENDED) ⊎ (k ≡ REFUSED)) (stands w.between new out out' n status w.hands)
+      (of_end w.between.stage w.takes.end w.takes.is_over (sessions_are_runs.not_rejected notation (Finish ∷ calls) w.between (w.before, led notation calls old w.before w.was h, w.takes)));
+  take = λ notation calls old new out out' n status h w.
+      subst IsPlace (ap (λ (s : Stage RunState). status_of s) (sym w.hands.gives.stays) ∙ sym w.status_is) (few notation calls w.before (led notation calls old w.before w.was h));
   goes_on = λ z status. going z.stage status;
   nothing_waits = λ x y out out' n hands less. nothing_left (y.pending ≡ []) n (length out) less hands.all;
 }

@@ -5,7 +5,7 @@ use lib.Dec.{T}
 use seplogic.Ra.Ura.{Ura}
 use mir.Syntax.{impl, tnil, dnil}
 use mir.Raw.{raw as bare}
-use mir.Val.{Val, vptr, vnull, vstruct, of_list, has_ty, WT}
+use mir.Val.{Val, vnull, vstruct, of_list, has_ty, WT}
 use base.Fraction.{full_share}
 use base.Logic.{ent, via, never, fst∗, snd∗, guard, guard_i}
 use types.Logic.{Logic, sem}
@@ -43,9 +43,6 @@ al = record { row = Z; laws = heap_laws.the_row_laws; g = ghosts; d = dict; drop
 
 abbrev pub H : RattleType
 H = handle.the_row
-
-pub good : (b o : ℕ) (h : Val) → Good (layout Z) h → T (has_ty (layout Z) h && true) × WT (both (vptr b o) h)
-good b o h fits = (and_tt (has_ty (layout Z) h) fits.0, (tt, (fits.1, tt)))
 
 pub good_null : (h : Val) → Good (layout Z) h → T (has_ty (layout Z) h && true) × WT (both vnull h)
 good_null h fits = (and_tt (has_ty (layout Z) h) fits.0, (record { fits = lit< tt }, (fits.1, tt)))

@@ -15,6 +15,10 @@ use Rattle.titan_c.specs.declared.status.TheConstants.{GOES_ON, ENDED, REFUSED}
 abbrev pub HoldsAfter : Notation → List Call → Option RunSession → Type 0
 HoldsAfter notation calls held = (z : RunSession) × (held ≡ Some z) × AreCalls notation calls z
 
+-- a status that says where a session stands: it goes on, it ended, or a line was refused
+abbrev pub IsPlace : ℕ → Type 0
+IsPlace status = (status ≡ GOES_ON) ⊎ ((status ≡ ENDED) ⊎ (status ≡ REFUSED))
+
 -- an opened session has had no call; a line and the end of the lines are a call, and then the bytes that were written are taken
 pub record CallsLeadOn : Type 0 where
   pub opened : (words : ℕ) (held : Option RunSession) → OpenedBy words held → (notation : Notation) × Prints words notation × IsLineByLine notation × HoldsAfter notation [] held
@@ -26,10 +30,17 @@ pub record CallsLeadOn : Type 0 where
       → HandedOver old new out out' n status → HoldsAfter notation calls old → HoldsAfter notation (Take (take n out') ∷ calls) new
 
 -- the theorem in the words of C: where a status says that the session ended, or that a line was refused, and nothing waits any more, what was written is what `titan run`
--- prints of the lines that were handed over, each with its LF; no other statuses come of calls that went well; and where less was written than fits, nothing waits
+-- prints of the lines that were handed over, each with its LF; no other statuses come of calls that went well: a line never says that the session ended, nor the end of the lines
+-- that it goes on; and where less was written than fits, nothing waits
 pub record CallsPrintRuns : Type 0 where
   pub ended : (notation : Notation) (calls : List Call) (z : RunSession) → HoldsAfter notation calls (Some z) → status_of z.stage ≡ ENDED → z.pending ≡ [] → IsRunOfLines notation (lines_of calls) (answer Ended (taken_of calls))
   pub refused : (notation : Notation) (calls : List Call) (z : RunSession) → HoldsAfter notation calls (Some z) → status_of z.stage ≡ REFUSED → z.pending ≡ [] → IsRunOfLines notation (lines_of calls) (answer Refused (taken_of calls))
-  pub few : (notation : Notation) (calls : List Call) (z : RunSession) → HoldsAfter notation calls (Some z) → (status_of z.stage ≡ GOES_ON) ⊎ ((status_of z.stage ≡ ENDED) ⊎ (status_of z.stage ≡ REFUSED))
+  pub few : (notation : Notation) (calls : List Call) (z : RunSession) → HoldsAfter notation calls (Some z) → IsPlace (status_of z.stage)
+  pub line : (notation : Notation) (calls : List Call) (old new : Option RunSession) (line out out' : List ℕ) (n status : ℕ)
+      → HoldsAfter notation calls old → WasGivenLine old new line out out' n status → (status ≡ GOES_ON) ⊎ (status ≡ REFUSED)
+  pub end : (notation : Notation) (calls : List Call) (old new : Option RunSession) (out out' : List ℕ) (n status : ℕ)
+      → HoldsAfter notation calls old → WasEnded old new out out' n status → (status ≡ ENDED) ⊎ (status ≡ REFUSED)
+  pub take : (notation : Notation) (calls : List Call) (old new : Option RunSession) (out out' : List ℕ) (n status : ℕ)
+      → HoldsAfter notation calls old → HandedOver old new out out' n status → IsPlace status
   pub goes_on : (z : RunSession) → status_of z.stage ≡ GOES_ON → IsGoing z.stage
   pub nothing_waits : (x y : RunSession) (out out' : List ℕ) (n : ℕ) → HandsOver x y out out' n → n < length out → y.pending ≡ []

@@ -28,28 +28,6 @@ pub record HandsOver (x y : RunSession) (out out' : List ℕ) (n : ℕ) : Type 0
   pub fits : n ≤ length out
   pub all : (n ≡ length out) ⊎ (y.pending ≡ [])
 
--- a held session was given a line, and then it handed over what fits
-pub record WasGivenLine (old new : Option RunSession) (line out out' : List ℕ) (n status : ℕ) : Type 0 where
-  pub before : RunSession
-  pub between : RunSession
-  pub after : RunSession
-  pub was : old ≡ Some before
-  pub takes : TakesLine run_machine before between line
-  pub hands : HandsOver between after out out' n
-  pub now : new ≡ Some after
-  pub status_is : status ≡ status_of after.stage
-
--- a held session was given the end of the lines, and then it handed over what fits
-pub record WasEnded (old new : Option RunSession) (out out' : List ℕ) (n status : ℕ) : Type 0 where
-  pub before : RunSession
-  pub between : RunSession
-  pub after : RunSession
-  pub was : old ≡ Some before
-  pub takes : TakesEnd run_machine before between
-  pub hands : HandsOver between after out out' n
-  pub now : new ≡ Some after
-  pub status_is : status ≡ status_of after.stage
-
 -- a held session handed over what fits
 pub record HandedOver (old new : Option RunSession) (out out' : List ℕ) (n status : ℕ) : Type 0 where
   pub before : RunSession
@@ -58,6 +36,22 @@ pub record HandedOver (old new : Option RunSession) (out out' : List ℕ) (n sta
   pub hands : HandsOver before after out out' n
   pub now : new ≡ Some after
   pub status_is : status ≡ status_of after.stage
+
+-- a held session made such a step, and then it handed over what fits
+pub record WasTold (Step : RunSession → RunSession → Type 0) (old new : Option RunSession) (out out' : List ℕ) (n status : ℕ) : Type 0 where
+  pub before : RunSession
+  pub between : RunSession
+  pub was : old ≡ Some before
+  pub takes : Step before between
+  pub hands : HandedOver (Some between) new out out' n status
+
+-- a held session was given a line, and then it handed over what fits
+abbrev pub WasGivenLine : (old new : Option RunSession) (line out out' : List ℕ) (n status : ℕ) → Type 0
+WasGivenLine old new line out out' n status = WasTold (λ x y. TakesLine run_machine x y line) old new out out' n status
+
+-- a held session was given the end of the lines, and then it handed over what fits
+abbrev pub WasEnded : (old new : Option RunSession) (out out' : List ℕ) (n status : ℕ) → Type 0
+WasEnded old new out out' n status = WasTold (TakesEnd run_machine) old new out out' n status
 
 -- a line has LF in it, or nothing is held that takes lines
 abbrev pub IsWrongLine : Option RunSession → List ℕ → Type 0

@@ -88,10 +88,8 @@ pub extern "C" fn titan_line(
     }
     match kept.line(alloc, line) {
         Ok(()) => {
-            *written = kept.take(out);
-            let status = status_of(kept.stage());
             handle.give(alloc, kept);
-            status
+            titan_take(alloc, handle, out, written)
         }
         Err(_) => NO_MEMORY,
     }
@@ -125,10 +123,8 @@ pub extern "C" fn titan_end(
     }
     match kept.finish(alloc) {
         Ok(()) => {
-            *written = kept.take(out);
-            let status = status_of(kept.stage());
             handle.give(alloc, kept);
-            status
+            titan_take(alloc, handle, out, written)
         }
         Err(_) => NO_MEMORY,
     }

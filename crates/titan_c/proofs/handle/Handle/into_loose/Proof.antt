@@ -26,9 +26,9 @@ use Rattle.std.proofs.option.Made.{Some-of, none_of}
 use Rattle.std.proofs.ResultValues.{and_tt}
 use Rattle.std.proofs.alloc.Global.TheLaws as heap_laws
 use Rattle.std.specs.contracts.impls.GlobalAllocator.TheImpl.{ghosts}
-use Rattle.loose_box.proofs.Values.{both, Loose, loose_in}
+use Rattle.loose_box.proofs.Values.{both, Loose, loose_good, loose_in}
 use Rattle.titan_c.specs.Owned.{the_row as K}
-use Rattle.titan_c.proofs.Held.{Z, H, good, good_null, held_out, either_held, tested}
+use Rattle.titan_c.proofs.Held.{Z, H, good_null, held_out, either_held, tested}
 use Rattle.titan_c.specs.contracts.handle.Handle.into_loose as F
 use Rattle.titan_c.specs.contracts.handle.Handle.into_loose.Key.{name as #self}
 use Rattle.titan_c.proofs.handle.Handle.into_loose.Statement.{statement}
@@ -65,7 +65,7 @@ into_loose_spec 𝓤 𝓛 𝓜 𝓡 wired =
     nothing ! $ nothing ! $ fjoin ! $ join ! $ nothing ! $ join ! $ done !) (λ wrong. absurd wrong)))
     (λ b o x is_some is_block.
     use1 𝓛 (given (Testable (block_ptr b o)) (‵ (box_owns (ghosts.dealloc_token a) K (block_ptr b o) x))) (tested 𝓛 a (block_ptr b o) x) $ learn ! (λ t.
-    let made : Val = both (vptr b o) h in let typed = good b o h fits in let v₁ : Val = live 1 (vcons made vnil) in let d : To.Denot = record { at = block_ptr b o; alloc = a; value = x } in
+    let made : Val = both (vptr b o) h in let typed = loose_good K Z heap_laws.the_row_laws ghosts b o h fits in let v₁ : Val = live 1 (vcons made vnil) in let d : To.Denot = record { at = block_ptr b o; alloc = a; value = x } in
     let good₁ : Good (layout Out) v₁ = (and_tt _ typed.0, (record { fits = lit< tt }, (typed.1, tt))) in
     suffices ! (Run (made ∷ [])) (subst (λ (us : List Val). ent 𝓤 (Run (made ∷ [])) (Run us)) (sym ((λ i. ws i ++ []) ∙ (λ i. both (ptr_val (is_block i)) h ∷ []))) (id⊢ 𝓤 (Run (made ∷ [])))) $
     enter ! 𝓣.C 𝓣.Λ fn (made ∷ []) Post $ alloc_all ! (λ l. pass_all ! refl (typed, tt) $ let Ev = env fn.locals l in

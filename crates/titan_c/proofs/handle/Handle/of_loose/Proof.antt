@@ -19,10 +19,10 @@ use Rattle.std.specs.declared.option.Option.TheVariants.{Some}
 use Rattle.std.proofs.raw_atomic.Walks.{proved_at}
 use Rattle.std.proofs.alloc.Global.TheLaws as heap_laws
 use Rattle.std.specs.contracts.impls.GlobalAllocator.TheImpl.{ghosts}
-use Rattle.loose_box.proofs.Values.{both, Loose, loose_out}
+use Rattle.loose_box.proofs.Values.{both, Loose, loose_good, loose_out}
 use Rattle.titan_c.specs.Owned.{the_row as K}
 use Rattle.titan_c.specs.Owned.{handle_owns}
-use Rattle.titan_c.proofs.Held.{Z, good, held_in}
+use Rattle.titan_c.proofs.Held.{Z, held_in}
 use Rattle.titan_c.specs.contracts.handle.Handle.of_loose as F
 use Rattle.titan_c.specs.contracts.handle.Handle.of_loose.Key.{name as #self}
 use Rattle.titan_c.proofs.handle.Handle.of_loose.Statement.{statement}
@@ -42,7 +42,7 @@ of_loose_spec 𝓤 𝓛 𝓜 𝓡 wired =
     let v = z.0.3.0 in let a = v.alloc in
     qed 𝓛 ((‵ ftrue ⊛ ‵ (fsep (From.own_val v z.0.4.0) ftrue)) ∷ raw (emp 𝓤) ∷ []) ∵ split ! $ drop ! $ fsplit ! $
     loose_out K Z heap_laws.the_row_laws ghosts ! v z.0.4.0 (λ b o h e ws fits.
-    let w : Val = both (vptr b o) h in let typed = good b o h fits in
+    let w : Val = both (vptr b o) h in let typed = loose_good K Z heap_laws.the_row_laws ghosts b o h fits in
     suffices ! (Run (w ∷ [])) (subst (λ (us : List Val). ent 𝓤 (Run (w ∷ [])) (Run us)) (sym (λ i. ws i ++ [])) (id⊢ 𝓤 (Run (w ∷ [])))) $
     enter ! 𝓣.C 𝓣.Λ code.function (w ∷ []) Post $ alloc_all ! (λ l. pass_all ! refl (typed, tt) $
     sets ! (of_opd ! (get_in ! (fld ! refl (stop !)) (sub ! 0 refl (whole !)))) refl (tt, tt) $ sets ! (of_opd ! (get_in ! (fld ! refl (stop !)) (sub ! 1 refl (whole !)))) refl fits $
