@@ -89,7 +89,7 @@ fn first_backbone(
 {
     let sets = bounds(alloc, problem, base)?;
     let sets = sets.as_slice();
-    let Some(values) = solution_in(alloc, problem, base, sets)? else {
+    let Some(values) = solution_in(alloc, problem, base, sets, &[])? else {
         return Ok(List::new(alloc));
     };
     backbone(

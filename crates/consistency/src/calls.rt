@@ -1,12 +1,13 @@
 //! The questions of a model whose clauses are made for the one call.
 
-ghost use Rattle.std.specs.Prelude.{◌↔◌, length, All, IfOk, IfSome, IsNone, IsTrue};
-ghost use Rattle.cca_base.specs.Prelude.{is_within, CanShow, Follows, HasMode, HasValue, HasWorld, IsConflict, IsState};
+ghost use Rattle.std.specs.Prelude.{length, All, IfOk, IsNone, IsTrue};
+ghost use Rattle.cca_base.specs.Prelude.{is_within, Follows, HasMode, HasValue, HasWorld, IsState};
 ghost use Rattle.consistency.specs.Forced.{AreForced};
 ghost use Rattle.consistency.specs.Found.{FitsSeen, Counters, IsFirstFound};
 
 use crate::found::Found;
-use crate::worlds::Worlds;
+use crate::rules::Rules;
+use crate::worlds::{Worlds, counter};
 use cca_base::{Cube, Formula, Model, Seen, State, VarSet};
 use std::alloc::{AllocError, Global};
 
@@ -41,26 +42,12 @@ pub fn find_counter(
     ensures follows { IfOk result (λ o. IsNone o → Follows model.now modes.now formula.now) }
 {
     let worlds = Worlds::of(alloc, model)?;
-    worlds.find_counter(alloc, model, modes, formula)
-}
-
-/// Why no world of the state agrees with what is seen: of the state's pairs, each tried in component order, those that
-/// are kept since some state that extends the others has such a world. None comes exactly where the state has a world
-/// that agrees. The error is out of memory.
-pub fn conflict(
-    alloc: Global,
-    model: &Model,
-    state: &State,
-    seen: &Seen,
-) -> Result<Option<Cube>, AllocError>
-    requires state { IsState model.now state.now.modes }
-    requires seen { All (λ p. HasValue model.now p.item p.value) seen.now.pairs }
-    ensures some { IfOk result (λ o.
-        IfSome o (IsConflict model.now state.now.modes seen.now.pairs)) }
-    ensures none { IfOk result (λ o. IsNone o ↔ CanShow model.now state.now.modes seen.now.pairs) }
-{
-    let worlds = Worlds::of(alloc, model)?;
-    worlds.conflict(alloc, model, state, seen)
+    let rules = Rules {
+        alloc,
+        model,
+        worlds: &worlds,
+    };
+    counter(&rules, modes, formula)
 }
 
 /// The variables of the set that have one value in all worlds of the state, each with that value, rising. The error is out

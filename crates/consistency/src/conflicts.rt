@@ -2,14 +2,15 @@
 //! once, in component order. A search with the pairs as assumptions names those that had to do with a clash, its core, so
 //! that only pairs of cores cost a search.
 
-ghost use Rattle.std.specs.Prelude.{[], ◌++◌, ◌↔◌, All, IfOk, IfSome, IsNone};
-ghost use Rattle.cca_base.specs.Prelude.{CanShow, HasMode, HasValue, IsConflict, IsCube, IsState, KeepsOfClash};
+ghost use Rattle.std.specs.Prelude.{◌≡◌, [], ◌++◌, ◌↔◌, All, IfOk, IfSome, IsNone};
+ghost use Rattle.cca_base.specs.Prelude.{pairs_of, CanShow, HasMode, HasValue, IsConflict, IsCube, IsState, KeepsOfClash};
 ghost use Rattle.consistency.specs.Cores.{IsCore, IsShowable};
-ghost use Rattle.consistency.specs.Worlds.{AreWorldsOf};
 
 use crate::base::model_base;
+use crate::bounds::bounds;
 use crate::guess::solution_or_clash;
 use crate::pairs::{all_pairs, joined};
+use crate::rules::Rules;
 use crate::search::SearchResult;
 use crate::subjects::{SubjectSet, has_subject};
 use crate::worlds::Worlds;
@@ -18,22 +19,26 @@ use std::alloc::{AllocError, Global};
 
 /// The subjects that are to blame that no state which extends the modes has a world that agrees with what is seen. None
 /// comes where some state has one.
-pub fn core_of(
-    alloc: Global,
-    model: &Model,
-    worlds: &Worlds,
-    modes: &Cube,
-    seen: &Seen,
-) -> Result<Option<SubjectSet>, AllocError>
-    requires of { AreWorldsOf model.now worlds.now }
-    requires modes { All (λ p. HasMode model.now p.item p.value) modes.now }
-    requires seen { All (λ p. HasValue model.now p.item p.value) seen.now.pairs }
-    ensures some { IfOk result (λ o. IfSome o (IsCore model.now seen.now.pairs modes.now)) }
-    ensures none { IfOk result (λ o. IsNone o → IsShowable model.now seen.now.pairs modes.now) }
+fn core_of(rules: &Rules, modes: &Cube, seen: &Seen) -> Result<Option<SubjectSet>, AllocError>
+    requires modes { All (λ p. HasMode rules.now.model.now p.item p.value) modes.now }
+    requires seen { All (λ p. HasValue rules.now.model.now p.item p.value) seen.now.pairs }
+    ensures some { IfOk result (λ o.
+        IfSome o (IsCore rules.now.model.now seen.now.pairs modes.now)) }
+    ensures none { IfOk result (λ o.
+        IsNone o → IsShowable rules.now.model.now seen.now.pairs modes.now) }
 {
-    let modes = modes.as_slice();
-    let base = model_base(alloc, model, &worlds.rules, modes, seen.pairs.as_slice())?;
-    match solution_or_clash(alloc, &worlds.rules, base.as_slice())? {
+    let alloc = rules.alloc;
+    let worlds = rules.worlds;
+    let problem = &worlds.rules;
+    let base = model_base(
+        alloc,
+        rules.model,
+        problem,
+        modes.as_slice(),
+        seen.pairs.as_slice(),
+    )?;
+    let sets = bounds(alloc, problem, base.as_slice())?;
+    match solution_or_clash(alloc, problem, base.as_slice(), sets)? {
         SearchResult::Found(_solution) => Ok(None),
         SearchResult::Clash(subjects) => Ok(Some(subjects)),
     }
@@ -41,48 +46,62 @@ pub fn core_of(
 
 /// The same of the modes that were kept with those that are still to be tried.
 pub fn core_left(
-    alloc: Global,
-    model: &Model,
-    worlds: &Worlds,
+    rules: &Rules,
     kept: &Cube,
     behind: &[Pair],
     seen: &Seen,
 ) -> Result<Option<SubjectSet>, AllocError>
-    requires of { AreWorldsOf model.now worlds.now }
     requires cube { IsCube (kept.now ++ behind.now) }
-    requires modes { All (λ p. HasMode model.now p.item p.value) (kept.now ++ behind.now) }
-    requires seen { All (λ p. HasValue model.now p.item p.value) seen.now.pairs }
+    requires modes { All (λ p. HasMode rules.now.model.now p.item p.value)
+        (kept.now ++ behind.now) }
+    requires seen { All (λ p. HasValue rules.now.model.now p.item p.value) seen.now.pairs }
     ensures some { IfOk result (λ o.
-        IfSome o (IsCore model.now seen.now.pairs (kept.now ++ behind.now))) }
+        IfSome o (IsCore rules.now.model.now seen.now.pairs (kept.now ++ behind.now))) }
     ensures none { IfOk result (λ o.
-        IsNone o → IsShowable model.now seen.now.pairs (kept.now ++ behind.now)) }
+        IsNone o → IsShowable rules.now.model.now seen.now.pairs (kept.now ++ behind.now)) }
 {
-    let others = joined(alloc, kept, behind)?;
-    core_of(alloc, model, worlds, &others, seen)
+    let others = joined(rules.alloc, kept, behind)?;
+    core_of(rules, &others, seen)
+}
+
+/// The pairs of a state, with subjects among them that are to blame that no world of it agrees with what is seen.
+#[derive(Drop)]
+pub struct Blamed {
+    pub pairs: Cube,
+    pub core: SubjectSet,
+}
+
+/// What is to blame that no world of the state agrees with what is seen. None comes exactly where some world does.
+pub fn blame_of(rules: &Rules, state: &State, seen: &Seen) -> Result<Option<Blamed>, AllocError>
+    requires state { IsState rules.now.model.now state.now.modes }
+    requires seen { All (λ p. HasValue rules.now.model.now p.item p.value) seen.now.pairs }
+    ensures pairs { IfOk result (λ o. IfSome o (λ b. b.pairs ≡ pairs_of state.now.modes)) }
+    ensures core { IfOk result (λ o. IfSome o (λ b.
+        IsCore rules.now.model.now seen.now.pairs b.pairs b.core)) }
+    ensures none { IfOk result (λ o.
+        IsNone o ↔ CanShow rules.now.model.now state.now.modes seen.now.pairs) }
+{
+    let pairs = all_pairs(rules.alloc, rules.model, state)?;
+    match core_of(rules, &pairs, seen)? {
+        Some(core) => Ok(Some(Blamed { pairs, core })),
+        None => Ok(None),
+    }
 }
 
 /// What is kept of the pairs, each of which is tried once. A pair outside the last core is dropped without a search: the
 /// core clashes without it.
-fn kept_of(
-    alloc: Global,
-    model: &Model,
-    worlds: &Worlds,
-    pairs: &Cube,
-    seen: &Seen,
-    core: SubjectSet,
-) -> Result<Cube, AllocError>
-    requires of { AreWorldsOf model.now worlds.now }
-    requires pairs { All (λ p. HasMode model.now p.item p.value) pairs.now }
-    requires seen { All (λ p. HasValue model.now p.item p.value) seen.now.pairs }
-    requires core { IsCore model.now seen.now.pairs pairs.now core }
-    ensures { IfOk result (KeepsOfClash model.now seen.now.pairs [] pairs.now) }
+fn kept_of(rules: &Rules, pairs: &Cube, seen: &Seen, core: SubjectSet) -> Result<Cube, AllocError>
+    requires pairs { All (λ p. HasMode rules.now.model.now p.item p.value) pairs.now }
+    requires seen { All (λ p. HasValue rules.now.model.now p.item p.value) seen.now.pairs }
+    requires core { IsCore rules.now.model.now seen.now.pairs pairs.now core }
+    ensures { IfOk result (KeepsOfClash rules.now.model.now seen.now.pairs [] pairs.now) }
 {
-    let mut kept = Cube::new(alloc);
+    let mut kept = Cube::new(rules.alloc);
     let mut core = core;
     for (at, pair) in pairs.as_slice().iter().enumerate() {
         if has_subject(&core, pair.item) {
             let behind = &pairs.as_slice()[at + 1..];
-            match core_left(alloc, model, worlds, &kept, behind, seen)? {
+            match core_left(rules, &kept, behind, seen)? {
                 Some(smaller) => core = smaller,
                 None => kept.push(*pair)?,
             }
@@ -91,29 +110,29 @@ fn kept_of(
     Ok(kept)
 }
 
-impl Worlds {
-    /// Why no world of the state agrees with what is seen: of the state's pairs, each tried in component order, those
-    /// that are kept since some state that extends the others has such a world. None comes exactly where the state has a
-    /// world that agrees. The error is out of memory.
-    pub fn conflict(
-        &self,
-        alloc: Global,
-        model: &Model,
-        state: &State,
-        seen: &Seen,
-    ) -> Result<Option<Cube>, AllocError>
-        requires of { AreWorldsOf model.now self.now }
-        requires state { IsState model.now state.now.modes }
-        requires seen { All (λ p. HasValue model.now p.item p.value) seen.now.pairs }
-        ensures some { IfOk result (λ o.
-            IfSome o (IsConflict model.now state.now.modes seen.now.pairs)) }
-        ensures none { IfOk result (λ o.
-            IsNone o ↔ CanShow model.now state.now.modes seen.now.pairs) }
-    {
-        let pairs = all_pairs(alloc, model, state)?;
-        match core_of(alloc, model, self, &pairs, seen)? {
-            Some(core) => Ok(Some(kept_of(alloc, model, self, &pairs, seen, core)?)),
-            None => Ok(None),
-        }
+/// Why no world of the state agrees with what is seen: of the state's pairs, each tried in component order, those that
+/// are kept since some state that extends the others has such a world. None comes exactly where the state has a world
+/// that agrees. The error is out of memory.
+pub fn conflict(
+    alloc: Global,
+    model: &Model,
+    state: &State,
+    seen: &Seen,
+) -> Result<Option<Cube>, AllocError>
+    requires state { IsState model.now state.now.modes }
+    requires seen { All (λ p. HasValue model.now p.item p.value) seen.now.pairs }
+    ensures some { IfOk result (λ o.
+        IfSome o (IsConflict model.now state.now.modes seen.now.pairs)) }
+    ensures none { IfOk result (λ o. IsNone o ↔ CanShow model.now state.now.modes seen.now.pairs) }
+{
+    let worlds = Worlds::of(alloc, model)?;
+    let rules = Rules {
+        alloc,
+        model,
+        worlds: &worlds,
+    };
+    match blame_of(&rules, state, seen)? {
+        Some(blamed) => Ok(Some(kept_of(&rules, &blamed.pairs, seen, blamed.core)?)),
+        None => Ok(None),
     }
 }

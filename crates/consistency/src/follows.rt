@@ -6,7 +6,8 @@ ghost use Rattle.consistency.specs.Worlds.{AreWorldsOf};
 
 use crate::base::model_base;
 use crate::refuted::is_refuted;
-use crate::worlds::Worlds;
+use crate::rules::Rules;
+use crate::worlds::{Worlds, counter};
 use cca_base::{Cube, Formula, Model};
 use clause_form::denied_clauses;
 use std::alloc::{AllocError, Global};
@@ -32,7 +33,12 @@ impl Worlds {
         if is_refuted(alloc, &self.rules, base.as_slice(), denied)? {
             return Ok(true);
         }
-        match self.find_counter(alloc, model, modes, formula)? {
+        let rules = Rules {
+            alloc,
+            model,
+            worlds: self,
+        };
+        match counter(&rules, modes, formula)? {
             Some(_counter) => Ok(false),
             None => Ok(true),
         }

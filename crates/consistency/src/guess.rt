@@ -7,9 +7,9 @@ ghost use Rattle.clause_form.specs.Clauses.{AllBelow};
 ghost use Rattle.consistency.specs.Problem.{IsProblem};
 ghost use Rattle.consistency.specs.Search.{IsSolution, IsSolutionOrClash, IsSolutionOrNone};
 
-use crate::bounds::{bounds, settle};
+use crate::bounds::settle;
 use crate::problem::Problem;
-use crate::search::{SearchResult, first_solution, solve};
+use crate::search::{SearchResult, solve};
 use crate::solution::is_solution;
 use cca_base::{List, MAX_CHOICES, ValueSet};
 use std::alloc::{AllocError, Global};
@@ -92,19 +92,19 @@ fn picked(
     Ok(Some(List::of(values)))
 }
 
-/// What takes least values of these sets, other than those to be avoided, where it is a solution. The sets are narrowed by it.
+/// What takes least values of these sets, other than those to be avoided, where it is a solution.
 fn guess(
     alloc: Global,
     problem: &Problem,
     base: &[ValueSet],
-    sets: &mut [ValueSet],
+    mut sets: Vec<ValueSet>,
     avoided: &[u8],
 ) -> Result<Option<List<u8>>, AllocError>
     requires proper { IsProblem problem.now.clauses base.now }
-    requires full { length sets.old ≡ length base.now }
+    requires full { length sets.items ≡ length base.now }
     ensures { IfOk result (λ o. IfSome o (IsSolution problem.now.clauses base.now)) }
 {
-    let Some(values) = picked(alloc, problem, sets, avoided)? else {
+    let Some(values) = picked(alloc, problem, &mut sets, avoided)? else {
         return Ok(None);
     };
     if is_solution(problem, base, values.as_slice()) {
@@ -113,58 +113,42 @@ fn guess(
     Ok(None)
 }
 
-/// Some solution, or the subjects that are to blame that there is none.
+/// Some solution, guessed from the sets or sought, or the subjects that are to blame that there is none.
 pub fn solution_or_clash(
     alloc: Global,
     problem: &Problem,
     base: &[ValueSet],
+    sets: Vec<ValueSet>,
 ) -> Result<SearchResult, AllocError>
-    requires { IsProblem problem.now.clauses base.now }
+    requires proper { IsProblem problem.now.clauses base.now }
+    requires full { length sets.items ≡ length base.now }
     ensures { IfOk result (IsSolutionOrClash problem.now.clauses base.now) }
 {
-    let mut sets = bounds(alloc, problem, base)?;
-    match guess(alloc, problem, base, &mut sets, &[])? {
+    match guess(alloc, problem, base, sets, &[])? {
         Some(solution) => Ok(SearchResult::Found(solution)),
         None => solve(alloc, problem, base),
     }
 }
 
-/// Some solution, sought first in the sets. None comes exactly where there is none.
+/// Some solution, guessed from the sets as one that takes another value than those to be avoided at each subject where one is left, and
+/// else without these, or sought. None comes exactly where there is none.
 pub fn solution_in(
     alloc: Global,
     problem: &Problem,
     base: &[ValueSet],
     sets: &[ValueSet],
+    avoided: &[u8],
 ) -> Result<Option<List<u8>>, AllocError>
     requires proper { IsProblem problem.now.clauses base.now }
     requires full { length sets.now ≡ length base.now }
     ensures { IfOk result (IsSolutionOrNone problem.now.clauses base.now) }
 {
-    let mut left = Vec::from_slice(alloc, sets)?;
-    let guessed = guess(alloc, problem, base, &mut left, &[])?;
+    let guessed = guess(alloc, problem, base, Vec::from_slice(alloc, sets)?, avoided)?;
     if guessed.is_some() {
         return Ok(guessed);
     }
-    first_solution(alloc, problem, base)
-}
-
-/// Some solution, sought first in the sets as one that takes another value than this at each subject where one is left. None comes
-/// exactly where there is none.
-pub fn solution_apart(
-    alloc: Global,
-    problem: &Problem,
-    base: &[ValueSet],
-    sets: &[ValueSet],
-    values: &[u8],
-) -> Result<Option<List<u8>>, AllocError>
-    requires proper { IsProblem problem.now.clauses base.now }
-    requires full { length sets.now ≡ length base.now }
-    ensures { IfOk result (IsSolutionOrNone problem.now.clauses base.now) }
-{
-    let mut left = Vec::from_slice(alloc, sets)?;
-    let guessed = guess(alloc, problem, base, &mut left, values)?;
-    if guessed.is_some() {
-        return Ok(guessed);
+    match solution_or_clash(alloc, problem, base, Vec::from_slice(alloc, sets)?)? {
+        SearchResult::Found(values) => Ok(Some(values)),
+        SearchResult::Clash(_) => Ok(None),
     }
-    solution_in(alloc, problem, base, sets)
 }

@@ -7,8 +7,8 @@ ghost use Rattle.consistency.specs.Conflict.{IsMinimalClash};
 ghost use Rattle.consistency.specs.Cores.{pairs_in};
 ghost use Rattle.consistency.specs.Worlds.{AreWorldsOf};
 
-use crate::conflicts::{core_left, core_of};
-use crate::pairs::all_pairs;
+use crate::conflicts::{blame_of, core_left};
+use crate::rules::Rules;
 use crate::subjects::{SubjectSet, has_subject};
 use crate::worlds::Worlds;
 use cca_base::{Cube, List, Model, Pair, Seen, State};
@@ -28,26 +28,19 @@ fn pairs_in(alloc: Global, subjects: &SubjectSet, pairs: &[Pair]) -> Result<List
 }
 
 /// A minimal part of the pairs that clashes.
-fn minimal_part(
-    alloc: Global,
-    model: &Model,
-    worlds: &Worlds,
-    pairs: List<Pair>,
-    seen: &Seen,
-) -> Result<Cube, AllocError>
-    requires of { AreWorldsOf model.now worlds.now }
+fn minimal_part(rules: &Rules, pairs: List<Pair>, seen: &Seen) -> Result<Cube, AllocError>
     requires cube { IsCube pairs }
-    requires modes { All (λ p. HasMode model.now p.item p.value) pairs }
-    requires seen { All (λ p. HasValue model.now p.item p.value) seen.now.pairs }
-    requires clash { Clash model.now seen.now.pairs pairs }
+    requires modes { All (λ p. HasMode rules.now.model.now p.item p.value) pairs }
+    requires seen { All (λ p. HasValue rules.now.model.now p.item p.value) seen.now.pairs }
+    requires clash { Clash rules.now.model.now seen.now.pairs pairs }
     ensures { IfOk result (λ c. (s : List ℕ) → IsPart pairs (pairs_of s) →
-        IsMinimalClash model.now s seen.now.pairs c) }
+        IsMinimalClash rules.now.model.now s seen.now.pairs c) }
 {
-    let mut kept = Cube::new(alloc);
+    let mut kept = Cube::new(rules.alloc);
     let mut left = pairs;
     'leaving: while let Some(pair) = left.pop() {
-        match core_left(alloc, model, worlds, &kept, left.as_slice(), seen)? {
-            Some(core) => left = pairs_in(alloc, &core, left.as_slice())?,
+        match core_left(rules, &kept, left.as_slice(), seen)? {
+            Some(core) => left = pairs_in(rules.alloc, &core, left.as_slice())?,
             None => kept.push(pair)?,
         }
     }
@@ -73,13 +66,15 @@ impl Worlds {
         ensures none { IfOk result (λ o.
             IsNone o ↔ CanShow model.now state.now.modes seen.now.pairs) }
     {
-        let pairs = all_pairs(alloc, model, state)?;
-        match core_of(alloc, model, self, &pairs, seen)? {
-            Some(core) => {
-                let among = pairs_in(alloc, &core, pairs.as_slice())?;
-                Ok(Some(minimal_part(alloc, model, self, among, seen)?))
-            }
-            None => Ok(None),
-        }
+        let rules = Rules {
+            alloc,
+            model,
+            worlds: self,
+        };
+        let Some(blamed) = blame_of(&rules, state, seen)? else {
+            return Ok(None);
+        };
+        let among = pairs_in(alloc, &blamed.core, blamed.pairs.as_slice())?;
+        Ok(Some(minimal_part(&rules, among, seen)?))
     }
 }

@@ -10,7 +10,7 @@ ghost use Rattle.consistency.specs.Search.{IsSolution};
 ghost use Rattle.consistency.specs.declared.subjects.TheConstants.{SET_SUBJECTS};
 
 use crate::bounds::settle;
-use crate::guess::solution_apart;
+use crate::guess::solution_in;
 use crate::problem::Problem;
 use cca_base::{List, MAX_CHOICES, ValueSet};
 use std::alloc::{AllocError, Global};
@@ -95,5 +95,5 @@ pub fn other_solution(
     }
     let narrower = excluded(alloc, base, subject, value)?;
     let left = left_without(alloc, problem, sets, subject, value)?;
-    solution_apart(alloc, problem, narrower.as_slice(), left.as_slice(), values)
+    solution_in(alloc, problem, narrower.as_slice(), left.as_slice(), values)
 }

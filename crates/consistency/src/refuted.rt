@@ -47,9 +47,9 @@ fn subjects_of(alloc: Global, clauses: &[Clause]) -> Result<Vec<u16>, AllocError
     Ok(subjects)
 }
 
-/// Whether the sets show that no solution meets the clauses, as they are or after the clauses that speak of the same subjects and of what
-/// these change. A no says nothing.
-fn is_out_nearby(
+/// Whether the sets show that no solution meets the clauses, as they are, after the clauses that speak of the same subjects and of what
+/// these change, or after all. A no says nothing.
+pub fn is_refuted(
     alloc: Global,
     problem: &Problem,
     base: &[ValueSet],
@@ -67,23 +67,7 @@ fn is_out_nearby(
     let mut sets = Vec::from_slice(alloc, base)?;
     let mut near = subjects_of(alloc, clauses)?;
     settle(problem, &mut sets, &mut near)?;
-    Ok(is_out(clauses, &sets))
-}
-
-/// Whether propagation shows that no solution meets the clauses. A no says nothing.
-pub fn is_refuted(
-    alloc: Global,
-    problem: &Problem,
-    base: &[ValueSet],
-    clauses: &[Clause],
-) -> Result<bool, AllocError>
-    requires proper { IsProblem problem.now.clauses base.now }
-    requires clauses { AllBelow (length base.now) clauses.now }
-    ensures { IfOk result (λ b.
-        IsTrue b → (xs : List ℕ) → IsSolution problem.now.clauses base.now xs →
-        all_met xs clauses.now ≡ false) }
-{
-    if is_out_nearby(alloc, problem, base, clauses)? {
+    if is_out(clauses, &sets) {
         return Ok(true);
     }
     let sets = bounds(alloc, problem, base)?;

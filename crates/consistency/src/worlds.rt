@@ -12,6 +12,7 @@ use crate::base::model_base;
 use crate::denied::denied_problem;
 use crate::found::{Found, split};
 use crate::problem::{Problem, problem_of};
+use crate::rules::Rules;
 use crate::search::first_solution;
 use cca_base::{Cube, Formula, Model, Pair, Seen};
 use clause_form::clauses_of;
@@ -56,6 +57,21 @@ fn first_found(
     }
 }
 
+/// The first state in mode order that extends the modes and has a world in which the formula is false, with its first such
+/// world in value order. None comes exactly where the formula follows from the modes.
+pub fn counter(rules: &Rules, modes: &Cube, formula: &Formula) -> Result<Option<Found>, AllocError>
+    requires modes { All (λ p. HasMode rules.now.model.now p.item p.value) modes.now }
+    requires formula { IsTrue (is_within (length rules.now.model.now.components)
+        (length rules.now.model.now.variables) formula.now) }
+    ensures first { IfOk result (IsFirstFound (Counters rules.now.model.now modes.now formula.now)) }
+    ensures follows { IfOk result (λ o.
+        IsNone o → Follows rules.now.model.now modes.now formula.now) }
+{
+    let worlds = rules.worlds;
+    let problem = denied_problem(rules.alloc, rules.model, &worlds.rules, formula)?;
+    first_found(rules.alloc, rules.model, &problem, modes.as_slice(), &[])
+}
+
 impl Worlds {
     ghost use Rattle.consistency.specs.Worlds.{AreWorldsOf};
 
@@ -89,26 +105,5 @@ impl Worlds {
             modes.as_slice(),
             seen.pairs.as_slice(),
         )
-    }
-
-    /// The first state in mode order that extends the modes and has a world in which the formula is false, with its
-    /// first such world in value order. None comes exactly where the formula follows from the modes. The error is out
-    /// of memory.
-    pub fn find_counter(
-        &self,
-        alloc: Global,
-        model: &Model,
-        modes: &Cube,
-        formula: &Formula,
-    ) -> Result<Option<Found>, AllocError>
-        requires of { AreWorldsOf model.now self.now }
-        requires modes { All (λ p. HasMode model.now p.item p.value) modes.now }
-        requires formula { IsTrue (is_within (length model.now.components)
-            (length model.now.variables) formula.now) }
-        ensures first { IfOk result (IsFirstFound (Counters model.now modes.now formula.now)) }
-        ensures follows { IfOk result (λ o. IsNone o → Follows model.now modes.now formula.now) }
-    {
-        let problem = denied_problem(alloc, model, &self.rules, formula)?;
-        first_found(alloc, model, &problem, modes.as_slice(), &[])
     }
 }

@@ -5,4 +5,4 @@ use Rattle.consistency.proofs.conflicts.core_left.Goals as goal
 
 pub returns-clause-none : goal.returns-clause-none
 returns-clause-none c =
-    subst (λ (ps : List Pair). IfOk c.core_of.result (λ o. IsNone o → IsShowable c.args.model.now c.args.seen.now.pairs ps)) c.in_ok-others.ensures c.core_of.ensures.none
+    subst (λ (ps : List Pair). IfOk c.core_of.result (λ o. IsNone o → IsShowable c.args.rules.now.model.now c.args.seen.now.pairs ps)) c.in_ok-others.ensures c.core_of.ensures.none

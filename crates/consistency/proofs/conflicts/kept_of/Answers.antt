@@ -15,7 +15,7 @@ none = record { item = 0; value = 0 }
 
 pub core_left-requires-clause-cube : goal.core_left-requires-clause-cube
 core_left-requires-clause-cube c =
-    let m = c.args.model.now in
+    let m = c.args.rules.now.model.now in
     let xs : List Pair = c.as_slice-pair-items.result.now in
     let p : Pair = get_or xs c.loop-at.at none in
     let e = c.as_slice-pair-items.ensures.pairs in
@@ -25,7 +25,7 @@ core_left-requires-clause-cube c =
 
 pub core_left-requires-clause-modes : goal.core_left-requires-clause-modes
 core_left-requires-clause-modes c =
-    let m = c.args.model.now in
+    let m = c.args.rules.now.model.now in
     let rest = rest_of c.args.pairs.now c.as_slice.result.now (c.loop-at.at + 1) c.as_slice.ensures.pairs in
     subst (λ (ps : List Pair). (k : ℕ) (d : Pair) → k < length (c.loop-at.kept ++ ps) → HasMode m (get_or (c.loop-at.kept ++ ps) k d).item (get_or (c.loop-at.kept ++ ps) k d).value) (sym rest)
     (All-append (λ p. HasMode m p.item p.value) c.loop-at.kept (drop (c.loop-at.at + 1) c.args.pairs.now) c.loop-at.invariant.trying.modes
@@ -33,7 +33,7 @@ core_left-requires-clause-modes c =
 
 pub push-requires : goal.push-requires
 push-requires c =
-    let m = c.args.model.now in
+    let m = c.args.rules.now.model.now in
     let xs : List Pair = c.as_slice-pair-items.result.now in
     let p : Pair = get_or xs c.loop-at.at none in
     let e = c.as_slice-pair-items.ensures.pairs in
@@ -42,7 +42,7 @@ push-requires c =
 
 pub loop-at-preserved : goal.loop-at-preserved
 loop-at-preserved c =
-    let m = c.args.model.now in
+    let m = c.args.rules.now.model.now in
     let seen = c.args.seen.now.pairs in
     let pairs : List Pair = c.args.pairs.now in
     let kept = c.loop-at.kept in

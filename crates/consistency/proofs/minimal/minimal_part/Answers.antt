@@ -13,16 +13,16 @@ use Rattle.consistency.proofs.Shrinking.{IsShrinking, none_kept, others_cube, ot
 use Rattle.consistency.proofs.minimal.minimal_part.Goals as goal
 
 pub leaving-init : goal.leaving-init
-leaving-init c = rw c.new-kept.ensures (none_kept c.args.model.now c.args.seen.now.pairs c.args.pairs c.requires.cube c.requires.clash)
+leaving-init c = rw c.new-kept.ensures (none_kept c.args.rules.now.model.now c.args.seen.now.pairs c.args.pairs c.requires.cube c.requires.clash)
 
 pub core_left-requires-clause-cube : goal.core_left-requires-clause-cube
 core_left-requires-clause-cube c =
-    let h = subst (IsShrinking c.args.model.now c.args.seen.now.pairs c.args.pairs c.leaving.kept) c.in-Some.ensures c.leaving.invariant in
-    subst (λ ps. IsCube (c.leaving.kept ++ ps)) (sym c.as_slice.ensures) (others_cube c.args.model.now c.args.seen.now.pairs c.args.pairs c.leaving.kept c.pop.new.self c.in-Some.pair h)
+    let h = subst (IsShrinking c.args.rules.now.model.now c.args.seen.now.pairs c.args.pairs c.leaving.kept) c.in-Some.ensures c.leaving.invariant in
+    subst (λ ps. IsCube (c.leaving.kept ++ ps)) (sym c.as_slice.ensures) (others_cube c.args.rules.now.model.now c.args.seen.now.pairs c.args.pairs c.leaving.kept c.pop.new.self c.in-Some.pair h)
 
 pub core_left-requires-clause-modes : goal.core_left-requires-clause-modes
 core_left-requires-clause-modes c =
-    let m = c.args.model.now in
+    let m = c.args.rules.now.model.now in
     let h = subst (IsShrinking m c.args.seen.now.pairs c.args.pairs c.leaving.kept) c.in-Some.ensures c.leaving.invariant in
     subst (λ (ps : List Pair). All (λ p. HasMode m p.item p.value) (c.leaving.kept ++ ps)) (sym c.as_slice.ensures)
     (all_from (λ p. HasMode m p.item p.value) (c.leaving.kept ++ c.pop.new.self) (λ q there.
@@ -30,8 +30,8 @@ core_left-requires-clause-modes c =
 
 pub push-requires : goal.push-requires
 push-requires c =
-    let h = subst (IsShrinking c.args.model.now c.args.seen.now.pairs c.args.pairs c.leaving.kept) c.in-Some.ensures c.leaving.invariant in
-    last_lacks c.args.model.now c.args.seen.now.pairs c.args.pairs c.leaving.kept c.pop.new.self c.in-Some.pair h
+    let h = subst (IsShrinking c.args.rules.now.model.now c.args.seen.now.pairs c.args.pairs c.leaving.kept) c.in-Some.ensures c.leaving.invariant in
+    last_lacks c.args.rules.now.model.now c.args.seen.now.pairs c.args.pairs c.leaving.kept c.pop.new.self c.in-Some.pair h
 
 pub leaving-smaller-in-Some-2 : goal.leaving-smaller-in-Some-2
 leaving-smaller-in-Some-2 c =
@@ -42,7 +42,7 @@ leaving-smaller-in-Some-2 c =
 
 pub leaving-preserved-in-Some-2 : goal.leaving-preserved-in-Some-2
 leaving-preserved-in-Some-2 c =
-    let m = c.args.model.now in
+    let m = c.args.rules.now.model.now in
     let seen = c.args.seen.now.pairs in
     let kept = c.leaving.kept in
     let h = subst (IsShrinking m seen c.args.pairs kept) c.in-Some.ensures c.leaving.invariant in
@@ -53,7 +53,7 @@ leaving-preserved-in-Some-2 c =
 
 pub leaving-preserved : goal.leaving-preserved
 leaving-preserved c =
-    let m = c.args.model.now in
+    let m = c.args.rules.now.model.now in
     let seen = c.args.seen.now.pairs in
     let kept = c.leaving.kept in
     let h = subst (IsShrinking m seen c.args.pairs kept) c.in-Some.ensures c.leaving.invariant in
@@ -63,6 +63,6 @@ leaving-preserved c =
 
 pub returns : goal.returns
 returns c =
-    let m = c.args.model.now in
+    let m = c.args.rules.now.model.now in
     let seen = c.args.seen.now.pairs in
     none_left m seen c.args.pairs c.leaving.kept (subst (IsShrinking m seen c.args.pairs c.leaving.kept) c.in_default.ensures.0 c.leaving.invariant)

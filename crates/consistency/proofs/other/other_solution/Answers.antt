@@ -6,12 +6,12 @@ use Rattle.consistency.proofs.other.other_solution.Goals as goal
 
 pub returns-clause-some : goal.returns-clause-some
 returns-clause-some c =
-    IfOk-weaker c.solution_apart.result _ _
+    IfOk-weaker c.solution_in.result _ _
     (other_some c.args.problem.now.clauses c.args.base.now c.in_ok-narrower.narrower.items c.args.subject (slice_index c.args.values.now c.args.subject) c.in_ok-narrower.ensures.full c.in_ok-narrower.ensures.at c.in_ok-narrower.ensures.others c.requires.subject c.requires.proper)
-    (subst (λ (b : List ℕ). IfOk c.solution_apart.result (IsSolutionOrNone c.args.problem.now.clauses b)) c.as_slice.ensures.value c.solution_apart.ensures)
+    (subst (λ (b : List ℕ). IfOk c.solution_in.result (IsSolutionOrNone c.args.problem.now.clauses b)) c.as_slice.ensures.value c.solution_in.ensures)
 
 pub returns-clause-none : goal.returns-clause-none
 returns-clause-none c =
-    IfOk-weaker c.solution_apart.result _ _
+    IfOk-weaker c.solution_in.result _ _
     (other_none c.args.problem.now.clauses c.args.base.now c.in_ok-narrower.narrower.items c.args.subject (slice_index c.args.values.now c.args.subject) c.in_ok-narrower.ensures.full c.in_ok-narrower.ensures.at c.in_ok-narrower.ensures.others c.requires.subject c.requires.proper)
-    (subst (λ (b : List ℕ). IfOk c.solution_apart.result (IsSolutionOrNone c.args.problem.now.clauses b)) c.as_slice.ensures.value c.solution_apart.ensures)
+    (subst (λ (b : List ℕ). IfOk c.solution_in.result (IsSolutionOrNone c.args.problem.now.clauses b)) c.as_slice.ensures.value c.solution_in.ensures)
