@@ -38,15 +38,15 @@ module _ (a : Asking) (ms : List Mark) (at : ℕ) (s : StandsIn a ms at) (f : Fo
   unfolding IsProper
   parts_proper = let p = subst IsProper two.2 s.proper in (p.1, p.2)
 
-  choose_formulas : All (IsFormula a.model.now) (f ∷ formulas_left (begun two.0) ++ formulas_left (begun two.1))
+  choose_formulas : All (IsFormula a.rules.now.model.now) (f ∷ formulas_left (begun two.0) ++ formulas_left (begun two.1))
   unfolding formulas_left begun
-  choose_formulas = subst (λ v. All (IsFormula a.model.now) (formulas_left (begun v))) two.2 s.formulas
+  choose_formulas = subst (λ v. All (IsFormula a.rules.now.model.now) (formulas_left (begun v))) two.2 s.formulas
 
-  one_left : All (IsFormula a.model.now) (f ∷ formulas_left (begun two.0))
-  one_left = all_left (IsFormula a.model.now) (f ∷ formulas_left (begun two.0)) (formulas_left (begun two.1)) choose_formulas
+  one_left : All (IsFormula a.rules.now.model.now) (f ∷ formulas_left (begun two.0))
+  one_left = all_left (IsFormula a.rules.now.model.now) (f ∷ formulas_left (begun two.0)) (formulas_left (begun two.1)) choose_formulas
 
-  pub choose_formula : IsFormula a.model.now f
-  choose_formula = All-head (IsFormula a.model.now) f (formulas_left (begun two.0)) one_left
+  pub choose_formula : IsFormula a.rules.now.model.now f
+  choose_formula = All-head (IsFormula a.rules.now.model.now) f (formulas_left (begun two.0)) one_left
 
   -- the list with the choice written
   module _ (w : Mark) where
@@ -68,7 +68,7 @@ module _ (a : Asking) (ms : List Mark) (at : ℕ) (s : StandsIn a ms at) (f : Fo
       place = place_behind s.before head at s.place;
       nodes = chosen_nodes;
       proper = parts_proper.0;
-      formulas = All-tail (IsFormula a.model.now) f (formulas_left (begun two.0)) one_left;
+      formulas = All-tail (IsFormula a.rules.now.model.now) f (formulas_left (begun two.0)) one_left;
     }
 
     two_place : (n : ℕ) → n ≡ size two.0 → length ((s.before ++ head ∷ []) ++ laid two.0 []) ≡ at + 1 + n
@@ -84,19 +84,19 @@ module _ (a : Asking) (ms : List Mark) (at : ℕ) (s : StandsIn a ms at) (f : Fo
       place = two_place n is;
       nodes = chosen_nodes ∙ behind_one_part (s.before ++ head ∷ []) two.0 (laid two.1 s.after);
       proper = parts_proper.1;
-      formulas = all_right (IsFormula a.model.now) (f ∷ formulas_left (begun two.0)) (formulas_left (begun two.1)) choose_formulas;
+      formulas = all_right (IsFormula a.rules.now.model.now) (f ∷ formulas_left (begun two.0)) (formulas_left (begun two.1)) choose_formulas;
     }
 
-  one_turns : Chooses a.model.now a.estimate.now.modes (choice_of k) f true → (asked : List Pair) (ended : Bool) (entries : List Entry) (all : List Pair)
-      → HasTurned a.model.now a.estimate.now.modes (s.before ++ head Mark.First ∷ []) two.0 (laid two.1 s.after) asked ended entries all
-      → HasTurned a.model.now a.estimate.now.modes s.before s.tree s.after asked ended entries all
+  one_turns : Chooses a.rules.now.model.now a.estimate.now.modes (choice_of k) f true → (asked : List Pair) (ended : Bool) (entries : List Entry) (all : List Pair)
+      → HasTurned a.rules.now.model.now a.estimate.now.modes (s.before ++ head Mark.First ∷ []) two.0 (laid two.1 s.after) asked ended entries all
+      → HasTurned a.rules.now.model.now a.estimate.now.modes s.before s.tree s.after asked ended entries all
   unfolding laid rest_of
   one_turns takes asked ended entries all b = record {
     own = b.own;
     next = Tree.Choose first f b.next two.1;
     became =
-        subst (λ v. Became a.model.now a.estimate.now.modes v b.own (Tree.Choose first f b.next two.1)) (sym two.2)
-        (takes_first a.model.now a.estimate.now.modes (choice_of k) f two.0 two.1 b.next b.own takes choose_proper b.became);
+        subst (λ v. Became a.rules.now.model.now a.estimate.now.modes v b.own (Tree.Choose first f b.next two.1)) (sym two.2)
+        (takes_first a.rules.now.model.now a.estimate.now.modes (choice_of k) f two.0 two.1 b.next b.own takes choose_proper b.became);
     nodes =
         b.nodes ∙ sym (behind_one s.before (head Mark.First) (laid b.next (laid two.1 s.after)))
         ∙ ap (λ v. s.before ++ (Marked.Choose first f, suc (v + size two.1)) ∷ laid b.next (laid two.1 s.after)) (sym b.became.size);
@@ -104,22 +104,22 @@ module _ (a : Asking) (ms : List Mark) (at : ℕ) (s : StandsIn a ms at) (f : Fo
     left = b.left;
   }
 
-  pub takes_one : (d : Bool) → Chooses a.model.now a.estimate.now.modes (choice_of k) f d → d ≡ true → (new : List Mark) → new ≡ slice_set ms at Mark.First
+  pub takes_one : (d : Bool) → Chooses a.rules.now.model.now a.estimate.now.modes (choice_of k) f d → d ≡ true → (new : List Mark) → new ≡ slice_set ms at Mark.First
       → Takes a at ms (at + 1) new s
   takes_one d takes is new set =
       subst (λ v. Takes a at ms (at + 1) v s) (sym set)
-      (record { stands = one_stands Mark.First; behind = omega arith; turns = one_turns (subst (Chooses a.model.now a.estimate.now.modes (choice_of k) f) is takes) })
+      (record { stands = one_stands Mark.First; behind = omega arith; turns = one_turns (subst (Chooses a.rules.now.model.now a.estimate.now.modes (choice_of k) f) is takes) })
 
-  two_turns : Chooses a.model.now a.estimate.now.modes (choice_of k) f false → (asked : List Pair) (ended : Bool) (entries : List Entry) (all : List Pair)
-      → HasTurned a.model.now a.estimate.now.modes ((s.before ++ head Mark.Second ∷ []) ++ laid two.0 []) two.1 s.after asked ended entries all
-      → HasTurned a.model.now a.estimate.now.modes s.before s.tree s.after asked ended entries all
+  two_turns : Chooses a.rules.now.model.now a.estimate.now.modes (choice_of k) f false → (asked : List Pair) (ended : Bool) (entries : List Entry) (all : List Pair)
+      → HasTurned a.rules.now.model.now a.estimate.now.modes ((s.before ++ head Mark.Second ∷ []) ++ laid two.0 []) two.1 s.after asked ended entries all
+      → HasTurned a.rules.now.model.now a.estimate.now.modes s.before s.tree s.after asked ended entries all
   unfolding laid rest_of
   two_turns takes asked ended entries all b = record {
     own = b.own;
     next = Tree.Choose second f two.0 b.next;
     became =
-        subst (λ v. Became a.model.now a.estimate.now.modes v b.own (Tree.Choose second f two.0 b.next)) (sym two.2)
-        (takes_second a.model.now a.estimate.now.modes (choice_of k) f two.0 two.1 b.next b.own takes choose_proper b.became);
+        subst (λ v. Became a.rules.now.model.now a.estimate.now.modes v b.own (Tree.Choose second f two.0 b.next)) (sym two.2)
+        (takes_second a.rules.now.model.now a.estimate.now.modes (choice_of k) f two.0 two.1 b.next b.own takes choose_proper b.became);
     nodes =
         b.nodes ∙ sym (behind_one_part (s.before ++ head Mark.Second ∷ []) two.0 (laid b.next s.after))
         ∙ sym (behind_one s.before (head Mark.Second) (laid two.0 (laid b.next s.after)))
@@ -138,14 +138,14 @@ module _ (a : Asking) (ms : List Mark) (at : ℕ) (s : StandsIn a ms at) (f : Fo
   pub passed_ends : (n : Node) → slice_get a.nodes.now (at + 1) ≡ Some n → at + 1 + n.size ≤ length a.nodes.now
   passed_ends n is = omega (arith, passed_size n is, end_in_nodes a.nodes.now (slice_set ms at Mark.Second) (at + 1) (lies (one_stands Mark.Second)))
 
-  pub takes_two : (d : Bool) → Chooses a.model.now a.estimate.now.modes (choice_of k) f d → d ≡ false → (n : Node) → slice_get a.nodes.now (at + 1) ≡ Some n
+  pub takes_two : (d : Bool) → Chooses a.rules.now.model.now a.estimate.now.modes (choice_of k) f d → d ≡ false → (n : Node) → slice_get a.nodes.now (at + 1) ≡ Some n
       → (new : List Mark) → new ≡ slice_set ms at Mark.Second → Takes a at ms (at + 1 + n.size) new s
   takes_two d takes is n of-n new set =
       subst (λ v. Takes a at ms (at + 1 + n.size) v s) (sym set)
       (record {
         stands = two_stands Mark.Second n.size (passed_size n of-n);
         behind = omega arith;
-        turns = two_turns (subst (Chooses a.model.now a.estimate.now.modes (choice_of k) f) is takes);
+        turns = two_turns (subst (Chooses a.rules.now.model.now a.estimate.now.modes (choice_of k) f) is takes);
       })
 
 -- the turn of the part that is taken is that of the choice

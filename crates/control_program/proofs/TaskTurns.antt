@@ -70,14 +70,14 @@ module _ (a : Asking) (ms : List Mark) (at : ℕ) (s : StandsIn a ms at) (t : Ta
   task k d h e = task_of s.tree t d (subst (λ b. IsHead (marked_task t b) s.tree) e (headed a.nodes.now ms at (lies s) (Kind.Once t) (of_kind a.nodes.now at n (Kind.Once t) of kind) k h))
 
   pub task_had_ended : (asked : List Pair) (k : Mark) → slice_get ms at ≡ Some k → is_ended k ≡ true
-      → HasTurned a.model.now a.estimate.now.modes s.before s.tree s.after asked true (marked a.nodes.now ms) asked
+      → HasTurned a.rules.now.model.now a.estimate.now.modes s.before s.tree s.after asked true (marked a.nodes.now ms) asked
   task_had_ended asked k h e =
       let x = task k true h e in
       let nothing : rest_of s.tree ≡ None = ap rest_of x.is ∙ rest_of-task t x.parts in
       record {
         own = [];
         next = s.tree;
-        became = stays_ended a.model.now a.estimate.now.modes s.tree s.proper nothing;
+        became = stays_ended a.rules.now.model.now a.estimate.now.modes s.tree s.proper nothing;
         nodes = s.nodes;
         asks = sym (append-nil asked);
         left = sym (ap is_nothing nothing);
@@ -89,14 +89,14 @@ module _ (a : Asking) (ms : List Mark) (at : ℕ) (s : StandsIn a ms at) (t : Ta
 -- what it did, and its mark
 module _ (a : Asking) (at : ℕ) (old new : Course) (s : StandsIn a old.marks at) (t : Task) (n : Node) (of : slice_get a.nodes.now at ≡ Some n) (kind : n.kind ≡ Kind.Once t)
     (k : Mark) (h : slice_get old.marks at ≡ Some k) (going : is_ended k ≡ false) (d : Bool) (works : WorksIn a at t old d new) where
-  worked : HasWorked a.model.now a.estimate.now.modes s.before s.tree s.after t old.asked d (marked a.nodes.now new.marks) new.asked
+  worked : HasWorked a.rules.now.model.now a.estimate.now.modes s.before s.tree s.after t old.asked d (marked a.nodes.now new.marks) new.asked
   worked = works (task_in a old.marks at s t n of kind k h going)
 
-  pub task_waits : d ≡ false → HasTurned a.model.now a.estimate.now.modes s.before s.tree s.after old.asked false (marked a.nodes.now new.marks) new.asked
+  pub task_waits : d ≡ false → HasTurned a.rules.now.model.now a.estimate.now.modes s.before s.tree s.after old.asked false (marked a.nodes.now new.marks) new.asked
   task_waits waits = record {
     own = worked.own;
     next = task_tree t worked.parts false;
-    became = subst (λ b. Became a.model.now a.estimate.now.modes s.tree worked.own (task_tree t worked.parts b)) waits worked.became;
+    became = subst (λ b. Became a.rules.now.model.now a.estimate.now.modes s.tree worked.own (task_tree t worked.parts b)) waits worked.became;
     nodes = worked.nodes;
     asks = worked.asks;
     left = task_left t worked.parts;
@@ -112,11 +112,11 @@ module _ (a : Asking) (at : ℕ) (old new : Course) (s : StandsIn a old.marks at
       (task_head t worked.parts worked.has) (task_tail t worked.parts s.after) (task_size t worked.parts)
 
   pub task_is_done : d ≡ true → (marks : List Mark) → marks ≡ slice_set new.marks at Mark.Ended
-      → HasTurned a.model.now a.estimate.now.modes s.before s.tree s.after old.asked true (marked a.nodes.now marks) new.asked
+      → HasTurned a.rules.now.model.now a.estimate.now.modes s.before s.tree s.after old.asked true (marked a.nodes.now marks) new.asked
   task_is_done done marks set = record {
     own = worked.own;
     next = task_tree t worked.parts true;
-    became = subst (λ b. Became a.model.now a.estimate.now.modes s.tree worked.own (task_tree t worked.parts b)) done worked.became;
+    became = subst (λ b. Became a.rules.now.model.now a.estimate.now.modes s.tree worked.own (task_tree t worked.parts b)) done worked.became;
     nodes = ap (marked a.nodes.now) set ∙ task_nodes;
     asks = worked.asks;
     left = sym (ap is_nothing (rest_of-task t worked.parts));
@@ -126,11 +126,11 @@ module _ (a : Asking) (at : ℕ) (old new : Course) (s : StandsIn a old.marks at
 
 module _ (a : Asking) (ms : List Mark) (at : ℕ) (asked all : List Pair) where
   reach_worked : (g : List Pair) (s : TaskIn a ms at (Task.Reach g)) (d : Bool) → Reaches a.estimate.now.modes g asked d all
-      → HasWorked a.model.now a.estimate.now.modes s.stands.before s.stands.tree s.stands.after (Task.Reach g) asked d (marked a.nodes.now ms) all
+      → HasWorked a.rules.now.model.now a.estimate.now.modes s.stands.before s.stands.tree s.stands.after (Task.Reach g) asked d (marked a.nodes.now ms) all
   reach_worked g s true h = record {
     own = [];
     parts = none;
-    became = subst (λ v. Became a.model.now a.estimate.now.modes v [] (Tree.Reach true g)) (sym s.is) (reach_ends a.model.now a.estimate.now.modes g h.0);
+    became = subst (λ v. Became a.rules.now.model.now a.estimate.now.modes v [] (Tree.Reach true g)) (sym s.is) (reach_ends a.rules.now.model.now a.estimate.now.modes g h.0);
     nodes = s.stands.nodes ∙ ap (λ v. s.stands.before ++ laid v s.stands.after) s.is;
     has = tt;
     asks = h.1 ∙ sym (append-nil asked);
@@ -138,31 +138,31 @@ module _ (a : Asking) (ms : List Mark) (at : ℕ) (asked all : List Pair) where
   reach_worked g s false h = record {
     own = g;
     parts = none;
-    became = subst (λ v. Became a.model.now a.estimate.now.modes v g (Tree.Reach false g)) (sym s.is) (reach_stays a.model.now a.estimate.now.modes g h.0);
+    became = subst (λ v. Became a.rules.now.model.now a.estimate.now.modes v g (Tree.Reach false g)) (sym s.is) (reach_stays a.rules.now.model.now a.estimate.now.modes g h.0);
     nodes = s.stands.nodes ∙ ap (λ v. s.stands.before ++ laid v s.stands.after) s.is;
     has = tt;
     asks = h.1;
   }
 
-  await_became : (f : Formula) (d : Bool) → IsTrue d ↔ Holds a.model.now a.estimate.now.modes f → Became a.model.now a.estimate.now.modes (Tree.Await false f) [] (Tree.Await d f)
-  await_became f true h = await_ends a.model.now a.estimate.now.modes f (h.0 refl)
-  await_became f false h = await_stays a.model.now a.estimate.now.modes f (λ holds. let no : false ≡ true = h.1 holds in absurd cc)
+  await_became : (f : Formula) (d : Bool) → IsTrue d ↔ Holds a.rules.now.model.now a.estimate.now.modes f → Became a.rules.now.model.now a.estimate.now.modes (Tree.Await false f) [] (Tree.Await d f)
+  await_became f true h = await_ends a.rules.now.model.now a.estimate.now.modes f (h.0 refl)
+  await_became f false h = await_stays a.rules.now.model.now a.estimate.now.modes f (λ holds. let no : false ≡ true = h.1 holds in absurd cc)
 
-  await_worked : (f : Formula) (s : TaskIn a ms at (Task.Await f)) (d : Bool) → IsTrue d ↔ Holds a.model.now a.estimate.now.modes f → all ≡ asked
-      → HasWorked a.model.now a.estimate.now.modes s.stands.before s.stands.tree s.stands.after (Task.Await f) asked d (marked a.nodes.now ms) all
+  await_worked : (f : Formula) (s : TaskIn a ms at (Task.Await f)) (d : Bool) → IsTrue d ↔ Holds a.rules.now.model.now a.estimate.now.modes f → all ≡ asked
+      → HasWorked a.rules.now.model.now a.estimate.now.modes s.stands.before s.stands.tree s.stands.after (Task.Await f) asked d (marked a.nodes.now ms) all
   await_worked f s d h same = record {
     own = [];
     parts = none;
-    became = subst (λ v. Became a.model.now a.estimate.now.modes v [] (Tree.Await d f)) (sym s.is) (await_became f d h);
+    became = subst (λ v. Became a.rules.now.model.now a.estimate.now.modes v [] (Tree.Await d f)) (sym s.is) (await_became f d h);
     nodes = s.stands.nodes ∙ ap (λ v. s.stands.before ++ laid v s.stands.after) s.is;
     has = tt;
     asks = same ∙ sym (append-nil asked);
   }
 
-pub await_formula : (a : Asking) (ms : List Mark) (at : ℕ) (f : Formula) (s : TaskIn a ms at (Task.Await f)) → IsFormula a.model.now f
+pub await_formula : (a : Asking) (ms : List Mark) (at : ℕ) (f : Formula) (s : TaskIn a ms at (Task.Await f)) → IsFormula a.rules.now.model.now f
 unfolding begun formulas_left
 await_formula a ms at f s =
-    All-head (IsFormula a.model.now) f [] (subst (λ v. All (IsFormula a.model.now) (formulas_left (begun v))) s.is s.stands.formulas)
+    All-head (IsFormula a.rules.now.model.now) f [] (subst (λ v. All (IsFormula a.rules.now.model.now) (formulas_left (begun v))) s.is s.stands.formulas)
 
 formulas-several : (o : Bool) (xs : rests) → formulas_left (several o xs) ≡ all_formulas_left xs
 unfolding formulas_left
@@ -181,11 +181,11 @@ module _ (a : Asking) (ms : List Mark) (at : ℕ) (o : Bool) (n : ℕ) (s : Task
   unfolding IsProper
   parts_proper = subst IsProper s.is s.stands.proper
 
-  pub parts_formulas : All (IsFormula a.model.now) (all_formulas_left (all_begun s.parts))
+  pub parts_formulas : All (IsFormula a.rules.now.model.now) (all_formulas_left (all_begun s.parts))
   unfolding begun
   parts_formulas =
-      subst (All (IsFormula a.model.now)) (formulas-several o (all_begun s.parts))
-      (subst (λ v. All (IsFormula a.model.now) (formulas_left (begun v))) s.is s.stands.formulas)
+      subst (All (IsFormula a.rules.now.model.now)) (formulas-several o (all_begun s.parts))
+      (subst (λ v. All (IsFormula a.rules.now.model.now) (formulas_left (begun v))) s.is s.stands.formulas)
 
   abbrev pub parts_stand : StandIn a ms (at + 1) n
   parts_stand = record {
@@ -204,15 +204,15 @@ module _ (a : Asking) (ms : List Mark) (at : ℕ) (o : Bool) (n : ℕ) (s : Task
       ap (λ v. (Marked.Parts o false v, suc (all_size s.parts))) (sym many) ∙ ap (λ v. (Marked.Parts o false (count next), suc v)) (sym sizes)
 
   parts_worked : (asked all : List Pair) (d : Bool) (entries : List Entry)
-      → HaveTurned o a.model.now a.estimate.now.modes (s.stands.before ++ parts_head ∷ []) s.parts s.stands.after asked d entries all
-      → HasWorked a.model.now a.estimate.now.modes s.stands.before s.stands.tree s.stands.after (Task.Parts o n) asked d entries all
+      → HaveTurned o a.rules.now.model.now a.estimate.now.modes (s.stands.before ++ parts_head ∷ []) s.parts s.stands.after asked d entries all
+      → HasWorked a.rules.now.model.now a.estimate.now.modes s.stands.before s.stands.tree s.stands.after (Task.Parts o n) asked d entries all
   unfolding laid
   parts_worked asked all d entries h = record {
     own = h.own;
     parts = h.next;
     became =
-        subst (λ v. Became a.model.now a.estimate.now.modes v h.own (Tree.Parts o d h.next)) (sym s.is)
-        (parts_became a.model.now a.estimate.now.modes o s.parts h.next h.own d h.left h.became);
+        subst (λ v. Became a.rules.now.model.now a.estimate.now.modes v h.own (Tree.Parts o d h.next)) (sym s.is)
+        (parts_became a.rules.now.model.now a.estimate.now.modes o s.parts h.next h.own d h.left h.became);
     nodes =
         h.nodes ∙ sym (behind_one s.stands.before parts_head (all_laid h.next s.stands.after))
         ∙ ap (λ v. s.stands.before ++ v ∷ all_laid h.next s.stands.after) (next_head h.next h.became.number h.became.size);
@@ -229,10 +229,10 @@ module _ {E : Type 0} (a : Asking) (at : ℕ) (old : Course) (t : Task) where
       IfOk-weaker result (λ d. Reaches a.estimate.now.modes g old.asked d asked) (λ d. WorksIn a at t old d (record { marks = old.marks; asked = asked }))
       (λ d r. subst (λ v. WorksIn a at v old d (record { marks = old.marks; asked = asked })) (sym is) (λ s. reach_worked a old.marks at old.asked asked g s d r)) h
 
-  pub await_works : (f : Formula) → t ≡ Task.Await f → (result : Result Bool E) → IfOk result (λ d. IsTrue d ↔ Holds a.model.now a.estimate.now.modes f)
+  pub await_works : (f : Formula) → t ≡ Task.Await f → (result : Result Bool E) → IfOk result (λ d. IsTrue d ↔ Holds a.rules.now.model.now a.estimate.now.modes f)
       → IfOk result (λ d. WorksIn a at t old d old)
   await_works f is result h =
-      IfOk-weaker result (λ d. IsTrue d ↔ Holds a.model.now a.estimate.now.modes f) (λ d. WorksIn a at t old d old)
+      IfOk-weaker result (λ d. IsTrue d ↔ Holds a.rules.now.model.now a.estimate.now.modes f) (λ d. WorksIn a at t old d old)
       (λ d r. subst (λ v. WorksIn a at v old d old) (sym is) (λ s. await_worked a old.marks at old.asked old.asked f s d r refl)) h
 
   pub parts_work : (o : Bool) (n : ℕ) → t ≡ Task.Parts o n → (new : Course) (result : Result Bool E) → IfOk result (λ d. TurnIn a o (at + 1) n old d new)

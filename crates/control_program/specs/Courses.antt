@@ -13,21 +13,21 @@ use Rattle.control_program.specs.Turned.{Became, HasTurned, HaveTurned}
 
 -- a part stands at the place
 abbrev pub StandsIn : Asking → List Mark → ℕ → Type 0
-StandsIn a marks at = StandsAt a.model.now (marked a.nodes.now marks) at
+StandsIn a marks at = StandsAt a.rules.now.model.now (marked a.nodes.now marks) at
 
 -- so many parts stand at the place
 abbrev pub StandIn : Asking → List Mark → ℕ → ℕ → Type 0
-StandIn a marks at n = StandAt a.model.now (marked a.nodes.now marks) at n
+StandIn a marks at n = StandAt a.rules.now.model.now (marked a.nodes.now marks) at n
 
 -- the part at the place had its turn
 abbrev pub TurnsIn : Asking → ℕ → Course → Bool → Course → Type 0
 TurnsIn a at old ended new = (s : StandsIn a old.marks at)
-    → HasTurned a.model.now a.estimate.now.modes s.before s.tree s.after old.asked ended (marked a.nodes.now new.marks) new.asked
+    → HasTurned a.rules.now.model.now a.estimate.now.modes s.before s.tree s.after old.asked ended (marked a.nodes.now new.marks) new.asked
 
 -- the parts at the place had their turns
 abbrev pub TurnIn : Asking → Bool → ℕ → ℕ → Course → Bool → Course → Type 0
 TurnIn a in_order at n old ended new = (s : StandIn a old.marks at n)
-    → HaveTurned in_order a.model.now a.estimate.now.modes s.before s.trees s.after old.asked ended (marked a.nodes.now new.marks) new.asked
+    → HaveTurned in_order a.rules.now.model.now a.estimate.now.modes s.before s.trees s.after old.asked ended (marked a.nodes.now new.marks) new.asked
 
 -- a task with its parts as a tree, by whether it has ended
 abbrev pub task_tree : Task → Trees → Bool → Tree
@@ -60,15 +60,15 @@ pub record HasWorked (m : PlantModel) (e : List ℕ) (before : List Entry) (x : 
 -- the task at the place had its turn
 abbrev pub WorksIn : Asking → ℕ → Task → Course → Bool → Course → Type 0
 WorksIn a at task old ended new = (s : TaskIn a old.marks at task)
-    → HasWorked a.model.now a.estimate.now.modes s.stands.before s.stands.tree s.stands.after task old.asked ended (marked a.nodes.now new.marks) new.asked
+    → HasWorked a.rules.now.model.now a.estimate.now.modes s.stands.before s.stands.tree s.stands.after task old.asked ended (marked a.nodes.now new.marks) new.asked
 
 -- a part of a choice was taken: its turn is that of the choice
 pub record Takes (a : Asking) (at : ℕ) (marks : List Mark) (part : ℕ) (new : List Mark) (s : StandsIn a marks at) : Type 0 where
   pub stands : StandsIn a new part
   pub behind : at < part
   pub turns : (asked : List Pair) (ended : Bool) (entries : List Entry) (all : List Pair)
-      → HasTurned a.model.now a.estimate.now.modes stands.before stands.tree stands.after asked ended entries all
-      → HasTurned a.model.now a.estimate.now.modes s.before s.tree s.after asked ended entries all
+      → HasTurned a.rules.now.model.now a.estimate.now.modes stands.before stands.tree stands.after asked ended entries all
+      → HasTurned a.rules.now.model.now a.estimate.now.modes s.before s.tree s.after asked ended entries all
 
 -- the same wherever the choice stands
 abbrev pub TakesIn : Asking → ℕ → List Mark → ℕ → List Mark → Type 0

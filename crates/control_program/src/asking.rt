@@ -1,28 +1,24 @@
 //! What a turn asks the estimate.
 
 ghost use Rattle.std.specs.Prelude.{◌≡◌, ◌++◌, ◌↔◌, All, IsTrue, IfOk};
-ghost use Rattle.cca_base.specs.Prelude.{pairs_of, Extends, Holds, IsFormula, IsState};
-ghost use Rattle.consistency.specs.Worlds.{AreWorldsOf};
+ghost use Rattle.cca_base.specs.Prelude.{pairs_of, Holds, IsFormula, IsState};
 ghost use Rattle.control_program.specs.Turned.{Chooses, Reaches};
 ghost use Rattle.control_program.specs.Places.{choice_of};
 
 use crate::nodes::{Mark, Node};
-use cca_base::{Cube, Formula, List, Model, Pair, State};
-use consistency::Worlds;
-use std::alloc::{AllocError, Global};
+use cca_base::{Cube, Formula, List, Pair, State};
+use consistency::{Rules, stand_in};
+use std::alloc::AllocError;
 
 /// An estimate of a model's state, and the nodes of a program.
 #[derive(Drop)]
 pub(crate) struct Asking<'a> {
-    pub alloc: Global,
-    pub model: &'a Model,
-    pub worlds: &'a Worlds,
+    pub rules: &'a Rules<'a>,
     pub estimate: &'a State,
     /// All pairs of the estimate.
     pub modes: &'a Cube,
     pub nodes: &'a [Node],
-    ghost of: { AreWorldsOf model.now worlds.now },
-    ghost state: { IsState model.now estimate.now.modes },
+    ghost state: { IsState rules.now.model.now estimate.now.modes },
     ghost pairs: { modes.now ≡ pairs_of estimate.now.modes },
 }
 
@@ -34,29 +30,17 @@ pub(crate) struct Course {
     pub asked: List<Pair>,
 }
 
-/// Whether each pair's mode is the one that stands at its component's place.
-pub(crate) fn stand_in(pairs: &[Pair], modes: &[u8]) -> bool
-    ensures { IsTrue result ↔ Extends modes.now pairs.now }
-{
-    for pair in pairs {
-        let item = pair.item as usize;
-        if item >= modes.len() || modes[item] != pair.value {
-            return false;
-        }
-    }
-    true
-}
-
 /// Whether the formula is true in every world of the estimate. The error is out of memory.
 pub(crate) fn holds(asking: &Asking, formula: &Formula) -> Result<bool, AllocError>
-    requires { IsFormula asking.now.model.now formula.now }
+    requires { IsFormula asking.now.rules.now.model.now formula.now }
     ensures { IfOk result (λ b.
-        IsTrue b ↔ Holds asking.now.model.now asking.now.estimate.now.modes formula.now) }
+        IsTrue b ↔ Holds asking.now.rules.now.model.now asking.now.estimate.now.modes formula.now) }
 {
-    let _moves = asking.model.moves();
-    asking
+    let rules = asking.rules;
+    let _moves = rules.model.moves();
+    rules
         .worlds
-        .follows(asking.alloc, asking.model, asking.modes, formula)
+        .follows(rules.alloc, rules.model, asking.modes, formula)
 }
 
 /// Puts pairs behind those that are asked. The error is out of memory.
@@ -91,8 +75,8 @@ pub(crate) fn takes_first(
     mark: Mark,
     formula: &Formula,
 ) -> Result<bool, AllocError>
-    requires { IsFormula asking.now.model.now formula.now }
-    ensures { IfOk result (λ first. Chooses asking.now.model.now asking.now.estimate.now.modes
+    requires { IsFormula asking.now.rules.now.model.now formula.now }
+    ensures { IfOk result (λ first. Chooses asking.now.rules.now.model.now asking.now.estimate.now.modes
         (choice_of mark) formula.now first) }
 {
     match mark {

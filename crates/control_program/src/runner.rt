@@ -14,7 +14,7 @@ use crate::nodes::{Mark, Node};
 use crate::opening::{fresh_marks, lay};
 use crate::turning::turn_at;
 use cca_base::{List, Model, Pair, State};
-use consistency::{Worlds, all_pairs};
+use consistency::{Rules, Worlds, all_pairs};
 use control_syntax::Part;
 use std::alloc::{AllocError, Global};
 
@@ -77,10 +77,13 @@ impl Runner {
             marks: self.marks.copy(self.alloc)?,
             asked: List::new(self.alloc),
         };
-        let asking = Asking {
+        let rules = Rules {
             alloc: self.alloc,
             model,
             worlds,
+        };
+        let asking = Asking {
+            rules: &rules,
             estimate,
             modes: &modes,
             nodes: self.nodes.as_slice(),

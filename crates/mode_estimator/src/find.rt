@@ -21,18 +21,18 @@ pub(crate) fn find(
     limit: u64,
 ) -> Result<Option<Costed>, AllocError>
     requires rows { AreRows rows.now }
-    requires states { AreStates query.now.model.now rows.now }
-    requires cuts { AreClashes query.now.model.now query.now.seen.now.pairs cuts.old }
-    requires floor { NoneBelow query.now.model.now rows.now query.now.seen.now.pairs floor }
+    requires states { AreStates query.now.rules.now.model.now rows.now }
+    requires cuts { AreClashes query.now.rules.now.model.now query.now.seen.now.pairs cuts.old }
+    requires floor { NoneBelow query.now.rules.now.model.now rows.now query.now.seen.now.pairs floor }
     ensures some { IfOk result (λ o. IfSome o (λ x.
-        IsLeastShown query.now.model.now rows.now query.now.seen.now.pairs x.state.modes x.cost)) }
+        IsLeastShown query.now.rules.now.model.now rows.now query.now.seen.now.pairs x.state.modes x.cost)) }
     ensures less { IfOk result (λ o. IfSome o (λ x. x.cost < limit)) }
     ensures none { IfOk result (λ o.
-        IsNone o → NoneBelow query.now.model.now rows.now query.now.seen.now.pairs limit) }
-    ensures cuts { AreClashes query.now.model.now query.now.seen.now.pairs cuts.new }
+        IsNone o → NoneBelow query.now.rules.now.model.now rows.now query.now.seen.now.pairs limit) }
+    ensures cuts { AreClashes query.now.rules.now.model.now query.now.seen.now.pairs cuts.new }
 {
     let mut best = Best { found: None, limit };
-    let mut parts = full_stack(query.alloc, rows)?;
+    let mut parts = full_stack(query.rules.alloc, rows)?;
     while let Some(part) = parts.pop() {
         turn(query, rows, &mut parts, part, cuts, &mut best)?;
         if best.limit <= floor {

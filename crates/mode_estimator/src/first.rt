@@ -18,9 +18,9 @@ pub(crate) fn first_shown(
     mut cuts: List<Cube>,
 ) -> Result<Estimate, AllocError>
     requires rows { AreRows choices.rows }
-    requires states { AreStates query.now.model.now choices.rows }
-    requires cuts { AreClashes query.now.model.now query.now.seen.now.pairs cuts }
-    ensures { IfOk result (IsFirstShown query.now.model.now choices.rows query.now.seen.now.pairs) }
+    requires states { AreStates query.now.rules.now.model.now choices.rows }
+    requires cuts { AreClashes query.now.rules.now.model.now query.now.seen.now.pairs cuts }
+    ensures { IfOk result (IsFirstShown query.now.rules.now.model.now choices.rows query.now.seen.now.pairs) }
 {
     let rows = choices.rows;
     let found = find(query, rows.as_slice(), &mut cuts, 0, u64::MAX)?;

@@ -10,7 +10,7 @@ use crate::answer::Estimate;
 use crate::first::first_shown;
 use crate::query::Query;
 use cca_base::{Compiled, List, Seen, State};
-use consistency::Worlds;
+use consistency::{Rules, Worlds};
 use std::alloc::{AllocError, Global};
 use successors::{choices, obey};
 
@@ -41,10 +41,13 @@ pub fn estimate_by(
     let rows = choices(alloc, compiled, state, command)?;
     let mut cuts = List::new(alloc);
     cuts.push(conflict)?;
-    let query = Query {
+    let rules = Rules {
         alloc,
         model,
         worlds,
+    };
+    let query = Query {
+        rules: &rules,
         seen,
     };
     first_shown(&query, rows, cuts)

@@ -49,21 +49,21 @@ fn lower_state(
     c: usize,
 ) -> Result<Option<State>, AllocError>
     requires rows { AreRows (slice_set rows.old c row.now) }
-    requires states { AreStates query.now.model.now (slice_set rows.old c row.now) }
-    requires cuts { AreClashes query.now.model.now query.now.seen.now.pairs cuts.old }
-    requires least { IsLeastShown query.now.model.now (slice_set rows.old c row.now)
+    requires states { AreStates query.now.rules.now.model.now (slice_set rows.old c row.now) }
+    requires cuts { AreClashes query.now.rules.now.model.now query.now.seen.now.pairs cuts.old }
+    requires least { IsLeastShown query.now.rules.now.model.now (slice_set rows.old c row.now)
         query.now.seen.now.pairs state.now.modes cost }
     requires within { c < length rows.old }
     ensures some { IfOk result (λ o. IfSome o (λ t.
-        IsLower query.now.model.now (slice_set rows.old c row.now) query.now.seen.now.pairs cost c
+        IsLower query.now.rules.now.model.now (slice_set rows.old c row.now) query.now.seen.now.pairs cost c
         state.now.modes t.modes)) }
     ensures none { IfOk result (λ o. IsNone o →
-        NoneLower query.now.model.now (slice_set rows.old c row.now) query.now.seen.now.pairs cost c
+        NoneLower query.now.rules.now.model.now (slice_set rows.old c row.now) query.now.seen.now.pairs cost c
         state.now.modes) }
     ensures rows { slice_set rows.new c row.now ≡ slice_set rows.old c row.now }
-    ensures cuts { AreClashes query.now.model.now query.now.seen.now.pairs cuts.new }
+    ensures cuts { AreClashes query.now.rules.now.model.now query.now.seen.now.pairs cuts.new }
 {
-    let lower = modes_below(query.alloc, row, *state.modes.get(c))?;
+    let lower = modes_below(query.rules.alloc, row, *state.modes.get(c))?;
     if lower.len() == 0 {
         return Ok(None);
     }
@@ -84,23 +84,23 @@ fn lower_at(
     c: usize,
 ) -> Result<State, AllocError>
     requires rows { AreRows rows.old }
-    requires states { AreStates query.now.model.now rows.old }
-    requires cuts { AreClashes query.now.model.now query.now.seen.now.pairs cuts.old }
-    requires least { IsLeastShown query.now.model.now rows.old query.now.seen.now.pairs state.modes
+    requires states { AreStates query.now.rules.now.model.now rows.old }
+    requires cuts { AreClashes query.now.rules.now.model.now query.now.seen.now.pairs cuts.old }
+    requires least { IsLeastShown query.now.rules.now.model.now rows.old query.now.seen.now.pairs state.modes
         cost }
     requires within { c < length rows.old }
     ensures lowest { IfOk result (λ s.
-        IsLowestAt query.now.model.now rows.old query.now.seen.now.pairs cost c s.modes) }
+        IsLowestAt query.now.rules.now.model.now rows.old query.now.seen.now.pairs cost c s.modes) }
     ensures rows { IfOk result (λ s. rows.new ≡ fixed_at rows.old c (slice_index s.modes c)) }
-    ensures cuts { AreClashes query.now.model.now query.now.seen.now.pairs cuts.new }
+    ensures cuts { AreClashes query.now.rules.now.model.now query.now.seen.now.pairs cuts.new }
 {
-    let row = rows.get(c).copy(query.alloc)?;
+    let row = rows.get(c).copy(query.rules.alloc)?;
     let choices = row.as_slice();
     let mut state = state;
     while let Some(lower) = lower_state(query, rows, choices, cuts, &state, cost, c)? {
         state = lower;
     }
-    let kept = modes_at(query.alloc, choices, *state.modes.get(c))?;
+    let kept = modes_at(query.rules.alloc, choices, *state.modes.get(c))?;
     rows.set(c, kept);
     Ok(state)
 }
@@ -114,12 +114,12 @@ pub(crate) fn lower(
     least: Costed,
 ) -> Result<Costed, AllocError>
     requires rows { AreRows rows }
-    requires states { AreStates query.now.model.now rows }
-    requires cuts { AreClashes query.now.model.now query.now.seen.now.pairs cuts.old }
-    requires least { IsLeastShown query.now.model.now rows query.now.seen.now.pairs
+    requires states { AreStates query.now.rules.now.model.now rows }
+    requires cuts { AreClashes query.now.rules.now.model.now query.now.seen.now.pairs cuts.old }
+    requires least { IsLeastShown query.now.rules.now.model.now rows query.now.seen.now.pairs
         least.state.modes least.cost }
     ensures first { IfOk result (λ x.
-        IsFirstOfCost query.now.model.now rows query.now.seen.now.pairs x.cost x.state.modes) }
+        IsFirstOfCost query.now.rules.now.model.now rows query.now.seen.now.pairs x.cost x.state.modes) }
     ensures cost { IfOk result (λ x. x.cost ≡ least.cost) }
 {
     let cost = least.cost;

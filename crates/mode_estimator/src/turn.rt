@@ -42,14 +42,14 @@ fn judge_by_cuts(
 ) -> Result<PartVerdict, AllocError>
     requires rows { AreRows rows.now }
     requires part { IsPart rows.now part.now }
-    requires cuts { AreClashes query.now.model.now query.now.seen.now.pairs cuts.now }
-    ensures { IfOk result (IsJudged query.now.model.now rows.now query.now.seen.now.pairs limit
+    requires cuts { AreClashes query.now.rules.now.model.now query.now.seen.now.pairs cuts.now }
+    ensures { IfOk result (IsJudged query.now.rules.now.model.now rows.now query.now.seen.now.pairs limit
         part.now (IsUncut cuts.now part.now.modes)) }
 {
     if part.cost >= limit {
         return Ok(PartVerdict::Settled);
     }
-    let Some(bound) = part_bound(query.alloc, rows, part, cuts)? else {
+    let Some(bound) = part_bound(query.rules.alloc, rows, part, cuts)? else {
         return Ok(PartVerdict::Settled);
     };
     if bound.total >= limit {
@@ -71,12 +71,12 @@ fn judge(
     limit: u64,
 ) -> Result<PartVerdict, AllocError>
     requires rows { AreRows rows.now }
-    requires states { AreStates query.now.model.now rows.now }
+    requires states { AreStates query.now.rules.now.model.now rows.now }
     requires part { IsPart rows.now part.now }
-    requires cuts { AreClashes query.now.model.now query.now.seen.now.pairs cuts.old }
-    ensures judged { IfOk result (IsJudged query.now.model.now rows.now query.now.seen.now.pairs
-        limit part.now (CanShow query.now.model.now part.now.modes query.now.seen.now.pairs)) }
-    ensures cuts { AreClashes query.now.model.now query.now.seen.now.pairs cuts.new }
+    requires cuts { AreClashes query.now.rules.now.model.now query.now.seen.now.pairs cuts.old }
+    ensures judged { IfOk result (IsJudged query.now.rules.now.model.now rows.now query.now.seen.now.pairs
+        limit part.now (CanShow query.now.rules.now.model.now part.now.modes query.now.seen.now.pairs)) }
+    ensures cuts { AreClashes query.now.rules.now.model.now query.now.seen.now.pairs cuts.new }
 {
     match judge_by_cuts(query, rows, part, cuts.as_slice(), limit)? {
         PartVerdict::Settled => return Ok(PartVerdict::Settled),
@@ -84,11 +84,12 @@ fn judge(
         PartVerdict::First => {}
     }
     let state = State {
-        modes: part.modes.copy(query.alloc)?,
+        modes: part.modes.copy(query.rules.alloc)?,
     };
-    let Some(cube) = query
+    let rules = query.rules;
+    let Some(cube) = rules
         .worlds
-        .minimal_clash(query.alloc, query.model, &state, query.seen)?
+        .minimal_clash(rules.alloc, rules.model, &state, query.seen)?
     else {
         return Ok(PartVerdict::First);
     };
@@ -106,17 +107,17 @@ pub(crate) fn turn(
     best: &mut Best,
 ) -> Result<(), AllocError>
     requires rows { AreRows rows.now }
-    requires states { AreStates query.now.model.now rows.now }
+    requires states { AreStates query.now.rules.now.model.now rows.now }
     requires parts { All (IsPart rows.now) parts.old }
     requires part { IsPart rows.now part }
-    requires cuts { AreClashes query.now.model.now query.now.seen.now.pairs cuts.old }
-    ensures turned { OnOk result (IsTurned query.now.model.now rows.now query.now.seen.now.pairs
+    requires cuts { AreClashes query.now.rules.now.model.now query.now.seen.now.pairs cuts.old }
+    ensures turned { OnOk result (IsTurned query.now.rules.now.model.now rows.now query.now.seen.now.pairs
         part parts.old parts.new best.old best.new) }
-    ensures cuts { AreClashes query.now.model.now query.now.seen.now.pairs cuts.new }
+    ensures cuts { AreClashes query.now.rules.now.model.now query.now.seen.now.pairs cuts.new }
 {
     match judge(query, rows, &part, cuts, best.limit)? {
         PartVerdict::Settled => Ok(()),
-        PartVerdict::Splits(at) => push_halves(query.alloc, rows, parts, part, at),
+        PartVerdict::Splits(at) => push_halves(query.rules.alloc, rows, parts, part, at),
         PartVerdict::First => {
             best.limit = part.cost;
             best.found = Some(Costed {

@@ -4,8 +4,8 @@ ghost use Rattle.std.specs.Prelude.{◌≡◌, ◌↔◌, IsTrue, Contains};
 ghost use Rattle.std.specs.Option.{option_map};
 ghost use Rattle.plan_checker.specs.Reasons.{FitsGoal, AnswersGoal};
 
-use crate::states::stand_in;
 use cca_base::{Goal, Pair, Reply, Shown, State};
+use consistency::stand_in;
 use trace_laws::Standing;
 
 /// Whether the pair is one of these.

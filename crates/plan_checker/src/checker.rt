@@ -9,12 +9,11 @@ ghost use Rattle.plan_checker.specs.Reasons.{printed, IsVerdict};
 ghost use Rattle.plan_checker.specs.Standing.{FitsModel};
 
 use crate::judged::judge;
-use crate::rules::rules_of;
 use crate::taken::take;
 use crate::tick::Tick;
 use crate::verdict::Verdict;
 use cca_base::{Event, Model, Route, Seen, TickReport, VarSet, World};
-use consistency::Worlds;
+use consistency::{Worlds, rules_of};
 use std::alloc::{AllocError, Global};
 use trace_laws::Standing;
 

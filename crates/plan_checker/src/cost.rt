@@ -5,10 +5,10 @@ ghost use Rattle.cca_base.specs.Prelude.{lesser_of, Costs, IsChange, IsLeast, Is
 ghost use Rattle.cca_base.specs.declared.model.Failure.{Failure};
 ghost use Rattle.plan_checker.specs.Costs.{IsTotal};
 
-use crate::rules::Rules;
 use crate::states::is_state;
 use crate::step::make_nominal;
 use cca_base::{Failure, Model, State};
+use consistency::Rules;
 use std::alloc::AllocError;
 
 /// The lesser of a cost and one that may be known.

@@ -5,9 +5,8 @@ ghost use Rattle.cca_base.specs.Prelude.{support, Follows, Holds, IsState};
 ghost use Rattle.plan_checker.specs.Steps.{AreSupport, IsNamed};
 
 use crate::known::{Support, is_leaned_on, is_sure};
-use crate::rules::Rules;
 use cca_base::{Cube, Move, Pair, State};
-use consistency::all_pairs;
+use consistency::{Rules, all_pairs};
 use std::alloc::{AllocError, Global};
 
 /// The pairs of the state that the move may lean on. The error is out of memory.

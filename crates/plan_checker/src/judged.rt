@@ -15,11 +15,11 @@ use crate::cost::has_cost;
 use crate::lines::has_its_lines;
 use crate::reasons::{ANSWER, COST, LINE, LONG, WORLD};
 use crate::route::check_route;
-use crate::rules::Rules;
 use crate::tick::Tick;
 use crate::verdict::Verdict;
 use crate::world::explains_tick;
 use cca_base::{PlanEnd, Reply, Route, Shown};
+use consistency::Rules;
 use std::alloc::AllocError;
 use trace_laws::Standing;
 

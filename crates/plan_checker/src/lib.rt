@@ -12,7 +12,6 @@ mod laws;
 mod lines;
 pub mod reasons;
 mod route;
-mod rules;
 mod run;
 mod states;
 mod step;

@@ -7,12 +7,11 @@ ghost use Rattle.plan_checker.specs.Reasons.{OnCommands};
 ghost use Rattle.plan_checker.specs.Routes.{IsRouteVerdict, EndsInMending};
 
 use crate::reasons::{BACK, GOAL, PLAN, STEP};
-use crate::rules::Rules;
 use crate::run::run;
-use crate::states::stand_in;
 use crate::step::make_step;
 use crate::verdict::Verdict;
 use cca_base::{Goal, PlanEnd, Route, State};
+use consistency::{Rules, stand_in};
 use std::alloc::AllocError;
 
 /// Whether the goal in force stands, if there is one.

@@ -4,9 +4,9 @@ ghost use Rattle.std.specs.Prelude.{◌≡◌, false, IsTrue, IfOk};
 ghost use Rattle.cca_base.specs.Prelude.{IsState, Run};
 ghost use Rattle.plan_checker.specs.Steps.{NoRun};
 
-use crate::rules::Rules;
 use crate::step::make_step;
 use cca_base::State;
+use consistency::Rules;
 use std::alloc::AllocError;
 
 /// Makes the commands' steps, up to the first one that is none. The error is out of memory.

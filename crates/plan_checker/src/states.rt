@@ -1,23 +1,10 @@
-//! Whether numbers are a state or a world of the model, and whether pairs stand in them.
+//! Whether numbers are a state or a world of the model.
 
 ghost use Rattle.std.specs.Prelude.{◌≡◌, ◌↔◌, ◌<◌, IsTrue};
-ghost use Rattle.cca_base.specs.Prelude.{Extends, IsState, IsWorld};
+ghost use Rattle.cca_base.specs.Prelude.{IsState, IsWorld};
 ghost use Rattle.plan_checker.specs.Worlds.{AreValues, KeepsRules};
 
-use cca_base::{Model, Pair, State, World, holds_at};
-
-/// Whether each pair's value is the one that stands at its place.
-pub(crate) fn stand_in(pairs: &[Pair], values: &[u8]) -> bool
-    ensures { IsTrue result ↔ Extends values.now pairs.now }
-{
-    for pair in pairs {
-        let item = pair.item as usize;
-        if item >= values.len() || values[item] != pair.value {
-            return false;
-        }
-    }
-    true
-}
+use cca_base::{Model, State, World, holds_at};
 
 /// Whether there is one mode for each component.
 pub(crate) fn is_state(model: &Model, state: &State) -> bool

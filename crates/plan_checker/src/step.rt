@@ -5,8 +5,8 @@ ghost use Rattle.cca_base.specs.Prelude.{IsState, Nominal, Step, WellFormed};
 ghost use Rattle.plan_checker.specs.Steps.{IsNamed, NoneNamed, NoStep};
 
 use crate::guards::{guard_follows, guard_holds};
-use crate::rules::Rules;
 use cca_base::{Model, Move, State};
+use consistency::Rules;
 use std::alloc::AllocError;
 
 /// The move that the command names from its component's mode. None comes exactly where it names none.

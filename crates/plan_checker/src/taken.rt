@@ -4,9 +4,9 @@ ghost use Rattle.std.specs.Prelude.{◌≡◌, ◌+◌, ◌<◌, ◌^◌, OnOk, 
 ghost use Rattle.cca_base.specs.Prelude.{IsState};
 ghost use Rattle.plan_checker.specs.Checked.{Takes, TakesEstimate};
 
-use crate::rules::Rules;
 use crate::step::make_nominal;
 use cca_base::{Reply, Shown, State, TickReport};
+use consistency::Rules;
 use std::alloc::AllocError;
 use trace_laws::{Standing, command_of};
 

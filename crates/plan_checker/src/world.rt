@@ -6,10 +6,9 @@ ghost use Rattle.plan_checker.specs.Reasons.{ExplainsTick};
 ghost use Rattle.plan_checker.specs.Standing.{FitsModel, KeepsPending};
 ghost use Rattle.plan_checker.specs.Worlds.{AreSeen, SomeAreSeen};
 
-use crate::rules::Rules;
-use crate::states::{is_world, stand_in};
+use crate::states::is_world;
 use cca_base::{Seen, State, World};
-use consistency::Mirror;
+use consistency::{Mirror, Rules, stand_in};
 use std::alloc::AllocError;
 use trace_laws::{Standing, nothing_seen};
 

@@ -10,15 +10,15 @@ use Rattle.control_program.proofs.asking.holds.Goals as goal
 pub follows-requires-clause-modes : goal.follows-requires-clause-modes
 follows-requires-clause-modes c =
     let a = c.args.asking.now in
-    subst (All (λ (p : Pair). HasMode a.model.now p.item p.value)) (sym a.pairs) (pairs_have_modes a.model.now a.estimate.now.modes a.state)
+    subst (All (λ (p : Pair). HasMode a.rules.now.model.now p.item p.value)) (sym a.pairs) (pairs_have_modes a.rules.now.model.now a.estimate.now.modes a.state)
 
 pub follows-requires-clause-formula : goal.follows-requires-clause-formula
-follows-requires-clause-formula c = formula_within c.args.asking.now.model.now c.args.formula.now c.requires
+follows-requires-clause-formula c = formula_within c.args.asking.now.rules.now.model.now c.args.formula.now c.requires
 
 pub returns : goal.returns
 returns c =
     let a = c.args.asking.now in
-    let m = a.model.now in
+    let m = a.rules.now.model.now in
     let s = a.estimate.now.modes in
     let f = c.args.formula.now in
     IfOk-weaker c.follows.result (λ (b : Bool). IsTrue b ↔ Follows m a.modes.now f) (λ (b : Bool). IsTrue b ↔ Holds m s f)

@@ -5,8 +5,8 @@ use Rattle.mode_estimator.proofs.find.find.Given as goal
 
 abbrev pub invariant-loop-part : goal.invariant-loop-part
 invariant-loop-part l = record {
-  searched : IsSearched l.query.model.now l.rows l.query.seen.now.pairs l.limit l.parts l.best;
-  cuts : AreClashes l.query.model.now l.query.seen.now.pairs l.cuts;
+  searched : IsSearched l.query.rules.now.model.now l.rows l.query.seen.now.pairs l.limit l.parts l.best;
+  cuts : AreClashes l.query.rules.now.model.now l.query.seen.now.pairs l.cuts;
 }
 
 abbrev pub decreases-loop-part : goal.decreases-loop-part

@@ -6,6 +6,6 @@ use Rattle.mode_estimator.proofs.lower.lower.Given as goal
 abbrev pub invariant-loop-c : goal.invariant-loop-c
 invariant-loop-c l = record {
   fixed : IsFixed l.fn.rows l.c l.state.modes l.rows;
-  lowered : IsLowered (Costing l.query.model.now l.fn.rows l.query.seen.now.pairs l.cost) l.c l.state.modes;
-  cuts : AreClashes l.query.model.now l.query.seen.now.pairs l.cuts;
+  lowered : IsLowered (Costing l.query.rules.now.model.now l.fn.rows l.query.seen.now.pairs l.cost) l.c l.state.modes;
+  cuts : AreClashes l.query.rules.now.model.now l.query.seen.now.pairs l.cuts;
 }

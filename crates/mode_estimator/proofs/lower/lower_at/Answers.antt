@@ -8,11 +8,11 @@ use Rattle.mode_estimator.proofs.KeptStates.{picked_long, rows_kept}
 use Rattle.mode_estimator.proofs.lower.lower_at.Goals as goal
 
 pub lower_state-requires-clause-states : goal.lower_state-requires-clause-states
-lower_state-requires-clause-states c = subst (AreStates c.args.query.now.model.now) (sym c.loop-state.invariant.rows) c.requires.states
+lower_state-requires-clause-states c = subst (AreStates c.args.query.now.rules.now.model.now) (sym c.loop-state.invariant.rows) c.requires.states
 
 pub lower_state-requires-clause-least : goal.lower_state-requires-clause-least
 lower_state-requires-clause-least c =
-    subst (λ r. IsLeastShown c.args.query.now.model.now r c.args.query.now.seen.now.pairs c.loop-state.state.modes c.args.cost) (sym c.loop-state.invariant.rows)
+    subst (λ r. IsLeastShown c.args.query.now.rules.now.model.now r c.args.query.now.seen.now.pairs c.loop-state.state.modes c.args.cost) (sym c.loop-state.invariant.rows)
     (record { shows = c.loop-state.invariant.shows; least = c.requires.least.least })
 
 pub get-requires-2 : goal.get-requires-2

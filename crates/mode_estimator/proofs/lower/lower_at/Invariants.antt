@@ -5,8 +5,8 @@ use Rattle.mode_estimator.proofs.lower.lower_at.Given as goal
 abbrev pub invariant-loop-state : goal.invariant-loop-state
 invariant-loop-state l = record {
   rows : set l.rows l.c l.choices ≡ l.fn.rows;
-  shows : Shows l.query.model.now l.fn.rows l.query.seen.now.pairs l.state.modes l.cost;
-  cuts : AreClashes l.query.model.now l.query.seen.now.pairs l.cuts;
+  shows : Shows l.query.rules.now.model.now l.fn.rows l.query.seen.now.pairs l.state.modes l.cost;
+  cuts : AreClashes l.query.rules.now.model.now l.query.seen.now.pairs l.cuts;
 }
 
 abbrev pub decreases-loop-state : goal.decreases-loop-state

@@ -26,7 +26,7 @@ returns-then-len-eq0-clause-none c e =
     let whole : List (List Choice) = set c.args.rows.now c.args.c c.args.row.now in
     let within : c.args.c < length whole = omega (arith, length-set c.args.rows.now c.args.c c.args.row.now, c.requires.within) in
     let row = get_or-set_same c.args.rows.now c.args.c c.args.row.now [] c.requires.within in
-    lower_empty c.args.query.now.model.now whole c.args.query.now.seen.now.pairs c.args.cost c.args.c c.get.result.now c.args.state.now.modes within c.requires.least c.get.ensures.item
+    lower_empty c.args.query.now.rules.now.model.now whole c.args.query.now.seen.now.pairs c.args.cost c.args.c c.get.result.now c.args.state.now.modes within c.requires.least c.get.ensures.item
     (ap (λ (r : List Choice). length (filter (λ (x : Choice). nat_lt x.mode c.get.result.now) r)) row ∙ sym (ap length c.in_ok-lower.ensures) ∙ sym c.len.ensures ∙ c.if-len-eq0.true)
 
 pub find-requires-clause-rows : goal.find-requires-clause-rows
@@ -48,8 +48,8 @@ find-requires-clause-floor c =
     let whole : List (List Choice) = set c.args.rows.now c.args.c c.args.row.now in
     let within : c.args.c < length whole = omega (arith, length-set c.args.rows.now c.args.c c.args.row.now, c.requires.within) in
     let same = rows_below c.args.rows.now c.args.c c.args.row.now c.get.result.now c.in_ok-lower.lower c.as_slice.result.now c.requires.within c.in_ok-lower.ensures (c.as_slice.ensures ∙ c.set.ensures) in
-    subst (λ r. NoneBelow c.args.query.now.model.now r c.args.query.now.seen.now.pairs c.args.cost) (sym same)
-    (lower_least c.args.query.now.model.now whole c.args.query.now.seen.now.pairs c.args.cost c.args.c c.get.result.now within c.requires.least.least)
+    subst (λ r. NoneBelow c.args.query.now.rules.now.model.now r c.args.query.now.seen.now.pairs c.args.cost) (sym same)
+    (lower_least c.args.query.now.rules.now.model.now whole c.args.query.now.seen.now.pairs c.args.cost c.args.c c.get.result.now within c.requires.least.least)
 
 pub returns-in_err-find-clause-rows : goal.returns-in_err-find-clause-rows
 returns-in_err-find-clause-rows c = ap (λ r. set r c.args.c c.args.row.now) c.set.ensures ∙ set-set c.args.rows.now c.args.c c.in_ok-lower.lower c.args.row.now
@@ -60,8 +60,8 @@ returns-in-None-clause-none c e =
     let within : c.args.c < length whole = omega (arith, length-set c.args.rows.now c.args.c c.args.row.now, c.requires.within) in
     let same = rows_below c.args.rows.now c.args.c c.args.row.now c.get.result.now c.in_ok-lower.lower c.as_slice.result.now c.requires.within c.in_ok-lower.ensures (c.as_slice.ensures ∙ c.set.ensures) in
     let none = rw c.in-None.is at c.in_ok-find.ensures.none in
-    lower_none c.args.query.now.model.now whole c.args.query.now.seen.now.pairs c.args.cost c.args.c c.get.result.now c.args.state.now.modes within c.requires.least c.get.ensures.item
-    (subst (λ r. NoneBelow c.args.query.now.model.now r c.args.query.now.seen.now.pairs (c.args.cost + 1)) same (none refl))
+    lower_none c.args.query.now.rules.now.model.now whole c.args.query.now.seen.now.pairs c.args.cost c.args.c c.get.result.now c.args.state.now.modes within c.requires.least c.get.ensures.item
+    (subst (λ r. NoneBelow c.args.query.now.rules.now.model.now r c.args.query.now.seen.now.pairs (c.args.cost + 1)) same (none refl))
 
 pub returns-in-None-clause-rows : goal.returns-in-None-clause-rows
 returns-in-None-clause-rows c = ap (λ r. set r c.args.c c.args.row.now) c.set.ensures ∙ set-set c.args.rows.now c.args.c c.in_ok-lower.lower c.args.row.now
@@ -73,8 +73,8 @@ returns-in-Some-clause-some c =
     let same = rows_below c.args.rows.now c.args.c c.args.row.now c.get.result.now c.in_ok-lower.lower c.as_slice.result.now c.requires.within c.in_ok-lower.ensures (c.as_slice.ensures ∙ c.set.ensures) in
     let found = rw c.in-Some.is at c.in_ok-find.ensures.some in
     let less = rw c.in-Some.is at c.in_ok-find.ensures.less in
-    lower_found c.args.query.now.model.now whole c.args.query.now.seen.now.pairs c.args.cost c.args.c c.get.result.now c.args.state.now.modes within c.requires.least c.get.ensures.item c.in-Some.costed.state.modes c.in-Some.costed.cost
-    (subst (λ r. IsLeastShown c.args.query.now.model.now r c.args.query.now.seen.now.pairs c.in-Some.costed.state.modes c.in-Some.costed.cost) same found) less
+    lower_found c.args.query.now.rules.now.model.now whole c.args.query.now.seen.now.pairs c.args.cost c.args.c c.get.result.now c.args.state.now.modes within c.requires.least c.get.ensures.item c.in-Some.costed.state.modes c.in-Some.costed.cost
+    (subst (λ r. IsLeastShown c.args.query.now.rules.now.model.now r c.args.query.now.seen.now.pairs c.in-Some.costed.state.modes c.in-Some.costed.cost) same found) less
 
 pub returns-in-Some-clause-rows : goal.returns-in-Some-clause-rows
 returns-in-Some-clause-rows c = ap (λ r. set r c.args.c c.args.row.now) c.set.ensures ∙ set-set c.args.rows.now c.args.c c.in_ok-lower.lower c.args.row.now

@@ -11,22 +11,22 @@ use Rattle.mode_estimator.proofs.Settling.{first_picked, grown_clashes, holds_cl
 use Rattle.mode_estimator.proofs.turn.judge.Goals as goal
 
 pub judge_by_cuts-requires-clause-cuts : goal.judge_by_cuts-requires-clause-cuts
-judge_by_cuts-requires-clause-cuts c = subst (AreClashes c.args.query.now.model.now c.args.query.now.seen.now.pairs) (sym c.as_slice.ensures) c.requires.cuts
+judge_by_cuts-requires-clause-cuts c = subst (AreClashes c.args.query.now.rules.now.model.now c.args.query.now.seen.now.pairs) (sym c.as_slice.ensures) c.requires.cuts
 
 pub minimal_clash-requires-clause-state : goal.minimal_clash-requires-clause-state
 minimal_clash-requires-clause-state c =
-    subst (IsState c.args.query.now.model.now) (sym c.in_ok-copy.ensures) (c.requires.states c.args.part.now.modes c.args.part.now.cost (first_picked c.args.rows.now c.args.part.now c.requires.part))
+    subst (IsState c.args.query.now.rules.now.model.now) (sym c.in_ok-copy.ensures) (c.requires.states c.args.part.now.modes c.args.part.now.cost (first_picked c.args.rows.now c.args.part.now c.requires.part))
 
 pub returns-in_err-push-clause-cuts : goal.returns-in_err-push-clause-cuts
-returns-in_err-push-clause-cuts c = subst (AreClashes c.args.query.now.model.now c.args.query.now.seen.now.pairs) (sym c.in_err-push.ensures.err) c.requires.cuts
+returns-in_err-push-clause-cuts c = subst (AreClashes c.args.query.now.rules.now.model.now c.args.query.now.seen.now.pairs) (sym c.in_err-push.ensures.err) c.requires.cuts
 
 pub judge_by_cuts-requires-2-clause-cuts : goal.judge_by_cuts-requires-2-clause-cuts
-judge_by_cuts-requires-2-clause-cuts c = subst (AreClashes c.args.query.now.model.now c.args.query.now.seen.now.pairs) (sym (c.as_slice-2.ensures ∙ c.in_ok-push.ensures.ok))
-    (grown_clashes c.args.query.now.model.now c.in_ok-copy.field-0 c.args.query.now.seen.now.pairs c.args.cuts.now c.in-Some.cube c.requires.cuts (rw c.in-Some.is at c.in_ok-cube.ensures.some))
+judge_by_cuts-requires-2-clause-cuts c = subst (AreClashes c.args.query.now.rules.now.model.now c.args.query.now.seen.now.pairs) (sym (c.as_slice-2.ensures ∙ c.in_ok-push.ensures.ok))
+    (grown_clashes c.args.query.now.rules.now.model.now c.in_ok-copy.field-0 c.args.query.now.seen.now.pairs c.args.cuts.now c.in-Some.cube c.requires.cuts (rw c.in-Some.is at c.in_ok-cube.ensures.some))
 
 pub returns-clause-judged : goal.returns-clause-judged
 returns-clause-judged c =
-    let m = c.args.query.now.model.now in
+    let m = c.args.query.now.rules.now.model.now in
     let rows = c.args.rows.now in
     let seen = c.args.query.now.seen.now.pairs in
     let part = c.args.part.now in
@@ -41,5 +41,5 @@ returns-clause-judged c =
 
 pub returns-clause-cuts : goal.returns-clause-cuts
 returns-clause-cuts c =
-    subst (AreClashes c.args.query.now.model.now c.args.query.now.seen.now.pairs) (sym c.in_ok-push.ensures.ok)
-    (grown_clashes c.args.query.now.model.now c.in_ok-copy.field-0 c.args.query.now.seen.now.pairs c.args.cuts.now c.in-Some.cube c.requires.cuts (rw c.in-Some.is at c.in_ok-cube.ensures.some))
+    subst (AreClashes c.args.query.now.rules.now.model.now c.args.query.now.seen.now.pairs) (sym c.in_ok-push.ensures.ok)
+    (grown_clashes c.args.query.now.rules.now.model.now c.in_ok-copy.field-0 c.args.query.now.seen.now.pairs c.args.cuts.now c.in-Some.cube c.requires.cuts (rw c.in-Some.is at c.in_ok-cube.ensures.some))
