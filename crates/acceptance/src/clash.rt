@@ -4,10 +4,10 @@ ghost use Rattle.std.specs.Prelude.{IfOk};
 ghost use Rattle.acceptance.specs.Clashes.{IsClashOrNone};
 ghost use Rattle.guard_compiler.specs.Rules.{AreRulesOf};
 
-use crate::worldless::first_worldless;
+use crate::falsified::first_false;
 use cca_base::{Cube, List, Model, Seen};
 use consistency::conflict;
-use guard_compiler::RuleClause;
+use guard_compiler::{RuleClause, worlds_of};
 use std::alloc::{AllocError, Global};
 
 /// The shown clash: what is to blame that the first state in mode order without a world has none. None comes exactly
@@ -20,7 +20,8 @@ pub fn clash(
     requires { AreRulesOf model.now rules.now }
     ensures { IfOk result (IsClashOrNone model.now) }
 {
-    let Some(state) = first_worldless(alloc, model, rules)? else {
+    let states = worlds_of(alloc, model, rules)?;
+    let Some(state) = first_false(alloc, &states)? else {
         return Ok(None);
     };
     let nothing = Seen {

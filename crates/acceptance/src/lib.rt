@@ -10,8 +10,6 @@ mod clash;
 mod falsified;
 mod laws;
 mod needs;
-mod worldless;
 
 pub use accepting::{NotAccepted, accept};
 pub use laws::models_are_refused_one_way;
-pub use worldless::first_worldless;
