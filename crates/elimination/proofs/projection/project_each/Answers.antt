@@ -1,13 +1,14 @@
 use Rattle.std.proofs.Common.{◌≡◌, ◌∙◌, ℕ, List, Bool, Option, true, false, length, ap, sym, subst, length-set, replicate, MatchOption}
 use Rattle.std.proofs.Common.{Some, None}
 use Rattle.std.proofs.lemmas.List.{length-replicate}
-use Rattle.elimination.specs.Projection.{AreAllDone, IsLeft}
+use Rattle.clause_form.specs.Clauses.{AllBelow}
+use Rattle.elimination.specs.Projection.{AreAllDone, IsLeft, IsProjectedSoFar}
 use Rattle.elimination.proofs.Projecting.{none_projected, none_marked, one_more, above_still, gone_still, all_below}
 use Rattle.elimination.proofs.projection.project_each.Goals as goal
 
-is_left : (c : goal.After-marks-in-Some-2-1) → IsLeft c.args.sizes.now c.args.keep c.subjects.marks.items c.from.result
+is_left : (c : goal.After-marks-in-Some-2-1) → IsLeft c.args.clauses.now.sizes c.args.keep c.subjects.marks.items c.from.result
 is_left c =
-    let sizes = c.args.sizes.now in
+    let sizes = c.args.clauses.now.sizes in
     let keep = c.args.keep in
     let of_some : (o : Option ℕ) (x : ℕ) → o ≡ Some x → MatchOption o (AreAllDone keep c.deref-in-subjects.result.now c.deref.result.now) (IsLeft sizes keep c.deref-in-subjects.result.now) → IsLeft sizes keep c.deref-in-subjects.result.now x =
     λ o x is h. subst (λ z. MatchOption z (AreAllDone keep c.deref-in-subjects.result.now c.deref.result.now) (IsLeft sizes keep c.deref-in-subjects.result.now)) is h in
@@ -16,19 +17,20 @@ is_left c =
 
 pub subjects-init : goal.subjects-init
 subjects-init c =
-    let n = length c.args.sizes.now in
+    let n = length c.args.clauses.now.sizes in
     let made : c.in_ok-marks.marks.items ≡ replicate n false = c.in_ok-marks.ensures ∙ ap (λ k. replicate k false) c.len.ensures in
+    let given : c.in_ok-all.all.items ≡ c.args.clauses.now.clauses = c.in_ok-all.ensures ∙ c.as_slice.ensures in
     record {
       full = ap length made ∙ length-replicate n false;
       above = λ x h. absurd (none_marked n x (rw made at h));
       gone = λ x h. absurd (none_marked n x (rw made at h));
-      exact = rw made (none_projected c.args.sizes.now n c.args.clauses.items);
-      below = c.requires.below;
+      exact = subst (IsProjectedSoFar c.args.clauses.now.sizes c.in_ok-marks.marks.items c.args.clauses.now.clauses) (sym given) (rw made (none_projected c.args.clauses.now.sizes n c.args.clauses.now.clauses));
+      below = subst (AllBelow n) (sym given) c.requires;
     }
 
 pub subjects-preserved : goal.subjects-preserved
 subjects-preserved c =
-    let sizes = c.args.sizes.now in
+    let sizes = c.args.clauses.now.sizes in
     let keep = c.args.keep in
     let x = c.from.result in
     let marks = c.subjects.marks.items in
@@ -38,17 +40,17 @@ subjects-preserved c =
     let without = rw (sym c.from.ensures) at c.in_ok-left.ensures in
     record {
       full = length-set marks x true ∙ inv.full;
-      above = above_still sizes keep x marks c.args.clauses.items left new inv.full (is_left c) inv.exact without.met inv.above;
-      gone = gone_still sizes keep x marks c.args.clauses.items left new inv.full (is_left c) inv.exact without.met inv.gone without.names without.gone;
-      exact = one_more sizes keep x marks c.args.clauses.items left new inv.full (is_left c) inv.exact without.met;
+      above = above_still sizes keep x marks c.args.clauses.now.clauses left new inv.full (is_left c) inv.exact without.met inv.above;
+      gone = gone_still sizes keep x marks c.args.clauses.now.clauses left new inv.full (is_left c) inv.exact without.met inv.gone without.names without.gone;
+      exact = one_more sizes keep x marks c.args.clauses.now.clauses left new inv.full (is_left c) inv.exact without.met;
       below = without.below;
     }
 
 pub returns : goal.returns
 returns c =
-    let none : (o : Option ℕ) → o ≡ None → MatchOption o (AreAllDone c.args.keep c.deref-in-subjects.result.now c.deref.result.now) (IsLeft c.args.sizes.now c.args.keep c.deref-in-subjects.result.now)
+    let none : (o : Option ℕ) → o ≡ None → MatchOption o (AreAllDone c.args.keep c.deref-in-subjects.result.now c.deref.result.now) (IsLeft c.args.clauses.now.sizes c.args.keep c.deref-in-subjects.result.now)
     → AreAllDone c.args.keep c.deref-in-subjects.result.now c.deref.result.now =
-    λ o is h. subst (λ z. MatchOption z (AreAllDone c.args.keep c.deref-in-subjects.result.now c.deref.result.now) (IsLeft c.args.sizes.now c.args.keep c.deref-in-subjects.result.now)) is h in
+    λ o is h. subst (λ z. MatchOption z (AreAllDone c.args.keep c.deref-in-subjects.result.now c.deref.result.now) (IsLeft c.args.clauses.now.sizes c.args.keep c.deref-in-subjects.result.now)) is h in
     let done : AreAllDone c.args.keep c.subjects.marks.items c.subjects.left.items =
     rw (c.deref-in-subjects.ensures.value, c.deref.ensures.value) at (none c.in_ok-subject.field-0 c.in_default.is c.in_ok-subject.ensures) in
     record {

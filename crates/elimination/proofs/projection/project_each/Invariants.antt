@@ -6,11 +6,11 @@ use Rattle.elimination.proofs.projection.project_each.Given as goal
 
 abbrev pub invariant-subjects : goal.invariant-subjects
 invariant-subjects l = record {
-  full : length l.marks.items ≡ length l.sizes;
+  full : length l.marks.items ≡ length l.clauses.sizes;
   above : (x : ℕ) → IsSet l.marks.items x → l.keep ≤ x;
   gone : (x : ℕ) → IsSet l.marks.items x → AllOthers x l.left.items;
-  exact : IsProjectedSoFar l.sizes l.marks.items l.fn.clauses.items l.left.items;
-  below : AllBelow (length l.sizes) l.left.items;
+  exact : IsProjectedSoFar l.clauses.sizes l.marks.items l.clauses.clauses l.left.items;
+  below : AllBelow (length l.clauses.sizes) l.left.items;
 }
 
 abbrev pub decreases-subjects : goal.decreases-subjects
