@@ -1,5 +1,6 @@
 -- The open moves of a component, by their numbers.
-use Rattle.std.proofs.Common.{◌≡◌, ◌<◌, ℕ, List, length, slice_get, slice_index, get_or, Some, All, sym, ap, subst, ◌∙◌}
+use Rattle.std.proofs.Common.{◌≡◌, ◌+◌, ◌<◌, ℕ, List, length, slice_get, slice_index, get_or, Some, All, inl, inr, sym, ap, subst, ◌∙◌, arith}
+use Rattle.std.proofs.lemmas.Bool.{cases_lt}
 use Rattle.std.proofs.lemmas.Option.{slice_get_within, slice_get-get_or, same_Some}
 use Rattle.std.proofs.lemmas.List.{get_or_default}
 use Rattle.std.proofs.lemmas.List.Elements.{All-contains, Contains-get_or}
@@ -51,6 +52,17 @@ module _ (m : PlantModel) (c : ℕ) (row : List ℕ) (h : AreExactly (IsMoveOf m
 
   pub move_of : (move : Move) → slice_get m.moves (slice_index row place) ≡ Some move → move.component ≡ c
   move_of move at = ap (λ (z : Move). z.component) (same_Some move named.0 (sym at ∙ named.1)) ∙ named.2
+
+-- what is true of the moves at the first places, and of the one at the next, is true of those at one place more
+pub one_more : (moves : List Move) (P : Move → Type 0) (row : List ℕ) (k : ℕ) (m : Move) → slice_get moves (slice_index row k) ≡ Some m → P m
+    → ((n : ℕ) (move : Move) → n < k → slice_get moves (slice_index row n) ≡ Some move → P move)
+    → (n : ℕ) (move : Move) → n < k + 1 → slice_get moves (slice_index row n) ≡ Some move → P move
+one_more moves P row k m here is before n move less at = elim (cases_lt n k) [
+  | inl earlier ↦ before n move earlier at
+  | inr last ↦
+      let same : n ≡ k = omega (arith, less, last) in
+      subst P (same_Some m move (sym here ∙ ap (λ z. slice_get moves (slice_index row z)) (sym same) ∙ at)) is
+]
 
 -- a move of the component stands at a place of the row
 pub place_of : (m : PlantModel) (c : ℕ) (row : List ℕ) → AreExactly (IsMoveOf m.moves c) row → (i : ℕ) (move : Move) → slice_get m.moves i ≡ Some move → move.component ≡ c → (place : ℕ) × (place < length row) × (slice_index row place ≡ i)

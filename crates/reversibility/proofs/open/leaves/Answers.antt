@@ -1,6 +1,6 @@
-use Rattle.std.proofs.Common.{◌≡◌, ◌<◌, ◌∙◌, ℕ, List, length, slice_get, slice_index, Some, All, refl, sym, ap, subst, inl, inr, arith}
-use Rattle.std.proofs.lemmas.Bool.{cases_lt, both_ways, false≢true}
-use Rattle.std.proofs.lemmas.Option.{same_Some, slice_get-get_or}
+use Rattle.std.proofs.Common.{◌≡◌, ◌<◌, ◌∙◌, ℕ, List, length, slice_get, slice_index, Some, All, refl, sym, ap, subst, arith}
+use Rattle.std.proofs.lemmas.Bool.{both_ways, false≢true}
+use Rattle.std.proofs.lemmas.Option.{slice_get-get_or}
 use Rattle.cca_base.specs.declared.cube.Pair.{Pair}
 use Rattle.cca_base.specs.declared.model.Move.{Move}
 use Rattle.cca_base.specs.Accepted.{CompiledModel}
@@ -8,7 +8,7 @@ use Rattle.reach_laws.specs.Classes.{Test, IsOpen}
 use Rattle.reach_laws.proofs.Needed.{move_in}
 use Rattle.reversibility.specs.ClassParts.{in_row}
 use Rattle.reversibility.specs.Levels.{SomeInside}
-use Rattle.reversibility.proofs.OpenMoves.{open_from, open_to, cubes_within, number_in, move_of, place_of}
+use Rattle.reversibility.proofs.OpenMoves.{open_from, open_to, cubes_within, number_in, move_of, one_more, place_of}
 use Rattle.reversibility.proofs.open.leaves.Goals.{else-get-mode-via-then-get-mode+else-is_open, else-get-mode-via-else-get-mode}
 use Rattle.reversibility.proofs.open.leaves.Goals as goal
 
@@ -66,25 +66,18 @@ pub loop-number-preserved : goal.loop-number-preserved
 loop-number-preserved c =
     let b : CompiledModel = c.args.compiled.now in
     let member : Test = in_row c.args.rows.now in
-    let row : List ℕ = c.moves_of-number-items.result.now in
-    let k : ℕ = c.loop-number.number-index in
-    let number : ℕ = slice_index row k in
+    let number : ℕ = slice_index c.moves_of-number-items.result.now c.loop-number.number-index in
     let m : Move = c.get.result.now in
     let move_at : slice_get b.model.moves number ≡ Some m = entry number (c.moves-moves.ensures.value ∙ ap (λ z. z.moves) c.model-model.ensures.value) c.get.ensures.value in (
       c.loop-number.invariant.0,
-      λ n move less at source open_one. elim (cases_lt n k) [
-        | inl before ↦ c.loop-number.invariant.1 n move before at source open_one
-        | inr last ↦
-            let same_place : n ≡ k = omega (arith, less, last) in
-            let same : move ≡ m = same_Some move m (sym at ∙ ap (λ z. slice_get b.model.moves (slice_index row z)) same_place ∙ move_at) in
-            elim c.else-get-mode.branch [
-              | else-get-mode-via-then-get-mode+else-is_open v ↦
-                  let cubes : List (List Pair) = v.get-then-get-mode.result.now in
-                  both_ways v.is_open.result v.if-is_open.false (v.is_open.ensures.1 (subst (SomeInside member) (sym v.as_slice.ensures)
-                  (open_to b c.model-model.ensures.compiled member number m cubes move_at (entry number v.ways.ensures.value v.get-then-get-mode.ensures.value) (subst (IsOpen b.model member) same open_one))))
-              | else-get-mode-via-else-get-mode v ↦ v.if-get-mode.false (sym (ap (λ (z : Move). z.source) same) ∙ source)
-            ]
-      ],
+      one_more b.model.moves (λ z. z.source ≡ c.args.mode → IsOpen b.model member z → ⊥) c.moves_of-number-items.result.now c.loop-number.number-index m move_at
+          (λ source open_one. elim c.else-get-mode.branch [
+            | else-get-mode-via-then-get-mode+else-is_open v ↦
+                let cubes : List (List Pair) = v.get-then-get-mode.result.now in
+                both_ways v.is_open.result v.if-is_open.false (v.is_open.ensures.1 (subst (SomeInside member) (sym v.as_slice.ensures)
+                (open_to b c.model-model.ensures.compiled member number m cubes move_at (entry number v.ways.ensures.value v.get-then-get-mode.ensures.value) open_one)))
+            | else-get-mode-via-else-get-mode v ↦ v.if-get-mode.false source
+          ]) c.loop-number.invariant.1,
     )
 
 pub returns : goal.returns
