@@ -36,28 +36,12 @@ impl Limit {
     pub fn negated(self) -> Limit
         ensures { result ≡ negated self }
     {
-        match self {
-            Limit::Mode {
-                record,
-                component,
-                mode,
-                is,
-            } => Limit::Mode {
-                record,
-                component,
-                mode,
-                is: !is,
-            },
-            Limit::Gate {
-                record,
-                component,
-                open,
-            } => Limit::Gate {
-                record,
-                component,
-                open: !open,
-            },
+        let mut other = self;
+        match &mut other {
+            Limit::Mode { is, .. } => *is = !*is,
+            Limit::Gate { open, .. } => *open = !*open,
         }
+        other
     }
 
     /// Whether it leaves the component this mode behind the record.
