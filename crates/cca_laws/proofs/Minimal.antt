@@ -90,13 +90,15 @@ module _ (Holds : List Pair → Type 0) (more : (few more : List Pair) → ((p :
             let p : Pair = found.0 in
             let less : length (without p cube) < length cube =
             filter_less (λ q. not (q.item == p.item)) cube p found.1 (not_from_true (p.item == p.item) (eq-eqb p.item p.item refl)) in
-            let rest = part_within n (without p cube) (omega (arith, less, le)) (AllPairs-filter (λ a b. a.item < b.item) (λ q. not (q.item == p.item)) cube rises) found.2 in
-            (rest.0, record {
-              rises = rest.1.rises;
-              holds = rest.1.holds;
-              minimal = rest.1.minimal;
-              among = λ q inside. (from_filter (λ r. not (r.item == p.item)) cube q (rest.1.among q inside)).1;
-            })
+            let rest = part_within n (without p cube) (omega (arith, less, le)) (AllPairs-filter (λ a b. a.item < b.item) (λ q. not (q.item == p.item)) cube rises) found.2 in (
+              rest.0,
+              record {
+                rises = rest.1.rises;
+                holds = rest.1.holds;
+                minimal = rest.1.minimal;
+                among = λ q inside. (from_filter (λ r. not (r.item == p.item)) cube q (rest.1.among q inside)).1;
+              },
+            )
         | inr none ↦ (cube, least_when cube rises holds none)
       ]
 
