@@ -4,6 +4,7 @@
 
 mod laws;
 mod programmed;
+mod sequenced;
 mod told;
 
 pub use laws::{programs_are_told, programs_are_traced, programs_are_written, put_in};

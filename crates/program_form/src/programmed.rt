@@ -1,26 +1,22 @@
 //! The lines behind an accepted model: a control program, and the events behind it.
 
-ghost use Rattle.std.specs.Prelude.{◌≡◌, ◌&&◌, ◌+◌, ◌<◌, ◌≤◌, ◌^◌, not, None, Option, Some, IfOk, IfSome, OnErr, OnOk};
-ghost use Rattle.cca_base.specs.Prelude.{IsCompiled, MayCome, Promising};
+ghost use Rattle.std.specs.Prelude.{◌≡◌, ◌+◌, ◌<◌, ◌≤◌, ◌^◌, None, Option, Some, IfOk, IfSome};
+ghost use Rattle.cca_base.specs.Prelude.{IsCompiled};
 ghost use Rattle.cca_base.specs.declared.events.Event.{Event};
-ghost use Rattle.cca_base.specs.declared.events.Event.TheVariants.{Tick};
 ghost use Rattle.formula_syntax.specs.Lookups.{NamesFit};
 ghost use Rattle.line_machine.specs.Next.{next_of};
 ghost use Rattle.line_machine.specs.declared.machine.TheConstants.{MAX_LINES};
 ghost use Rattle.model_form.specs.FormStates.{form_first};
-ghost use Rattle.control_laws.specs.Turns.{TurnsBy};
 ghost use Rattle.control_syntax.specs.Kept.{MayRunSoFar};
 ghost use Rattle.script_reader.specs.EventLines.{AnswersAs, AnswersWhatMayCome};
 ghost use Rattle.script_reader.specs.SaidLines.{Answers};
-ghost use Rattle.trace_laws.specs.Events.{Acts, IsTick};
-ghost use Rattle.program_form.specs.PutIn.{Told, TurnsBefore, asks, ends, left_by};
-ghost use Rattle.program_form.specs.ProgramMachine.{MakesBy, MakesEvent, Prepares, ProgramAwaits, ProgramSteps, event_text, running, sequencer};
+ghost use Rattle.program_form.specs.ProgramMachine.{MakesBy, ProgramAwaits, ProgramSteps, running};
 ghost use Rattle.program_form.specs.Sequences.{event_line};
 ghost use Rattle.program_form.specs.Stages.{ReadsTo, RunsWell, begun};
 
-use crate::told::told;
+use crate::sequenced::make;
 use cca_base::codes::ENDS_EARLY;
-use cca_base::{Event, List, Model, Name, Pair, Refusal, Stop, Subject, TickReport};
+use cca_base::{Event, Model, Name, Refusal, Stop, Subject};
 use control_program::Runner;
 use control_syntax::{ProgramEnd, ProgramReader};
 use executive_loop::Executive;
@@ -72,176 +68,6 @@ impl std::marker::Model for Programmed {
 
     ghost invariant = { λ p. NamesFit p.names p.executive.compiled.model
         × FitsStage p.executive.compiled.model (stage_of p.stage) };
-}
-
-/// The event that sets a goal, or clears it where the goal has no pair.
-fn asks(goal: List<Pair>) -> Event
-    ensures { result ≡ asks goal }
-{
-    if goal.len() == 0 {
-        Event::Clear
-    } else {
-        Event::Goal(goal)
-    }
-}
-
-/// Sets a goal, or clears it where the goal has no pair. The error is out of memory, and then the executive is as before.
-#[tactic(auto, using(crate::proofs::RunningWell::asks_no_tick))]
-fn ask(executive: &mut Executive, goal: List<Pair>) -> Result<(), AllocError>
-    requires may_come { MayCome executive.old.compiled.model executive.old.state.pending
-        executive.old.state.mirrored (asks goal) }
-    requires room { executive.old.state.ticks + 1 < 2 ^ 64 }
-    ensures acts { OnOk result (Acts executive.old.compiled (Promising executive.old.compiled)
-        executive.old.state (asks goal) executive.new.state None) }
-    ensures compiled { executive.new.compiled ≡ executive.old.compiled }
-    ensures err { OnErr result (executive.new ≡ executive.old) }
-{
-    let event = asks(goal);
-    executive.event(&event)?;
-    Ok(())
-}
-
-/// A turn of the program with the executive's estimate: its goal, which may be set. The error is out of memory, and then the program is as
-/// before.
-#[tactic(auto, using(crate::proofs::RunningWell::well_after))]
-fn turn(executive: &Executive, runner: &mut Runner) -> Result<List<Pair>, AllocError>
-    requires well { RunsWell executive.now.compiled.model runner.old }
-    ensures turn { IfOk result (λ goal. TurnsBy executive.now.compiled.model
-        executive.now.state.estimate runner.old goal runner.new) }
-    ensures may_come { IfOk result (λ goal. MayCome executive.now.compiled.model
-        executive.now.state.pending executive.now.state.mirrored (asks goal)) }
-    ensures well { RunsWell executive.now.compiled.model runner.new }
-{
-    let model = executive.compiled().model();
-    runner.turn_by(model, executive.worlds(), executive.estimate())
-}
-
-/// Whether a program has ended that had not ended before.
-fn ends(before: bool, after: bool) -> bool
-    ensures { result ≡ (not before && after) }
-{
-    !before && after
-}
-
-/// The program's turn before a tick, and the event that sets its goal; neither while the executive is holding. Answers whether the program
-/// has ended in the turn. The error is out of memory.
-fn prepare(executive: &mut Executive, runner: &mut Runner) -> Result<bool, AllocError>
-    requires well { RunsWell executive.old.compiled.model runner.old }
-    requires room { executive.old.state.ticks + 1 < 2 ^ 64 }
-    ensures puts { IfOk result (λ ended. (put : Option Event)
-        × TurnsBefore executive.old.state.holding executive.old.compiled.model
-        (sequencer executive.old.state runner.old) put runner.new
-        × Prepares executive.old.compiled executive.old.state put executive.new.state
-        × (ended ≡ ends runner.old runner.new)) }
-    ensures compiled { executive.new.compiled ≡ executive.old.compiled }
-    ensures well { RunsWell executive.old.compiled.model runner.new }
-{
-    if executive.holding() {
-        return Ok(false);
-    }
-    let before = runner.ended();
-    let goal = turn(executive, runner)?;
-    ask(executive, goal)?;
-    Ok(ends(before, runner.ended()))
-}
-
-/// Makes a tick. The error is out of memory, and then the executive is as before.
-fn make_report(executive: &mut Executive) -> Result<TickReport, AllocError>
-    requires room { executive.old.state.ticks + 1 < 2 ^ 64 }
-    ensures acts { IfOk result (λ report. Acts executive.old.compiled
-        (Promising executive.old.compiled) executive.old.state Tick executive.new.state
-        (Some report)) }
-    ensures compiled { executive.new.compiled ≡ executive.old.compiled }
-    ensures err { OnErr result (executive.new ≡ executive.old) }
-{
-    match executive.event(&Event::Tick)? {
-        Some(report) => Ok(report),
-        None => unreachable!(),
-    }
-}
-
-/// Makes a tick with the program's turn before it, and answers what is printed of it.
-fn make_tick(
-    alloc: Global,
-    executive: &mut Executive,
-    runner: &mut Runner,
-) -> Result<Vec<u8>, AllocError>
-    requires well { RunsWell executive.old.compiled.model runner.old }
-    requires room { executive.old.state.ticks + 1 < 2 ^ 64 }
-    ensures makes { IfOk result (λ text. (own : Option Told)
-        × MakesEvent executive.old.compiled executive.old.state runner.old Tick
-        executive.new.state runner.new own
-        × (text.items ≡ event_text executive.old.compiled.model own)) }
-    ensures compiled { executive.new.compiled ≡ executive.old.compiled }
-    ensures well { RunsWell executive.old.compiled.model runner.new }
-{
-    let ended = prepare(executive, runner)?;
-    let report = make_report(executive)?;
-    told(alloc, executive.compiled().model(), &report, ended)
-}
-
-/// Follows an event that is no tick: a reset begins the program again.
-fn follow(runner: &mut Runner, event: &Event)
-    ensures { runner.new ≡ left_by event.now runner.old }
-{
-    match event {
-        Event::Reset => runner.reset(),
-        Event::Goal(_)
-        | Event::Clear
-        | Event::Observe(_)
-        | Event::Fault(_)
-        | Event::Mirror(_)
-        | Event::Tick => {}
-    }
-}
-
-/// Makes an event that is no tick.
-fn make_other(
-    executive: &mut Executive,
-    runner: &mut Runner,
-    event: &Event,
-) -> Result<(), AllocError>
-    requires may_come { MayCome executive.old.compiled.model executive.old.state.pending
-        executive.old.state.mirrored event.now }
-    requires other { IsTick event.now → ⊥ }
-    requires well { RunsWell executive.old.compiled.model runner.old }
-    requires room { executive.old.state.ticks + 1 < 2 ^ 64 }
-    ensures makes { OnOk result (MakesEvent executive.old.compiled executive.old.state runner.old
-        event.now executive.new.state runner.new None) }
-    ensures compiled { executive.new.compiled ≡ executive.old.compiled }
-    ensures well { RunsWell executive.old.compiled.model runner.new }
-{
-    executive.event(event)?;
-    follow(runner, event);
-    Ok(())
-}
-
-/// Makes an event, which is one tick at most, and answers what is printed of it.
-#[tactic(auto, using(crate::proofs::MadeEvents::no_tick, crate::proofs::TicksCount::makes_count))]
-fn make(
-    alloc: Global,
-    executive: &mut Executive,
-    runner: &mut Runner,
-    event: &Event,
-) -> Result<Vec<u8>, AllocError>
-    requires may_come { MayCome executive.old.compiled.model executive.old.state.pending
-        executive.old.state.mirrored event.now }
-    requires well { RunsWell executive.old.compiled.model runner.old }
-    requires room { executive.old.state.ticks + 1 < 2 ^ 64 }
-    ensures makes { IfOk result (λ text. (own : Option Told)
-        × MakesEvent executive.old.compiled executive.old.state runner.old event.now
-        executive.new.state runner.new own
-        × (text.items ≡ event_text executive.old.compiled.model own)) }
-    ensures ticks { IfOk result (λ text.
-        executive.new.state.ticks < executive.old.state.ticks + 2) }
-    ensures compiled { executive.new.compiled ≡ executive.old.compiled }
-    ensures well { RunsWell executive.old.compiled.model runner.new }
-{
-    if let Event::Tick = event {
-        return make_tick(alloc, executive, runner);
-    }
-    make_other(executive, runner, event)?;
-    Ok(Vec::new(alloc))
 }
 
 /// Reads a line of the program; its runner comes exactly where the line ends it.

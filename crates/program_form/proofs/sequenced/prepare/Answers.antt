@@ -2,7 +2,7 @@ use Rattle.std.proofs.Common.{Some, refl, subst, ◌∙◌}
 use Rattle.program_form.specs.ProgramMachine.{sequencer}
 use Rattle.program_form.specs.PutIn.{TurnsBefore, asks}
 use Rattle.program_form.proofs.RunningWell.{ends_by}
-use Rattle.program_form.proofs.programmed.prepare.Goals as goal
+use Rattle.program_form.proofs.sequenced.prepare.Goals as goal
 
 pub returns-clause-puts : goal.returns-clause-puts
 returns-clause-puts c =

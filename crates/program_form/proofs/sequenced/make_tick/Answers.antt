@@ -7,7 +7,7 @@ use Rattle.cca_base.specs.declared.events.Event.TheVariants.{Tick}
 use Rattle.trace_laws.specs.Events.{Acts}
 use Rattle.program_form.specs.Printed.{told_text}
 use Rattle.program_form.proofs.MadeEvents.{tick_made}
-use Rattle.program_form.proofs.programmed.make_tick.Goals as goal
+use Rattle.program_form.proofs.sequenced.make_tick.Goals as goal
 
 pub returns-clause-makes : goal.returns-clause-makes
 returns-clause-makes c =

@@ -6,7 +6,7 @@ use Rattle.cca_base.specs.Trace.{MayCome}
 use Rattle.program_form.specs.PutIn.{asks}
 use Rattle.program_form.specs.Stages.{RunsWell}
 use Rattle.program_form.proofs.RunningWell.{goals_come}
-use Rattle.program_form.proofs.programmed.turn.Goals as goal
+use Rattle.program_form.proofs.sequenced.turn.Goals as goal
 
 pub returns-clause-may_come : goal.returns-clause-may_come
 returns-clause-may_come c =
