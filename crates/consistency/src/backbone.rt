@@ -14,10 +14,11 @@ ghost use Rattle.consistency.specs.Worlds.{AreWorldsOf};
 
 use crate::base::model_base;
 use crate::bounds::bounds;
-use crate::guess::solution_in;
+use crate::guess::solution_or_clash;
 use crate::other::other_solution;
 use crate::pairs::all_pairs;
 use crate::problem::Problem;
+use crate::search::SearchResult;
 use crate::subjects::{SubjectSet, has_subject, no_subject, with_subject};
 use crate::worlds::Worlds;
 use cca_base::{List, Model, Pair, Seen, State, ValueSet, VarSet};
@@ -89,18 +90,18 @@ fn first_backbone(
 {
     let sets = bounds(alloc, problem, base)?;
     let sets = sets.as_slice();
-    let Some(values) = solution_in(alloc, problem, base, sets, &[])? else {
-        return Ok(List::new(alloc));
-    };
-    backbone(
-        alloc,
-        problem,
-        base,
-        sets,
-        components,
-        values.as_slice(),
-        vars,
-    )
+    match solution_or_clash(alloc, problem, base, Vec::from_slice(alloc, sets)?)? {
+        SearchResult::Found(values) => backbone(
+            alloc,
+            problem,
+            base,
+            sets,
+            components,
+            values.as_slice(),
+            vars,
+        ),
+        SearchResult::Clash(_) => Ok(List::new(alloc)),
+    }
 }
 
 impl Worlds {
