@@ -47,7 +47,7 @@ module _ {S : Type 0} (m : Ghosts S) where
   goes_by None s n l t p h = refl
 
   -- a line after which the program goes on isn't one too many
-  pub takes_few : (s : S) (n : ℕ) (l : List ℕ) (t : S) (p : List ℕ) → Transition m s n l (GoesOn t) p → n ≤ MAX_LINES
+  takes_few : (s : S) (n : ℕ) (l : List ℕ) (t : S) (p : List ℕ) → Transition m s n l (GoesOn t) p → n ≤ MAX_LINES
   takes_few s n l t p h =
       let e = goes_by (length_code (m.limit_of s) n (length l)) s n l t p h in
       ltb-false MAX_LINES n (few_by (ltb MAX_LINES n) 19 _ e)

@@ -26,7 +26,7 @@ more_or_end None more end = absurd more
 more_or_end (Some []) more end = absurd more
 more_or_end (Some (b ∷ l)) more end = absurd cc
 
-told : (input a b : List ℕ) → Some input ≡ Some (a ++ b) → a ++ b ≡ input
+pub told : (input a b : List ℕ) → Some input ≡ Some (a ++ b) → a ++ b ≡ input
 told input a b e = cc
 
 module _ {S : Type 0} (m : Ghosts S) (first : S) (fixed : IsFixed m) (out out' : Option (List ℕ)) where

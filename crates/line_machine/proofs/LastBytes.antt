@@ -20,17 +20,17 @@ module _ {S : Type 0} (m : Ghosts S) (s : S) (n : ℕ) where
   line_runs b tail u x h = (u, x, [], h, (refl, refl), sym (append-nil x))
 
   -- there are no last bytes
-  pub ends_empty : (tail : List ℕ) → length tail ≡ 0 → (e : End) (x : List ℕ) → m.closes s n e x → Ends m s n tail e x
+  ends_empty : (tail : List ℕ) → length tail ≡ 0 → (e : End) (x : List ℕ) → m.closes s n e x → Ends m s n tail e x
   ends_empty [] none e x h = record { here = GoesOn s; line = []; runs = (refl, refl); last = x; closes = subst (λ k. m.closes s k e x) (let is : n ≡ n + 0 = omega arith in is) h; parts = refl }
   ends_empty (b ∷ tail) none e x h = absurd (omega (arith, none))
 
   -- they are a line that ends the program
-  pub ends_stopped : (tail : List ℕ) → 0 < length tail → (e : End) (x : List ℕ) → Transition m s (n + 1) tail (Stops e) x → Ends m s n tail e x
+  ends_stopped : (tail : List ℕ) → 0 < length tail → (e : End) (x : List ℕ) → Transition m s (n + 1) tail (Stops e) x → Ends m s n tail e x
   ends_stopped [] some e x h = absurd (omega (arith, some))
   ends_stopped (b ∷ tail) some e x h = record { here = Stops e; line = x; runs = line_runs b tail (Stops e) x h; last = []; closes = (refl, refl); parts = sym (append-nil x) }
 
   -- they are a line, and then the input ends
-  pub ends_closed : (tail : List ℕ) → 0 < length tail → (t : S) (x : List ℕ) → Transition m s (n + 1) tail (GoesOn t) x → (e : End) (y : List ℕ) → m.closes t (n + 1) e y → Ends m s n tail e (x ++ y)
+  ends_closed : (tail : List ℕ) → 0 < length tail → (t : S) (x : List ℕ) → Transition m s (n + 1) tail (GoesOn t) x → (e : End) (y : List ℕ) → m.closes t (n + 1) e y → Ends m s n tail e (x ++ y)
   ends_closed [] some t x h e y k = absurd (omega (arith, some))
   ends_closed (b ∷ tail) some t x h e y k = record { here = GoesOn t; line = x; runs = line_runs b tail (GoesOn t) x h; last = y; closes = k; parts = refl }
 
@@ -39,7 +39,7 @@ module _ {S : Type 0} (m : Ghosts S) (s : S) (n : ℕ) where
   may_line (b ∷ tail) some x h = ByLine h.0 (line_runs b tail h.0 x h.1)
 
   -- nothing was printed
-  pub nothing_sent : (tail : List ℕ) (out out' : Option (List ℕ)) → out' ≡ out → SentFront (MayEnd m s n tail) out out'
+  nothing_sent : (tail : List ℕ) (out out' : Option (List ℕ)) → out' ≡ out → SentFront (MayEnd m s n tail) out out'
   nothing_sent tail out out' e = record { text = []; rest = []; is = Nothing refl; written = e ∙ sym (append_known-nil out) }
 
   cut_front : (c : Cut) (P : List ℕ → Type 0) (tail : List ℕ) (out out' : Option (List ℕ)) → ((x : List ℕ) → P x → MayEnd m s n tail x) → SentCut c P out out' → SentFront (MayEnd m s n tail) out out'

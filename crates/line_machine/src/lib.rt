@@ -15,6 +15,7 @@ mod send;
 pub use driver::drive;
 pub use intake::{Intake, Unwatched};
 pub use laws::sure_text_laws;
+pub use line::length_code;
 pub use machine::{End, LONG_LINE, MAX_LINES, Machine, Said, TOO_MANY_LINES};
 pub use opened::drive_opened;
 pub use send::Cut;

@@ -12,9 +12,11 @@ use crate::send::{Cut, send};
 use std::alloc::Global;
 use titan_wire::Sink;
 
-/// The code that a line has by its number and its length alone.
-fn length_code(limit: usize, number: u64, len: usize) -> Option<u8>
-    ensures { result ≡ length_code limit number len }
+/// The code that a line has by its number and its length alone: one too many, or too long.
+pub fn length_code(limit: usize, number: u64, len: usize) -> Option<u8>
+    ensures code { result ≡ length_code limit number len }
+    ensures few { result ≡ None → number ≤ MAX_LINES }
+    ensures short { result ≡ None → len ≤ limit }
 {
     if number > MAX_LINES {
         Some(TOO_MANY_LINES)

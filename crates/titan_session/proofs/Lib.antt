@@ -1,4 +1,2 @@
 pub mod CallsAreRuns
-pub mod LineFeeds
-pub mod Queues
 pub mod SessionsAreRuns

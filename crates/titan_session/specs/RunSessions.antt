@@ -15,7 +15,7 @@ RunState = FormState RunAs ScriptState
 abbrev pub RunSession : Type 0
 RunSession = SessionState RunState
 
--- before the first line, where it prints so
+-- a session of `run` before the first line, which prints so
 abbrev pub opened : Notation → RunSession
 opened notation = session_first (run_first notation)
 

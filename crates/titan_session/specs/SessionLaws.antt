@@ -21,8 +21,8 @@ pub record IsRunOfLines (notation : Notation) (lines : List (List ℕ)) (a : Ans
   pub only : (b : Answer) → IsRunOf notation (joined_lines lines) b → b ≡ a
   pub trace : IsTraceOf notation (joined_lines lines) a
 
--- what a session has said: where it is over, what a run prints of its lines; where it goes on, all that these lines decide, which begins all that a run prints of them and any more,
--- and is a run of the first of them; a line ends it only where that is refused; and no session is rejected, or lost by calls that went well
+-- what a session has said: where it is over, what a run prints of its lines. Where it goes on, all that these lines decide, which begins all that a run prints of them
+-- and any more, and is a run of the first of them. A line ends it only where that is refused. And no session is rejected, or lost by calls that went well
 pub record SessionsAreRuns : Type 0 where
   pub whole : (notation : Notation) (calls : List Call) (z : RunSession) (e : End) → AreCalls notation calls z → z.stage ≡ Over e → IsRunOfLines notation (lines_of calls) (answer e (said_by calls z))
   pub begins : (notation : Notation) (calls : List Call) (z : RunSession) (s : RunState) → AreCalls notation calls z → z.stage ≡ Going s

@@ -15,7 +15,7 @@ pub record SessionState (S : Type 0) : Type 0 where
   pub count : ℕ
   pub pending : List ℕ
 
--- before the first line of a machine in this state
+-- a session before the first line, of a machine in this state
 abbrev pub session_first : {S : Type 0} → S → SessionState S
 session_first s = record { stage = Going s; count = 0; pending = [] }
 

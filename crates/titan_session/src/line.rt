@@ -11,7 +11,7 @@ fn lf_place(bytes: &[u8]) -> Option<usize>
 }
 
 /// Whether the bytes have no LF.
-#[tactic(auto, using(crate::proofs::LineFeeds::none_is_clean, crate::proofs::LineFeeds::some_is_not))]
+#[tactic(auto, using(line_machine::proofs::FirstLineFeed::none_is_clean, line_machine::proofs::FirstLineFeed::some_is_not))]
 pub fn is_one_line(bytes: &[u8]) -> bool
     ensures clean { result ≡ true → HasNoLf bytes.now }
     ensures broken { result ≡ false → ¬ (HasNoLf bytes.now) }

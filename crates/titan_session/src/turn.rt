@@ -2,26 +2,11 @@
 
 ghost use Rattle.std.specs.Prelude.{◌≡◌, ◌≤◌, ◌+◌, None, IfOk};
 ghost use Rattle.line_machine.specs.Next.{next_of};
-ghost use Rattle.line_machine.specs.Runs.{length_code, Transition};
+ghost use Rattle.line_machine.specs.Runs.{Transition};
 ghost use Rattle.line_machine.specs.declared.machine.TheConstants.{MAX_LINES};
 
-use line_machine::{End, LONG_LINE, MAX_LINES, Machine, Said, TOO_MANY_LINES};
+use line_machine::{End, Machine, Said, length_code};
 use std::alloc::{AllocError, Global};
-
-/// The code that a line has by its number and its length alone.
-fn length_code(limit: usize, number: u64, len: usize) -> Option<u8>
-    ensures code { result ≡ length_code limit number len }
-    ensures few { result ≡ None → number ≤ MAX_LINES }
-    ensures short { result ≡ None → len ≤ limit }
-{
-    if number > MAX_LINES {
-        Some(TOO_MANY_LINES)
-    } else if len > limit {
-        Some(LONG_LINE)
-    } else {
-        None
-    }
-}
 
 /// What a machine says of the line of this number. A line that is too long or one too many is refused before.
 pub fn take_line<M: Machine>(

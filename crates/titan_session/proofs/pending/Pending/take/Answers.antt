@@ -1,5 +1,5 @@
 use Rattle.std.proofs.Common.{◌≡◌, ℕ, ◌+◌, List, ◌++◌, take, drop, refl, sym, subst, ◌∙◌}
-use Rattle.titan_session.proofs.Queues.{parted}
+use Rattle.list_laws.proofs.GoneThrough.{parted}
 use Rattle.titan_session.proofs.pending.Pending.take.Goals as goal
 
 pub returns-clause-moved : goal.returns-clause-moved
