@@ -155,10 +155,10 @@ module _ (m : PlantModel) (rows : List (List ℕ)) (order : List ℕ) (good : We
   laid_needs [] h = tt
   laid_needs (c ∷ xs) h = (h.0, λ u needs. h.1 u ((same_needs m rows good are_rows c u).0 needs), laid_needs xs h.2)
 
-  pub order_laid : IsLaidOut (RowNeeds rows) order
+  order_laid : IsLaidOut (RowNeeds rows) order
   order_laid = laid_needs order (laid_out (Needs m) all order first row_closed)
 
-  pub order_within : All (λ c. c < length m.components) order
+  order_within : All (λ c. c < length m.components) order
   order_within = all_from (λ c. c < length m.components) order (λ c among. numbers_within (length m.components) c (taken (Needs m) all order first c among))
 
   order_whole : (c : ℕ) → c < length m.components → Contains order c

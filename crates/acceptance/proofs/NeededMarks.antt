@@ -17,9 +17,8 @@ use Rattle.cca_base.proofs.Within.{mode_within}
 use Rattle.causal_graph.specs.Laws.{AreNeedsOf}
 use Rattle.causal_graph.specs.Search.{Marks}
 use Rattle.cca_base.specs.Flags.{IsSet}
-use Rattle.cca_base.proofs.FlagLaws.{set_within}
+use Rattle.cca_base.proofs.FlagLaws.{set_within, none_set}
 use Rattle.causal_graph.proofs.FlagLaws.{marks_new}
-use Rattle.causal_graph.proofs.RemainingNeeds.{none_set}
 use Rattle.causal_graph.proofs.ReachedRows.{AreListed}
 use Rattle.acceptance.specs.AllWays.{AreAllWays}
 use Rattle.acceptance.specs.Marks.{components_of, OccursIn, AddsMarks, AreNeedsMarked}

@@ -5,7 +5,7 @@ use Rattle.std.proofs.lemmas.Bool.{cases_lt, ne_eqb, not_from_false, cond-true}
 use Rattle.std.proofs.lemmas.List.{append-nil, append_assoc, get_or_default, nil_from_length}
 use Rattle.std.proofs.lemmas.List.Elements.{All-contains, All-filter}
 use Rattle.std.proofs.lemmas.List.Kept.{AllPairs-filter}
-use Rattle.cca_base.proofs.Pairwise.{AllPairs-head, AllPairs-tail}
+use Rattle.list_laws.proofs.Pairwise.{AllPairs-head, AllPairs-tail}
 use Rattle.cca_base.proofs.PathLaws.{numbers_are_below, numbers_rise, below_contains, takes_out, order_acyclic}
 use Rattle.cca_base.specs.Relations.{numbers_below, PathBy, IsAcyclicBy, IsFreeBy, TakesEffectsFirstBy, IsEffectsFirstBy}
 use Rattle.causal_graph.specs.Needs.{RowNeeds, AreRows}

@@ -1,18 +1,10 @@
 -- Which rows the remaining ones need.
-use Rattle.std.proofs.Common.{◌≡◌, ℕ, Bool, false, List, [], ◌∷◌, ◌++◌, length, get_or, replicate, Contains, inl, inr, sym, ap, subst, ◌∙◌, arith}
-use Rattle.std.proofs.lemmas.Bool.{cases_lt, false≢true}
-use Rattle.std.proofs.lemmas.List.{get_or_past, get_or-replicate, length-replicate}
+use Rattle.std.proofs.Common.{◌≡◌, ℕ, Bool, false, List, [], ◌∷◌, ◌++◌, length, get_or, replicate, Contains, inl, inr, sym, ap, subst, ◌∙◌}
+use Rattle.std.proofs.lemmas.List.{length-replicate}
 use Rattle.std.proofs.lemmas.List.Elements.{Contains-push, Contains-push_cases, Contains-append_left}
 use Rattle.cca_base.proofs.Members.{contains_none}
+use Rattle.cca_base.proofs.FlagLaws.{none_set}
 use Rattle.causal_graph.specs.Search.{Marks, AreNeeded}
-use Rattle.cca_base.specs.Flags.{IsSet}
-
--- no flag of a list of false ones is set
-pub none_set : (n u : ℕ) → IsSet (replicate n false) u → ⊥
-none_set n u h = elim (cases_lt u n) [
-  | inl within ↦ false≢true (sym (get_or-replicate n u false false within) ∙ h)
-  | inr past ↦ false≢true (sym (get_or_past (replicate n false) u false (omega (arith, past, length-replicate n false))) ∙ h)
-]
 
 pub needed_none : (rows : List (List ℕ)) (n : ℕ) → n ≡ length rows → AreNeeded rows [] (replicate n false)
 needed_none rows n full = record {

@@ -1,9 +1,16 @@
 -- Flags that are set one by one.
-use Rattle.std.proofs.Common.{◌≡◌, ◌<◌, ◌+◌, ◌⊎◌, ℕ, Bool, true, false, not, cond, List, length, get_or, set, inl, inr, sym, ap, subst, ◌∙◌, arith}
+use Rattle.std.proofs.Common.{◌≡◌, ◌<◌, ◌+◌, ◌⊎◌, ℕ, Bool, true, false, not, cond, List, length, get_or, replicate, set, inl, inr, sym, ap, subst, ◌∙◌, arith}
 use Rattle.std.proofs.lemmas.Bool.{cases_lt, cases_eq, false≢true}
-use Rattle.std.proofs.lemmas.List.{get_or_past, get_or-set_same, get_or-set_other}
+use Rattle.std.proofs.lemmas.List.{get_or_past, get_or-replicate, get_or-set_same, get_or-set_other, length-replicate}
 use Rattle.std.proofs.lemmas.List.Sums.{sum_by-set}
 use Rattle.cca_base.specs.Flags.{IsSet, unset}
+
+-- no flag of a list of false ones is set
+pub none_set : (n u : ℕ) → IsSet (replicate n false) u → ⊥
+none_set n u h = elim (cases_lt u n) [
+  | inl within ↦ false≢true (sym (get_or-replicate n u false false within) ∙ h)
+  | inr past ↦ false≢true (sym (get_or_past (replicate n false) u false (omega (arith, past, length-replicate n false))) ∙ h)
+]
 
 -- only flags of the list are set
 pub set_within : (flags : List Bool) (u : ℕ) → IsSet flags u → u < length flags

@@ -7,7 +7,7 @@ use Rattle.std.proofs.lemmas.List.Elements.{All-weaker, All-push, All-cons, All-
 use Rattle.std.proofs.lemmas.List.Quantifiers.{all_pairs_push}
 use Rattle.std.proofs.lemmas.List.Kept.{AllPairs-cons}
 use Rattle.std.proofs.lemmas.List.Folds.{Any-from_list_any}
-use Rattle.cca_base.proofs.Pairwise.{AllPairs-head, AllPairs-tail}
+use Rattle.list_laws.proofs.Pairwise.{AllPairs-head, AllPairs-tail}
 use Rattle.cca_base.proofs.FormulaGrowth.{Extends, counts_same, counts_push, All-IsFormula-kept, All-IsMove-kept, All-IsFailure-kept}
 use Rattle.cca_base.specs.declared.formula.Formula.{Formula}
 use Rattle.cca_base.specs.declared.model.Component.{Component}

@@ -5,7 +5,6 @@ pub mod CubeLaws
 pub mod Found
 pub mod FormulaGrowth
 pub mod Growth
-pub mod Pairwise
 pub mod BoundSums
 pub mod TakenBack
 pub mod Within
@@ -21,6 +20,7 @@ pub mod PermutationLaws
 pub mod TestedLists
 pub mod SureFormulas
 pub mod Commands
+pub mod Replies
 pub mod Support
 pub mod ModelNames
 pub mod Counting
@@ -29,3 +29,6 @@ pub mod SortedGoals
 pub mod StatePairs
 pub mod JoinedPairs
 pub mod Trying
+pub mod ShortCubes
+pub mod HeldFormulas
+pub mod CommandPlaces

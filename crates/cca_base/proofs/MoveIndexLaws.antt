@@ -59,7 +59,7 @@ module _ (key : Move → ℕ) (moves : List Move) (x : Move) where
   }
 
   -- the row of the new move's key has its number besides
-  pub rows_grow : (rows : List (List ℕ)) → key x < length rows → AreRowsBy key moves rows
+  rows_grow : (rows : List (List ℕ)) → key x < length rows → AreRowsBy key moves rows
       → AreRowsBy key (moves ++ x ∷ []) (set rows (key x) (get_or rows (key x) [] ++ length moves ∷ []))
   rows_grow rows within h k = elim (cases_eq k (key x)) [
     | inl own ↦ subst (λ j. AreExactly (HasKey key later j) (get_or (set rows (key x) (get_or rows (key x) [] ++ length moves ∷ [])) j [])) (sym own)
@@ -70,7 +70,7 @@ module _ (key : Move → ℕ) (moves : List Move) (x : Move) where
   ]
 
 -- where no move has a key, its row is empty
-pub no_row : (key : Move → ℕ) (moves : List Move) (k : ℕ) → ((move : Move) → Contains moves move → key move ≡ k → ⊥) → AreExactly (HasKey key moves k) []
+no_row : (key : Move → ℕ) (moves : List Move) (k : ℕ) → ((move : Move) → Contains moves move → key move ≡ k → ⊥) → AreExactly (HasKey key moves k) []
 no_row key moves k none = record {
   rising = λ i j d less within. absurd (omega (arith, within));
   each = λ i. (
@@ -108,12 +108,12 @@ module _ (moves : List Move) (x : Move) where
   ]
 
   -- a move that is no repair changes nothing
-  pub nexts_stay : (rows : List (List (Option ℕ))) → x.repair ≡ false → AreNexts moves rows → AreNexts (moves ++ x ∷ []) rows
+  nexts_stay : (rows : List (List (Option ℕ))) → x.repair ≡ false → AreNexts moves rows → AreNexts (moves ++ x ∷ []) rows
   nexts_stay rows plain h c a =
       old_next c a (get_or (get_or rows c []) a None) (is_other c a (λ marked own source. both_ways x.repair plain marked)) (h c a)
 
   -- a repair's source has its target
-  pub nexts_grow : (rows : List (List (Option ℕ))) → x.repair ≡ true → x.component < length rows → x.source < length (get_or rows x.component [])
+  nexts_grow : (rows : List (List (Option ℕ))) → x.repair ≡ true → x.component < length rows → x.source < length (get_or rows x.component [])
       → AreNexts moves rows → AreNexts (moves ++ x ∷ []) (set rows x.component (set (get_or rows x.component []) x.source (Some x.target)))
   nexts_grow rows marked within inside h c a = elim (cases_eq c x.component) [
     | inl own ↦
@@ -145,7 +145,7 @@ sizes_stay rows c a next = map-set_same length rows c (set (get_or rows c []) a 
 -- ---- what is put is taken back
 
 module _ {X : Type 0} where
-  pub last_taken : (xs : List X) (x : X) → take (length (xs ++ x ∷ []) - 1) (xs ++ x ∷ []) ≡ xs
+  last_taken : (xs : List X) (x : X) → take (length (xs ++ x ∷ []) - 1) (xs ++ x ∷ []) ≡ xs
   last_taken xs x =
       let shorter : length (xs ++ x ∷ []) - 1 ≡ length xs = omega (arith, length_push xs x) in
       ap (λ n. take n (xs ++ x ∷ [])) shorter ∙ take-append_seam xs (x ∷ [])
@@ -167,7 +167,7 @@ module _ {X : Type 0} where
 
 module _ {X : Type 0} (rows : List (List X)) where
   -- an empty row more changes nothing
-  pub empty_row_more : (k : ℕ) → get_or (rows ++ [] ∷ []) k [] ≡ get_or rows k []
+  empty_row_more : (k : ℕ) → get_or (rows ++ [] ∷ []) k [] ≡ get_or rows k []
   empty_row_more k = elim (cases_order k (length rows)) [
     | inl same ↦ subst (λ j. get_or (rows ++ [] ∷ []) j [] ≡ get_or rows j []) (sym same) (get_or-append_seam rows [] [] [] ∙ sym (get_or_past rows (length rows) [] (omega arith)))
     | inr (inl less) ↦ get_or_append_left rows ([] ∷ []) [] k less
@@ -207,7 +207,7 @@ no_rows x e f g = record {
 }
 
 module _ (cs : List Component) (ks : List (List ℕ)) (moves : List Move) (x y : MoveIndex) (h : IsIndex cs ks moves x) where
-  pub rows_same : SameRows x y → IsIndex cs ks moves y
+  rows_same : SameRows x y → IsIndex cs ks moves y
   rows_same e = record {
     row_a_command = ap length e.by_command ∙ h.row_a_command;
     by_command = subst (AreRowsBy (λ move. move.command) moves) (sym e.by_command) h.by_command;
@@ -308,7 +308,7 @@ pub record HasRows (x : MoveIndex) (move : Move) : Type 0 where
   pub row : move.component < length x.next.items
   pub mode : move.source < length (get_or x.next.items move.component [])
 
-pub has_rows : (m : PlantModel) (x : MoveIndex) (move : Move) → IsIndex m.components m.commands m.moves x → HasMode m move.component move.source → move.command < length m.commands → HasRows x move
+has_rows : (m : PlantModel) (x : MoveIndex) (move : Move) → IsIndex m.components m.commands m.moves x → HasMode m move.component move.source → move.command < length m.commands → HasRows x move
 has_rows m x move h source command =
     let within : move.component < length m.components = mode_within m move.component move.source source in
     let row : move.component < length x.next.items = omega (arith, within, ap length h.mode_by_mode, length-map x.next.items (λ (l : List (Option ℕ)). length l), length-map m.components (λ (d : Component). length d.modes)) in

@@ -1,10 +1,11 @@
 -- Paths and orders of a relation.
-use Rattle.std.proofs.Common.{◌≡◌, ◌≢◌, ◌<◌, ◌==◌, ◌↔◌, ℕ, zero, suc, not, List, [], ◌∷◌, ◌++◌, All, AllPairs, Contains, filter, inl, inr, refl, sym, ap, subst, ◌∙◌, arith}
+use Rattle.std.proofs.Common.{◌≡◌, ◌≢◌, ◌<◌, ◌==◌, ◌↔◌, ℕ, zero, suc, not, List, [], ◌∷◌, ◌++◌, length, All, AllPairs, Contains, filter, inl, inr, refl, sym, ap, subst, ◌∙◌, arith}
 use Rattle.std.proofs.lemmas.Bool.{cases_Bool, cases_eq, cases_order, eqb-true, eq-eqb, ne_eqb, not_from_false, not_from_true, cond-true, cond-false}
+use Rattle.std.proofs.lemmas.List.{length-append}
 use Rattle.std.proofs.lemmas.List.Elements.{All-contains, All-head, All-tail, Contains-append_left, Contains-push, Contains-push_cases}
 use Rattle.std.proofs.lemmas.List.Kept.{AllPairs-cons}
 use Rattle.cca_base.proofs.Members.{all_from, contains_here, contains_there, contains_none, to_filter, from_filter}
-use Rattle.cca_base.proofs.Pairwise.{AllPairs-head, AllPairs-tail}
+use Rattle.list_laws.proofs.Pairwise.{AllPairs-head, AllPairs-tail}
 use Rattle.cca_base.specs.Relations.{numbers_below, PathBy, AncestorBy, IsAcyclicBy, IsFreeBy, TakesEffectsFirstBy, IsCycleBy, IsShownCycleBy}
 
 -- ---- numbers in order
@@ -18,6 +19,10 @@ rising_push (x ∷ xs) y h below =
       | inr e ↦ subst (λ b. x < b) e (All-head (λ x. x < y) x xs below)
     ]))
     (rising_push xs y (AllPairs-tail (λ a b. a < b) x xs h) (All-tail (λ x. x < y) x xs below))
+
+pub length-numbers : (n : ℕ) → length (numbers_below n) ≡ n
+length-numbers zero = refl
+length-numbers (suc n) = omega (arith, length-append (numbers_below n) (n ∷ []), length-numbers n)
 
 pub below_contains : (n c : ℕ) → c < n → Contains (numbers_below n) c
 below_contains zero c h = absurd (omega arith)
@@ -63,7 +68,7 @@ other_stays c d remaining ne among = to_filter (λ x. not (x == c)) remaining d 
 module _ (relation : ℕ → ℕ → Type 0) where
   -- ---- paths
 
-  pub path_join : (c : ℕ) (first : List ℕ) (d : ℕ) (later : List ℕ) (u : ℕ) → PathBy relation c first d → PathBy relation d later u → PathBy relation c (first ++ d ∷ later) u
+  path_join : (c : ℕ) (first : List ℕ) (d : ℕ) (later : List ℕ) (u : ℕ) → PathBy relation c first d → PathBy relation d later u → PathBy relation c (first ++ d ∷ later) u
   path_join c [] d later u h k = (h, k)
   path_join c (x ∷ first) d later u h k = (h.0, path_join x first d later u h.1 k)
 

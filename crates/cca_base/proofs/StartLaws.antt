@@ -1,6 +1,6 @@
 -- The start modes are a state, and are taken one component after the other.
-use Rattle.std.proofs.Common.{◌≡◌, ◌<◌, ◌+◌, ℕ, List, [], ◌∷◌, ◌++◌, length, map, get_or, take, sym, ap, ◌∙◌, arith}
-use Rattle.std.proofs.lemmas.List.{length-map, get_or-map, take_more}
+use Rattle.std.proofs.Common.{◌≡◌, ◌<◌, ◌≤◌, ◌+◌, ℕ, List, [], ◌∷◌, ◌++◌, length, map, get_or, take, sym, ap, ◌∙◌, arith}
+use Rattle.std.proofs.lemmas.List.{length-map, get_or-map, take_all, take_more}
 use Rattle.cca_base.specs.PlantModel.{PlantModel}
 use Rattle.cca_base.specs.declared.model.Component.{Component}
 use Rattle.cca_base.specs.Model.{WellFormed}
@@ -24,3 +24,7 @@ starts_more cs i modes x within is h =
     ap (λ l. l ++ x.start ∷ []) h
     ∙ (ap (λ n. take i starts ++ n ∷ []) (ap (λ (y : Component). y.start) is ∙ sym (get_or-map (λ (y : Component). y.start) cs i x 0 within))
     ∙ sym (take_more starts i 0 (omega (arith, within, length-map cs (λ (y : Component). y.start)))))
+
+-- all of them, behind the last component
+pub starts_all : (m : PlantModel) (modes : List ℕ) (i : ℕ) → length m.components ≤ i → modes ≡ take i (start_modes m) → modes ≡ start_modes m
+starts_all m modes i past h = h ∙ take_all i (start_modes m) (omega (arith, past, length-map m.components (λ (x : Component). x.start)))

@@ -1,16 +1,17 @@
 -- The unit that is power-cycled and reset, and what no version allows beside it.
-use Rattle.std.proofs.Common.{◌≡◌, ◌+◌, ◌⊎◌, ℕ, zero, suc, true, false, inl, inr, List, [], ◌∷◌, Contains, slice_index, refl, sym, ap, subst, ◌∙◌, arith}
+use Rattle.std.proofs.Common.{◌≡◌, ◌+◌, ◌⊎◌, ℕ, zero, suc, false, inl, inr, List, [], ◌∷◌, Contains, slice_index, refl, sym, ap, subst, ◌∙◌, arith}
 use Rattle.std.specs.Prelude.{IsTrue}
 use Rattle.std.proofs.lemmas.Bool.{false≢true}
 use Rattle.std.proofs.lemmas.List.Elements.{All-nil}
 use Rattle.cca_base.specs.declared.model.Move.{Move}
-use Rattle.cca_base.proofs.NextModes.{repair_of, repair_parts, of_chain_sound}
+use Rattle.cca_base.proofs.NextModes.{repair_parts, of_chain_sound}
 use Rattle.cca_base.specs.Model.{WellFormed, IsFormula, IsNext, IsMended, IsInChain, RepairChain, is_broken, RepairsFit}
 use Rattle.cca_base.specs.Repairs.{Mending}
 use Rattle.cca_laws.proofs.Tiny.{two_at, below_one}
 use Rattle.cca_laws.proofs.SmallModels.{small_fits, failures_fit, own_used}
 use Rattle.cca_laws.proofs.EdgeExamples.{always_fits}
 use Rattle.cca_laws.proofs.FreeMoves.{free_step}
+use Rattle.cca_laws.proofs.FirstVersion.{own_next}
 use Rattle.cca_laws.specs.Examples.{free_repair}
 use Rattle.cca_laws.specs.ChainExamples.{power_move, reset_move, unit, UnitIsWellFormed, OnlyInSecond, NextIsLatched, MendedIsOk, OkHasNoMended, ChainOfHung, MendingsOfHung, MendingsOfLatched, MendingsOfOk, TwoCommandsMend, NoChainGoesRound, NoRepairStays, OneNextMode, OnlyRepairsEnter, OnlyRepairsLeave}
 
@@ -45,15 +46,11 @@ after_latched c next h = elim (link c 1 next h h.of_model).1 [
   | inr latched ↦ sym latched.1
 ]
 
--- a repair of the list leads from its source to its target
-next_of : (moves : List Move) (x : Move) → Contains moves x → x.repair ≡ true → IsNext moves x.component x.source x.target
-next_of moves x among repair = record { repair = x; of_model = among; mends = repair_of x.component x.source x repair refl refl; target = refl }
-
 power_next : IsNext unit.moves 0 2 1
-power_next = next_of unit.moves power_move (0, omega arith, refl) refl
+power_next = own_next unit.moves power_move (0, omega arith, refl) refl
 
 reset_next : IsNext unit.moves 0 1 0
-reset_next = next_of unit.moves reset_move (1, omega arith, refl) refl
+reset_next = own_next unit.moves reset_move (1, omega arith, refl) refl
 
 pub next_is_latched : NextIsLatched
 next_is_latched mode = (after_hung 0 mode, λ same. subst (IsNext unit.moves 0 2) (sym same) power_next)
@@ -210,17 +207,17 @@ no_chain_goes_round version h =
     let loop : Move = free_repair 0 0 2 2 in
     h.no_cycle 0 2 2 (
       1,
-      next_of (with_repairs loop) power_move (0, omega arith, refl) refl,
-      (0, next_of (with_repairs loop) reset_move (1, omega arith, refl) refl, (2, next_of (with_repairs loop) loop (2, omega arith, refl) refl, refl)),
+      own_next (with_repairs loop) power_move (0, omega arith, refl) refl,
+      (0, own_next (with_repairs loop) reset_move (1, omega arith, refl) refl, (2, own_next (with_repairs loop) loop (2, omega arith, refl) refl, refl)),
     )
 
 pub no_repair_stays : NoRepairStays
-no_repair_stays version h = let stay : Move = free_repair 0 2 2 0 in h.no_cycle 0 2 0 (2, next_of (stay ∷ []) stay (0, omega arith, refl) refl, refl)
+no_repair_stays version h = let stay : Move = free_repair 0 2 2 0 in h.no_cycle 0 2 0 (2, own_next (stay ∷ []) stay (0, omega arith, refl) refl, refl)
 
 pub one_next_mode : OneNextMode
 one_next_mode version h =
     let short : Move = free_repair 0 2 0 2 in
-    omega (arith, h.one_target 0 2 1 0 (next_of (with_repairs short) power_move (0, omega arith, refl) refl) (next_of (with_repairs short) short (2, omega arith, refl) refl))
+    omega (arith, h.one_target 0 2 1 0 (own_next (with_repairs short) power_move (0, omega arith, refl) refl) (own_next (with_repairs short) short (2, omega arith, refl) refl))
 
 pub only_repairs_enter : OnlyRepairsEnter
 only_repairs_enter version h = false≢true (h.only_repairs_enter 2 power_move (omega arith) refl)

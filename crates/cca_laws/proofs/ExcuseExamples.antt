@@ -20,7 +20,7 @@ use Rattle.cca_laws.specs.ExcuseExamples.{wrong_with_goal, wrong_second, driver_
 nothing_rises : IsRising []
 nothing_rises i j d lt h = absurd (omega arith)
 
-agrees_with_none : (w : List ℕ) → Extends w []
+pub agrees_with_none : (w : List ℕ) → Extends w []
 agrees_with_none w = All-nil (λ (p : Pair). slice_get w p.item ≡ Some p.value)
 
 closed_world : IsWorld valve_model (1 ∷ 0 ∷ []) (0 ∷ [])

@@ -9,7 +9,7 @@ use Rattle.cca_base.proofs.Members.{all_from}
 use Rattle.cca_laws.specs.FirstVersion.{RulesAsBefore, FirstIsSecond, MendingsAsBefore}
 
 -- a repair is one of its source
-own_next : (moves : List Move) (move : Move) → Contains moves move → move.repair ≡ true → IsNext moves move.component move.source move.target
+pub own_next : (moves : List Move) (move : Move) → Contains moves move → move.repair ≡ true → IsNext moves move.component move.source move.target
 own_next moves move among repair = record { repair = move; of_model = among; mends = repair_of move.component move.source move repair refl refl; target = refl }
 
 -- where no repair leads to a broken mode, nothing does

@@ -35,7 +35,7 @@ module _ (m : PlantModel) (move : Move) where
     minimal = λ part within h. All-nil (Contains part);
   }
 
-  pub only_free : move.guard ≡ always_true → (cube : List Pair) → PrimeImplicant m move cube → [] ≡ cube
+  only_free : move.guard ≡ always_true → (cube : List Pair) → PrimeImplicant m move cube → [] ≡ cube
   only_free e [] prime = refl
   only_free e (p ∷ cube) prime =
       absurd (contains_none p (prime.minimal [] (All-nil (Contains (p ∷ cube))) (free_prime e).suffices 0 p (omega arith)))

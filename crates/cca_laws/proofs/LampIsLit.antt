@@ -1,8 +1,8 @@
 -- The lamp is lit.
 use Rattle.std.proofs.Common.{◌≡◌, ◌≢◌, ℕ, inl, inr, [], ◌∷◌, All, slice_get, Some, refl, subst, arith}
 use Rattle.std.proofs.lemmas.List.Elements.{All-nil}
+use Rattle.cca_base.proofs.Replies.{same_send, achieved_send}
 use Rattle.cca_base.specs.declared.cube.Pair.{Pair}
-use Rattle.cca_base.specs.declared.events.Reply.TheVariants.{Send, Achieved}
 use Rattle.cca_base.specs.Steps.{Step, Allowed}
 use Rattle.cca_base.specs.Choice.{IsChosen, Now, PicksForGoal}
 use Rattle.cca_laws.specs.Examples.{on_move, off_move, lamp, lamp_compiled, lit, LampIsLit}
@@ -41,12 +41,6 @@ chosen_on = record {
 off_is_not_on : slice_get {X = ℕ} (0 ∷ []) 0 ≢ Some 1
 off_is_not_on h = absurd cc
 
-sent : (j k : ℕ) → Send j ≡ Send k → j ≡ k
-sent j k h = cc
-
-not_sent : (k : ℕ) → Achieved ≡ Send k → ⊥
-not_sent k h = cc
-
 pub lamp_is_lit : LampIsLit
 lamp_is_lit =
     let p : Pair = record { item = 0; value = 1 } in
@@ -56,8 +50,8 @@ lamp_is_lit =
           record { next = 1 ∷ []; step = step_on; pair = p; wanted = (0, omega arith, refl); missing = off_is_not_on; serves = inl refl },
           record { others = []; last = 1 ∷ []; plan = (1 ∷ [], allowed_on, refl); stands = on },
         );
-        picked = λ k e. subst (λ n. PicksForGoal lamp_compiled (0 ∷ []) lit n) (sent 0 k e)
+        picked = λ k e. subst (λ n. PicksForGoal lamp_compiled (0 ∷ []) lit n) (same_send 0 k e)
             (p, record { before = []; after = []; split = refl; held = All-nil _; missing = off_is_not_on }, Now 0 1 on_move [] chosen_on (All-nil _));
       },
-      record { good = on; picked = λ k e. absurd (not_sent k e) },
+      record { good = on; picked = λ k e. absurd (achieved_send k e) },
     )

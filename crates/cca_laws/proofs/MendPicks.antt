@@ -11,13 +11,13 @@ use Rattle.cca_base.specs.Cube.{IsBeforeCube}
 use Rattle.cca_base.specs.Implicants.{PrimeImplicant}
 use Rattle.cca_base.specs.Model.{is_broken}
 use Rattle.cca_base.specs.Orders.{IsNextOf}
-use Rattle.cca_base.specs.State.{Extends}
 use Rattle.cca_base.specs.Steps.{Reach}
 use Rattle.cca_laws.proofs.Tiny.{one_at}
 use Rattle.cca_laws.proofs.ChoiceLaws.{open_free, none_away, one_away, least_cube}
 use Rattle.cca_laws.proofs.FreeMoves.{free_prime}
 use Rattle.cca_laws.proofs.MendImplicants.{z_is_prime, only_z}
 use Rattle.cca_laws.proofs.MendSteps.{reset_allowed, z_allowed}
+use Rattle.cca_laws.proofs.ExcuseExamples.{agrees_with_none}
 use Rattle.cca_laws.specs.Examples.{always_true}
 use Rattle.cca_laws.specs.MendExamples.{reset_move, z_move, ok_move, go_move, back_move, mending, mending_compiled, c_is_ok, c_is_z, b_is_x, b_is_y}
 
@@ -147,20 +147,16 @@ z_from_ok = (1 ∷ [], 2 ∷ 1 ∷ [], (2 ∷ 1 ∷ [], z_allowed 1, refl), refl
 abbrev pub home : List Pair
 home = b_is_x ∷ c_is_ok ∷ []
 
--- nothing is held of no pairs
-none_held : (s : List ℕ) → Extends s []
-none_held s = All-nil (λ (p : Pair). slice_get s p.item ≡ Some p.value)
-
 -- on the way back b is missing first, while it is y
 pub picks_toward_x : (c k : ℕ) → Picks mending_compiled (c ∷ 1 ∷ []) 1 0 k → PicksForGoal mending_compiled (c ∷ 1 ∷ []) home k
 picks_toward_x c k picks =
-    (b_is_x, record { before = []; after = c_is_ok ∷ []; split = refl; held = none_held (c ∷ 1 ∷ []); missing = λ e. absurd (omega (arith, same_Some 1 0 e)) }, picks)
+    (b_is_x, record { before = []; after = c_is_ok ∷ []; split = refl; held = agrees_with_none (c ∷ 1 ∷ []); missing = λ e. absurd (omega (arith, same_Some 1 0 e)) }, picks)
 
 pub picks_reset : Picks mending_compiled (0 ∷ 1 ∷ []) 1 0 0
-picks_reset = First 1 0 0 back_move (c_is_z ∷ []) c_is_z (back_chosen 0 z_from_m) (z_is_next 0 (omega arith)) (Now 0 2 reset_move [] reset_chosen (none_held (0 ∷ 1 ∷ [])))
+picks_reset = First 1 0 0 back_move (c_is_z ∷ []) c_is_z (back_chosen 0 z_from_m) (z_is_next 0 (omega arith)) (Now 0 2 reset_move [] reset_chosen (agrees_with_none (0 ∷ 1 ∷ [])))
 
 pub picks_z : Picks mending_compiled (1 ∷ 1 ∷ []) 1 0 1
-picks_z = First 1 0 1 back_move (c_is_z ∷ []) c_is_z (back_chosen 1 z_from_ok) (z_is_next 1 (omega arith)) (Now 0 2 z_move [] z_chosen (none_held (1 ∷ 1 ∷ [])))
+picks_z = First 1 0 1 back_move (c_is_z ∷ []) c_is_z (back_chosen 1 z_from_ok) (z_is_next 1 (omega arith)) (Now 0 2 z_move [] z_chosen (agrees_with_none (1 ∷ 1 ∷ [])))
 
 pub picks_back : Picks mending_compiled (2 ∷ 1 ∷ []) 1 0 4
 picks_back =
@@ -176,12 +172,12 @@ picks_ok = (
     held = one_at (λ (p : Pair). slice_get (2 ∷ 0 ∷ []) p.item ≡ Some p.value) b_is_x refl;
     missing = λ e. absurd (omega (arith, same_Some 2 1 e));
   },
-  Now 0 1 ok_move [] ok_chosen (none_held (2 ∷ 0 ∷ [])),
+  Now 0 1 ok_move [] ok_chosen (agrees_with_none (2 ∷ 0 ∷ [])),
 )
 
 pub picks_go : PicksForGoal mending_compiled (0 ∷ 0 ∷ []) (b_is_y ∷ []) 3
 picks_go = (
   b_is_y,
-  record { before = []; after = []; split = refl; held = none_held (0 ∷ 0 ∷ []); missing = λ e. absurd (omega (arith, same_Some 0 1 e)) },
-  Now 1 1 go_move [] go_chosen (none_held (0 ∷ 0 ∷ [])),
+  record { before = []; after = []; split = refl; held = agrees_with_none (0 ∷ 0 ∷ []); missing = λ e. absurd (omega (arith, same_Some 0 1 e)) },
+  Now 1 1 go_move [] go_chosen (agrees_with_none (0 ∷ 0 ∷ [])),
 )

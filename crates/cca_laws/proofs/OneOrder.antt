@@ -14,7 +14,7 @@ use Rattle.std.specs.FinMap.{slice_cmp-IsAntisymmetric, nat_cmp-IsAntisymmetric}
 use Rattle.list_laws.proofs.Orders.{then_equal, less_greater}
 use Rattle.list_laws.proofs.Tests.{not_itself}
 use Rattle.cca_base.specs.declared.cube.Pair.{Pair}
-use Rattle.cca_base.proofs.Pairwise.{AllPairs-head, AllPairs-tail}
+use Rattle.list_laws.proofs.Pairwise.{AllPairs-head, AllPairs-tail}
 use Rattle.cca_base.specs.PlantModel.{PlantModel}
 use Rattle.cca_base.specs.Cube.{IsUnion, pair_cmp, cube_cmp, IsBeforeCube}
 use Rattle.cca_base.specs.Orders.{numbers_below, TakesEffectsFirst, AreInOrder, IsSorted}

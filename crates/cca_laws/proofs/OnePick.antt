@@ -4,6 +4,7 @@ use Rattle.std.proofs.lemmas.Bool.{cases_order}
 use Rattle.std.proofs.lemmas.List.Elements.{All-contains}
 use Rattle.std.proofs.lemmas.List.Sorted.{All-permutation}
 use Rattle.std.proofs.lemmas.Option.{same_Some}
+use Rattle.list_laws.proofs.Elements.{contains_middle}
 use Rattle.cca_base.specs.declared.cube.Pair.{Pair}
 use Rattle.cca_base.specs.declared.model.Move.{Move}
 use Rattle.cca_base.specs.declared.events.Reply.{Reply}
@@ -18,7 +19,7 @@ use Rattle.cca_base.specs.Goals.{IsFirstUnreached}
 use Rattle.cca_base.specs.Choice.{IsChosen, Picks, Now, First, PicksForGoal, IsChosenReply}
 use Rattle.cca_laws.proofs.OneOrder.{one_sorted, neither_cube}
 use Rattle.cca_laws.specs.Laws.{NoneTwice}
-use Rattle.cca_laws.proofs.GoalLaws.{Held, middle, same_split, one_first_missing, sends_serve, standing_is_reached}
+use Rattle.cca_laws.proofs.GoalLaws.{Held, same_split, one_first_missing, sends_serve, standing_is_reached}
 
 one_move : (m : PlantModel) (s : List ℕ) (c to : ℕ) (a b : Move) (x y : List Pair) → IsChosen m s c to a x → IsChosen m s c to b y → a ≡ b
 one_move m s c to a b x y h k = elim (cases_order h.at k.at) [
@@ -42,7 +43,7 @@ one_next order s cube p q once h k =
 none_next : (order s : List ℕ) (cube : List Pair) (p : Pair) → Extends s cube → IsNextOf order s cube p → ⊥
 none_next order s cube p held h =
     let sorted_held : Extends s h.sorted = All-permutation (Held s) cube h.sorted h.is_sorted.same held in
-    h.first.missing (All-contains (Held s) h.sorted p sorted_held (subst (λ l. Contains l p) (sym h.first.split) (middle h.first.before h.first.after p)))
+    h.first.missing (All-contains (Held s) h.sorted p sorted_held (subst (λ l. Contains l p) (sym h.first.split) (contains_middle h.first.before h.first.after p)))
 
 module _ (b : CompiledModel) (s : List ℕ) (once : NoneTwice b.order) where
   -- how a command was picked
@@ -78,7 +79,7 @@ module _ (b : CompiledModel) (s : List ℕ) (once : NoneTwice b.order) where
   one_unreached goal p q h k = same_split Reached h.before h.after k.before k.after p q h.reached k.reached h.unreached k.unreached (sym h.split ∙ k.split)
 
   all_reached : (goal : List Pair) (p : Pair) → All Reached goal → IsFirstUnreached b.model s goal p → ⊥
-  all_reached goal p h k = k.unreached (All-contains Reached goal p h (subst (λ l. Contains l p) (sym k.split) (middle k.before k.after p)))
+  all_reached goal p h k = k.unreached (All-contains Reached goal p h (subst (λ l. Contains l p) (sym k.split) (contains_middle k.before k.after p)))
 
   -- there is one chosen reply at most
   pub one_reply : (goal : List Pair) (r t : Reply) → IsChosenReply b s goal r → IsChosenReply b s goal t → r ≡ t

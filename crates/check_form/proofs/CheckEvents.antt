@@ -32,7 +32,7 @@ kept m s e after keeps may known rises = record { rising = rises; come = come_sn
 -- ---- made
 
 -- what is pending and mirrored behind an event
-pub changed_known : (m : PlantModel) (x : ExecutiveState) (e : Event) (y : ExecutiveState) → Changes m AsGiven x e y → PendingAfter x.pending e y.pending × (y.mirrored ≡ mirrored_after x.mirrored e)
+changed_known : (m : PlantModel) (x : ExecutiveState) (e : Event) (y : ExecutiveState) → Changes m AsGiven x e y → PendingAfter x.pending e y.pending × (y.mirrored ≡ mirrored_after x.mirrored e)
 changed_known m x event.Tick y h = absurd h
 changed_known m x (event.Goal pairs) y (goal, given, e) = (ap (λ (s : ExecutiveState). s.pending) e, ap (λ (s : ExecutiveState). s.mirrored) e)
 changed_known m x event.Clear y e = (ap (λ (s : ExecutiveState). s.pending) e, ap (λ (s : ExecutiveState). s.mirrored) e)

@@ -29,7 +29,7 @@ sees_pairs m x Unexplained h = tt
 sees_pairs m x Holding h = tt
 
 -- a tick with a Yes
-pub judged_yes : (m : PlantModel) (x : TraceSoFar) (t : Printed) (y : ExecutiveState) (events : List Event) (next : TraceSoFar) → IsVerdict m x.state t Yes → ShowsSuccessor m x.state t → Takes m x.state t.report.shown y → ComesTo m y events next
+judged_yes : (m : PlantModel) (x : TraceSoFar) (t : Printed) (y : ExecutiveState) (events : List Event) (next : TraceSoFar) → IsVerdict m x.state t Yes → ShowsSuccessor m x.state t → Takes m x.state t.report.shown y → ComesTo m y events next
     → ByLines (Whole t) m x events (Follows next)
 judged_yes m x t y events next v shows takes comes = (Yes, v, (sees_pairs m x.state t.report.shown shows, y, takes, next, comes, refl))
 

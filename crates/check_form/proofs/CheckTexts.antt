@@ -15,7 +15,7 @@ use Rattle.model_form.specs.Acceptance.{Acceptance, AcceptedAs, RefusedFor, IsAc
 use Rattle.check_form.specs.CheckEnds.{EndsByScript, EndsByAcceptance}
 use Rattle.check_form.specs.CheckForm.{check_form, judged, IsCheck, ChecksAreJudged}
 use Rattle.model_form.specs.Answers.{Answer, answer, AnswersByAcceptance, AnswersByEnd, PrintsBehind, TextsAreAnswers}
-use Rattle.model_form.specs.ModelTexts.{ModelText, WholeModel, EndsModel}
+use Rattle.model_form.specs.ModelTexts.{ModelText, WholeModel}
 use Rattle.model_form.specs.ModelTexts as models
 use Rattle.model_form.proofs.TextsAreAnswers.{texts_are_answers}
 use Rattle.check_form.specs.CheckMachine.{CheckState, InScript, InTrace, ScriptSteps, TraceSteps, TraceCloses, checking_machine}

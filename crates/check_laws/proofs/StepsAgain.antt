@@ -21,7 +21,7 @@ module _ (m : PlantModel) (fit : RepairsFit m.version m.moves) (s t u : List ℕ
       (subst (λ x. IsInChain m.moves d x (slice_index u d)) (sym (step_other m s t k step d ne)) (h.each d (subst (λ n. d < n) (step_length m s t k step) within)))
 
   -- the repair is already made
-  pub already_made : (next n : ℕ) → IsNext m.moves step.move.component (slice_index s step.move.component) next
+  already_made : (next n : ℕ) → IsNext m.moves step.move.component (slice_index s step.move.component) next
       → RepairChain m.moves step.move.component next (slice_index u step.move.component) n → (step.move.repair ≡ true) × Mending m t u
   already_made next n is_next chain =
       let c : ℕ = step.move.component in
@@ -43,7 +43,7 @@ module _ (m : PlantModel) (fit : RepairsFit m.version m.moves) (s t u : List ℕ
       )
 
   -- the step, where the component stands as it did
-  pub made_again : slice_index u step.move.component ≡ slice_index s step.move.component → (w : List ℕ) × Step m u k w × Mending m t w
+  made_again : slice_index u step.move.component ≡ slice_index s step.move.component → (w : List ℕ) × Step m u k w × Mending m t w
   made_again same =
       let c : ℕ = step.move.component in
       let w : List ℕ = slice_set u c step.move.target in

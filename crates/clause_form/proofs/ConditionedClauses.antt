@@ -38,10 +38,6 @@ met_with xs subject value (l ∷ literals) h =
     (λ e. ap (λ i. has l.values (get_or (set xs subject value) i 0)) (eqb-true l.subject subject e) ∙ ap (has l.values) (get_or-set_same xs subject value 0 h))
     (λ e. ap (has l.values) (get_or-set_other xs subject l.subject value 0 (eqb-false l.subject subject e)))
 
-pub and_with : (o x : Bool) → x ≡ true → o ≡ (o && x)
-and_with true x e = sym e
-and_with false x e = refl
-
 -- the literals of other subjects are of other subjects
 pub others_left : (subject : ℕ) (literals : List Literal) → AreOthers subject (filter (is_other subject) literals)
 others_left subject literals =

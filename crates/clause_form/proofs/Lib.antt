@@ -1,6 +1,7 @@
 pub mod ConditionedClauses
 pub mod LiteralAlone
 pub mod MergedLiterals
+pub mod SetValues
 pub mod SomeValue
 pub mod Subjects
 pub mod ModelSizes

@@ -56,10 +56,10 @@ chosen domains s v set because_of h set_is why_is a xs at knows d k agrees =
 
 module _ (clauses : List Clause) (base : List ℕ) (few : (d v : ℕ) → has (slice_index base d) v ≡ true → v < MAX_CHOICES) where
   -- a solution's values are small and meet the clauses, and agree with what is assumed
-  pub solution_met : (xs : List ℕ) → IsSolution clauses base xs → AreMet clauses (length base) xs
+  solution_met : (xs : List ℕ) → IsSolution clauses base xs → AreMet clauses (length base) xs
   solution_met xs h = record { full = h.full; small = λ d n. few d (slice_index xs d) (h.within d n); met = h.met }
 
-  pub solution_agrees : (prefix xs : List ℕ) (r : SubjectSet) → IsSolution clauses base xs → Extends prefix xs → Agrees (record { base = base; chosen = prefix }) r xs
+  solution_agrees : (prefix xs : List ℕ) (r : SubjectSet) → IsSolution clauses base xs → Extends prefix xs → Agrees (record { base = base; chosen = prefix }) r xs
   solution_agrees prefix xs r h extends d m = (h.within d, extends d)
 
   module _ (prefix : List ℕ) (domains : List Domain) (conflict_set : SubjectSet) (value : ℕ)

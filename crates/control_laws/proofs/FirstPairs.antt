@@ -3,6 +3,7 @@ use Rattle.std.proofs.Common.{◌≡◌, ◌≢◌, ◌==◌, ℕ, Bool, not, tr
 use Rattle.std.proofs.lemmas.Bool.Decides.{nat_tests}
 use Rattle.std.proofs.lemmas.List.Elements.{All-nil, All-cons, All-head, All-tail, All-weaker, filter-append, filter_passes}
 use Rattle.std.proofs.lemmas.List.Kept.{AllPairs-cons, AllPairs-filter}
+use Rattle.list_laws.proofs.Elements.{contains_middle}
 use Rattle.cca_base.specs.declared.cube.Pair.{Pair}
 use Rattle.cca_base.specs.Cube.{Lacks}
 use Rattle.cca_base.proofs.Members.{contains_cases, contains_here, contains_none, contains_there, from_filter, to_filter}
@@ -46,14 +47,10 @@ first_of_each asked p = (
   λ h. subst (λ l. Contains (firsts l) p) (sym h.2) (in_goal h.0 h.1 p h.3),
 )
 
-in_middle : (before after : List Pair) (p : Pair) → Contains (before ++ p ∷ after) p
-in_middle [] after p = contains_here p p after refl
-in_middle (q ∷ before) after p = contains_there q p (before ++ p ∷ after) (in_middle before after p)
-
 pub of_asked : (asked : List Pair) (p : Pair) → Contains (firsts asked) p → Contains asked p
 of_asked asked p among =
     let first = is_first asked p among in
-    subst (λ l. Contains l p) (sym first.2) (in_middle first.0 first.1 p)
+    subst (λ l. Contains l p) (sym first.2) (contains_middle first.0 first.1 p)
 
 pub in_order_asked : InOrderAsked
 in_order_asked [] behind = (firsts behind, refl)

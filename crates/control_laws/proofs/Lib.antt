@@ -9,3 +9,4 @@ pub mod ProgramPairs
 pub mod RoundExamples
 pub mod SmallTurns
 pub mod SomeTurn
+pub mod PushedPairs

@@ -1,6 +1,6 @@
 -- There is a turn with each estimate, and all calls have goals.
-use Rattle.std.proofs.Common.{◌≡◌, ◌==◌, ◌⊎◌, ℕ, zero, suc, true, false, List, [], ◌∷◌, ◌++◌, Option, Some, None, slice_get, inl, inr, refl, ap, arith}
-use Rattle.std.proofs.lemmas.Bool.{cases_Bool}
+use Rattle.std.proofs.Common.{◌≡◌, ◌==◌, ◌⊎◌, ℕ, zero, suc, false, List, [], ◌∷◌, ◌++◌, Option, Some, None, slice_get, inl, inr, refl, ap, arith}
+use Rattle.std.proofs.lemmas.Bool.{cases_Bool, eqb-true}
 use Rattle.std.proofs.lemmas.Bool.Decides.{nat_tests}
 use Rattle.std.proofs.lemmas.List.Elements.{All-nil, All-cons, All-head, All-tail}
 use Rattle.std.proofs.lemmas.Option.{none-some, same_Some}
@@ -15,13 +15,10 @@ use Rattle.control_laws.specs.Turns.{Control, TurnWith, Reset, TurnsTo, firsts, 
 pub unequal : (a b : ℕ) → (a == b) ≡ false → Some a ≡ Some b → ⊥
 unequal a b h e = let same : a ≡ b = same_Some a b e in grind (arith, nat_tests, h, same)
 
-equal : (a b : ℕ) → (a == b) ≡ true → a ≡ b
-equal a b h = grind (arith, nat_tests, h)
-
 has_at : (s : List ℕ) (i v : ℕ) → (slice_get s i ≡ Some v) ⊎ (slice_get s i ≡ Some v → ⊥)
 has_at [] i v = inr (λ h. none-some v h)
 has_at (x ∷ s) zero v = elim (cases_Bool (x == v)) [
-  | inl is ↦ inl (ap (λ n. Some n) (equal x v is))
+  | inl is ↦ inl (ap (λ n. Some n) (eqb-true x v is))
   | inr differ ↦ inr (unequal x v differ)
 ]
 has_at (x ∷ s) (suc i) v = has_at s i v

@@ -8,7 +8,7 @@ use Rattle.control_program.specs.declared.nodes.Node.{Node}
 use Rattle.control_program.specs.declared.nodes.Task.{Task}
 use Rattle.control_program.specs.Flat.{Entry, fresh_entry, fresh_marked}
 use Rattle.control_program.specs.Places.{entry_of, fresh_kind, fresh_mark, is_ended, marked, marked_kind, marked_task}
-use Rattle.control_program.proofs.PlaceLaws.{marked-at, marked-set}
+use Rattle.control_program.proofs.PlaceLaws.{marked-at, marked-set, behind_one}
 
 -- up to the place they are as at the start
 pub record Cleared (before middle after entries : List Entry) (at : ℕ) : Type 0 where
@@ -35,9 +35,6 @@ map-push : (xs : List Entry) (y : Entry) → map fresh_entry (xs ++ y ∷ []) �
 map-push [] y = refl
 map-push (x ∷ xs) y = ap (λ l. fresh_entry x ∷ l) (map-push xs y)
 
-push_todo : (done : List Entry) (y : Entry) (todo : List Entry) → done ++ y ∷ todo ≡ (done ++ y ∷ []) ++ todo
-push_todo done y todo = sym (append_assoc done (y ∷ []) todo)
-
 module _ (ns : List Node) (ms : List Mark) (before middle after : List Entry) (at to : ℕ) (n : Node) where
   step : (done todo : List Entry) → middle ≡ done ++ todo → marked ns ms ≡ before ++ map fresh_entry done ++ todo ++ after → length before + length done ≡ at → at < to
       → length before + length middle ≡ to → slice_get ns at ≡ Some n → Cleared before middle after (marked ns (slice_set ms at (fresh_mark n))) (at + 1)
@@ -53,12 +50,12 @@ module _ (ns : List Node) (ms : List Mark) (before middle after : List Entry) (a
       record {
         done = done ++ y ∷ [];
         todo = todo;
-        whole = whole ∙ push_todo done y todo;
+        whole = whole ∙ behind_one done y todo;
         nodes =
             ap (λ i. marked ns (slice_set ms i (fresh_mark n))) (sym here_at)
             ∙ marked-set ns ms front y (todo ++ after) n (fresh_mark n) is (ap (slice_get ns) here_at ∙ h)
             ∙ ap (λ v. front ++ v ∷ (todo ++ after)) fresh
-            ∙ push_todo front (fresh_entry y) (todo ++ after)
+            ∙ behind_one front (fresh_entry y) (todo ++ after)
             ∙ ap (λ l. l ++ (todo ++ after)) (append_assoc before (map fresh_entry done) (fresh_entry y ∷ []) ∙ ap (λ l. before ++ l) (sym (map-push done y)))
             ∙ sym (append_assoc (before ++ map fresh_entry (done ++ y ∷ [])) todo after);
         place = omega (arith, length-append done (y ∷ []), place);

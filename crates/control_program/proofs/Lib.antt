@@ -7,11 +7,9 @@ pub mod PlaceLaws
 pub mod TaskTurns
 pub mod ChoiceTurns
 pub mod RoundTurns
-pub mod Questions
 pub mod Along
 pub mod PartsTurns
 pub mod Clearing
-pub mod FirstPairs
 pub mod RunningLaws
 pub mod Laying
 pub mod ProgramFormulas

@@ -13,7 +13,7 @@ mutual
   begun-cleared (Tree.Choose c f x y) = ap (λ v. rest.Choose f v (begun (cleared y))) (begun-cleared x) ∙ ap (λ v. rest.Choose f (begun x) v) (begun-cleared y)
   begun-cleared (Tree.Repeat n k x) = ap (λ v. rest.Repeat n v v) (begun-cleared x)
 
-  pub all_begun-all_cleared : (xs : Trees) → all_begun (all_cleared xs) ≡ all_begun xs
+  all_begun-all_cleared : (xs : Trees) → all_begun (all_cleared xs) ≡ all_begun xs
   all_begun-all_cleared none = refl
   all_begun-all_cleared (more x xs) = ap (λ v. rests.more v (all_begun (all_cleared xs))) (begun-cleared x) ∙ ap (rests.more (begun x)) (all_begun-all_cleared xs)
 
@@ -27,7 +27,7 @@ mutual
   rest_of-cleared (Tree.Choose c f x y) = ap Some (begun-cleared (Tree.Choose c f x y))
   rest_of-cleared (Tree.Repeat n k x) = ap (again n (begun (cleared x))) (rest_of-cleared x) ∙ ap (λ v. Some (rest.Repeat n v (begun x))) (begun-cleared x)
 
-  pub rests_of-all_cleared : (xs : Trees) → rests_of (all_cleared xs) ≡ all_begun xs
+  rests_of-all_cleared : (xs : Trees) → rests_of (all_cleared xs) ≡ all_begun xs
   rests_of-all_cleared none = refl
   rests_of-all_cleared (more x xs) = ap (λ v. joined v (rests_of (all_cleared xs))) (rest_of-cleared x) ∙ ap (rests.more (begun x)) (rests_of-all_cleared xs)
 
@@ -42,6 +42,6 @@ mutual
       ((rest_of-cleared x ∙ ap Some (sym (begun-cleared x)), rest_of-cleared y ∙ ap Some (sym (begun-cleared y))), cleared_proper x, cleared_proper y)
   cleared_proper (Tree.Repeat n k x) = (λ h. let e : false ≡ true = sym (ap is_nothing (rest_of-cleared x)) ∙ h in absurd cc, cleared_proper x)
 
-  pub all_cleared_proper : (xs : Trees) → AreProper (all_cleared xs)
+  all_cleared_proper : (xs : Trees) → AreProper (all_cleared xs)
   all_cleared_proper none = tt
   all_cleared_proper (more x xs) = (cleared_proper x, all_cleared_proper xs)

@@ -34,7 +34,7 @@ mutual
   length-laid (Tree.Choose c f x y) ns = omega (arith, length-laid x (laid y ns), length-laid y ns)
   length-laid (Tree.Repeat n k x) ns = omega (arith, length-laid x ns)
 
-  pub length-all_laid : (xs : Trees) (ns : List Entry) → length (all_laid xs ns) ≡ all_size xs + length ns
+  length-all_laid : (xs : Trees) (ns : List Entry) → length (all_laid xs ns) ≡ all_size xs + length ns
   length-all_laid none ns = omega arith
   length-all_laid (more x xs) ns = omega (arith, length-laid x (all_laid xs ns), length-all_laid xs ns)
 
@@ -70,7 +70,7 @@ mutual
   size-cleared (Tree.Choose c f x y) = omega (arith, size-cleared x, size-cleared y)
   size-cleared (Tree.Repeat n k x) = ap suc (size-cleared x)
 
-  pub all_size-all_cleared : (xs : Trees) → all_size (all_cleared xs) ≡ all_size xs
+  all_size-all_cleared : (xs : Trees) → all_size (all_cleared xs) ≡ all_size xs
   all_size-all_cleared none = refl
   all_size-all_cleared (more x xs) = omega (arith, size-cleared x, all_size-all_cleared xs)
 
@@ -104,7 +104,7 @@ mutual
   laid-cleared (Tree.Repeat n k x) ns =
       ap (λ v. (Marked.Repeat n n, suc v) ∷ laid (cleared x) ns) (size-cleared x) ∙ ap (λ l. (Marked.Repeat n n, suc (size x)) ∷ l) (laid-cleared x ns)
 
-  pub all_laid-all_cleared : (xs : Trees) (ns : List Entry) → all_laid (all_cleared xs) ns ≡ map fresh_entry (all_laid xs []) ++ ns
+  all_laid-all_cleared : (xs : Trees) (ns : List Entry) → all_laid (all_cleared xs) ns ≡ map fresh_entry (all_laid xs []) ++ ns
   all_laid-all_cleared none ns = refl
   all_laid-all_cleared (more x xs) ns =
       laid-cleared x (all_laid (all_cleared xs) ns) ∙ ap (λ l. freshly (laid x []) ++ l) (all_laid-all_cleared xs ns)

@@ -3,7 +3,8 @@ use Rattle.std.proofs.Common.{if◌then◌else◌, ◌≡◌, ◌≤◌, ◌⊎�
 use Rattle.std.specs.List.{list_any}
 use Rattle.std.proofs.lemmas.Bool.{le-leb, leb-true}
 use Rattle.std.proofs.lemmas.Option.{same_Some}
-use Rattle.list_laws.proofs.Tests.{either}
+use Rattle.list_laws.proofs.Tests.{either, never}
+use Rattle.list_laws.proofs.Passing.{some_passes, passes_some}
 use Rattle.cca_base.specs.declared.codes.TheConstants.{MALFORMED, NAME_UNKNOWN, LIMIT, BROKEN_GOAL, REPEATED_PAIR, UNMATCHED}
 use Rattle.cca_base.specs.declared.cube.Pair.{Pair}
 use Rattle.cca_base.specs.declared.events.Stop.{Stop}
@@ -16,7 +17,7 @@ use Rattle.script_reader.specs.EventCodes.{has_item_twice, is_broken_pair}
 use Rattle.script_reader.specs.Named.{component_of, mode_pair, each_pair}
 use Rattle.script_reader.specs.SaidLines.{Answers, IsLeast, SaidByItem}
 use Rattle.script_reader.proofs.EachPair.{comes_from, goes_to}
-use Rattle.script_reader.proofs.NamedItems.{found, found_by, mode_names, named_twice, twice_named}
+use Rattle.script_reader.proofs.NamedItems.{mode_names, named_twice, twice_named}
 use Rattle.control_syntax.specs.Codes.{Applies, AppliesToWords, IsChoose, IsGreat, IsNamed, IsOutOfPlace, IsSaid, IsSaidByWords, IsSaidHere, IsUnmatched, NamesTwice, NamesUnknown, PassesLimit, WantsBroken}
 use Rattle.control_syntax.specs.Items.{Item, Program, Reach, Await, Seq, Both, Choose, Otherwise, Repeat, Done, End, grammar}
 use Rattle.control_syntax.specs.Reading.{Reading}
@@ -61,10 +62,6 @@ outside_is (b ∷ bs) = (
       let same : b ≡ c = cc in
       (choose_is b.kind).1 e (subst (λ (x : Block). IsChoose x.kind) (sym same) choose),
 )
-
--- what no line of the form does
-never : {A : Type 0} → (A → ⊥) → A ↔ (false ≡ true)
-never h = (λ x. absurd (h x), λ e. no e)
 
 always_same : {A : Type 0} → A ↔ A
 always_same = (λ x. x, λ x. x)
@@ -162,9 +159,9 @@ module _ (m : PlantModel) (r : Reading) where
       λ x.
           let to = goes_to (mode_pair m) ps qs x.0 h x.2 in
           let same : to.0 ≡ x.1 = same_Some to.0 x.1 (sym to.2 ∙ x.3) in
-          found_by (is_broken_pair m) qs to.0 to.1 (ap (is_broken_pair m) same ∙ x.4),
+          some_passes (is_broken_pair m) qs to.0 to.1 (ap (is_broken_pair m) same ∙ x.4),
       λ t.
-          let q = found (is_broken_pair m) qs t in
+          let q = passes_some (is_broken_pair m) qs t in
           let from = comes_from (mode_pair m) ps qs q.0 h q.1 in
           (from.0, q.0, from.1, from.2, q.2),
     );

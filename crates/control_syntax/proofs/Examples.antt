@@ -2,7 +2,6 @@
 use Rattle.std.proofs.Common.{◌≡◌, ◌≤◌, ℕ, List, ◌∷◌, All, refl, subst, sym, arith}
 use Rattle.std.specs.Fmt.{digits}
 use Rattle.std.proofs.lemmas.List.Elements.{All-cons, All-head, All-tail}
-use Rattle.control_syntax.specs.declared.part.Part.{Part}
 use Rattle.control_syntax.specs.declared.part.Part.TheOpen.{Part-F}
 use Rattle.control_syntax.specs.declared.part.Part.TheFolds.{fold-roll-Part}
 use Rattle.control_syntax.specs.Examples.{FormsInBytes, GoesRoundOnce, NumbersOfPrograms, OneOfEach, goal, truth}

@@ -2,6 +2,8 @@
 use Rattle.std.proofs.Common.{if◌then◌else◌, ◌≡◌, ◌↔◌, ◌≢◌, ◌<◌, ◌≤◌, ◌^◌, ℕ, Bool, true, false, List, [], ◌∷◌, codes, length, Some, None, Result, Ok, Err, inl, inr, refl, sym, ap, subst, ◌∙◌, arith}
 use Rattle.std.specs.Fmt.{decimal}
 use Rattle.std.proofs.lemmas.Option.{same_Some}
+use Rattle.list_laws.proofs.Tests.{some_none}
+use Rattle.list_laws.proofs.Elements.{same_head, same_tail}
 use Rattle.cca_base.specs.declared.codes.TheConstants.{MALFORMED, NAME_UNKNOWN, LIMIT}
 use Rattle.cca_base.specs.declared.cube.Pair.{Pair}
 use Rattle.cca_base.specs.declared.events.Stop.{Stop}
@@ -72,25 +74,16 @@ first_rank (Repeat rounds) = refl
 first_rank Done = refl
 first_rank End = refl
 
-pub tail_is : (a b : Lexeme) (ls rest : List Lexeme) → a ∷ ls ≡ b ∷ rest → ls ≡ rest
-tail_is a b ls rest e = cc
-
-head_is : (a b : Lexeme) (ls rest : List Lexeme) → a ∷ ls ≡ b ∷ rest → a ≡ b
-head_is a b ls rest e = cc
-
 -- items with one first word have one form
 pub same_rank : (i j : Item) (ls rest : List Lexeme) → first_word i ∷ ls ≡ first_word j ∷ rest → rank i ≡ rank j
-same_rank i j ls rest e = sym (first_rank i) ∙ ap rank_of (head_is (first_word i) (first_word j) ls rest e) ∙ first_rank j
+same_rank i j ls rest e = sym (first_rank i) ∙ ap rank_of (same_head (first_word i) (first_word j) ls rest e) ∙ first_rank j
 
 -- the form of an item that begins with the word
 rank_by : (k : ℕ) (l : Lexeme) (i : Item) (ls : List Lexeme) → l ∷ ls ≡ first_word i ∷ behind i → rank_of l ≡ k → k ≡ rank i
-rank_by k l i ls e is = sym is ∙ ap rank_of (head_is l (first_word i) ls (behind i) e) ∙ first_rank i
+rank_by k l i ls e is = sym is ∙ ap rank_of (same_head l (first_word i) ls (behind i) e) ∙ first_rank i
 
 no : {P : Type 0} → true ≡ false → P
 no e = absurd cc
-
-some_none : {A P : Type 0} (x : A) → Some x ≡ None → P
-some_none x e = absurd cc
 
 -- ---- items whose word stands alone
 
@@ -189,7 +182,7 @@ module _ (m : PlantModel) where
       let spelled : AreSpelling grammar (first_word i ∷ ls) i = (ap (λ (y : List Lexeme). first_word i ∷ y) (e ∙ sym (bare_behind i bare)), s.1) in
       (i, spelled, subst (λ (x : Line). SaidByItem grammar (IsNamed m) (AppliesToWords m) i (Ok x)) (sym is) s.0)
   alone_says i ls (Err code) bare (some, is) =
-      inl (is, λ j s. nothing_behind ls some (tail_is _ _ ls (behind j) s.0 ∙ bare_behind j (bare_by_rank i j bare (same_rank i j ls (behind j) s.0))))
+      inl (is, λ j s. nothing_behind ls some (same_tail _ _ ls (behind j) s.0 ∙ bare_behind j (bare_by_rank i j bare (same_rank i j ls (behind j) s.0))))
 
   -- the same of what a call answered
   alone_here : (i : Item) (ls : List Lexeme) (r : Result Line Stop) → IsBare i → Answers r (IsAlone (bare_line i) ls) → Answers r (IsSaidByWords m (first_word i ∷ ls))
@@ -203,7 +196,7 @@ module _ (m : PlantModel) where
   -- ---- pairs
 
   reach_only : (ls : List Lexeme) (i : Item) → AreSpelling grammar (word (codes "reach") ∷ ls) i → (ps : List NamedPair) × (only_pairs ls ≡ Some ps)
-  reach_only ls (Reach ps) (e, h) = (ps, ap only_pairs (tail_is _ _ ls _ e) ∙ reads_only_pairs ps h.0 h.1)
+  reach_only ls (Reach ps) (e, h) = (ps, ap only_pairs (same_tail _ _ ls _ e) ∙ reads_only_pairs ps h.0 h.1)
   reach_only ls i (e, h) = let same : 1 ≡ rank i = rank_by 1 (word (codes "reach")) i ls e refl in absurd cc
 
   pub reach_unformed : (ls : List Lexeme) → None ≡ only_pairs ls → IsSaidByWords m (word (codes "reach") ∷ ls) (Err MALFORMED)
@@ -245,9 +238,9 @@ module _ (m : PlantModel) where
   form_deep false text = (λ x. x, λ x. x)
 
   form_only : (choice : Bool) (i : Item) (ls : List Lexeme) → AreSpelling grammar (form_word choice ∷ ls) i → (text : Whole) × (ls ≡ spelling text)
-  form_only true (Choose text) ls (e, h) = (text, tail_is _ _ ls _ e)
+  form_only true (Choose text) ls (e, h) = (text, same_tail _ _ ls _ e)
   form_only true i ls (e, h) = let same : 5 ≡ rank i = rank_by 5 (word (codes "choose")) i ls e refl in absurd cc
-  form_only false (Await text) ls (e, h) = (text, tail_is _ _ ls _ e)
+  form_only false (Await text) ls (e, h) = (text, same_tail _ _ ls _ e)
   form_only false i ls (e, h) = let same : 2 ≡ rank i = rank_by 2 (word (codes "await")) i ls e refl in absurd cc
 
   module _ (choice : Bool) where
@@ -292,7 +285,7 @@ module _ (m : PlantModel) where
 
   repeat_only : (ls : List Lexeme) (i : Item) → AreSpelling grammar (word (codes "repeat") ∷ ls) i → (n : ℕ) × (n < 2 ^ 128) × (only_digits ls ≡ Some (decimal n))
   unfolding only_digits
-  repeat_only ls (Repeat n) (e, h) = (n, h, ap only_digits (tail_is _ _ ls _ e))
+  repeat_only ls (Repeat n) (e, h) = (n, h, ap only_digits (same_tail _ _ ls _ e))
   repeat_only ls i (e, h) = let same : 7 ≡ rank i = rank_by 7 (word (codes "repeat")) i ls e refl in absurd cc
 
   digits_read : (ls : List Lexeme) (digits : List ℕ) → only_digits ls ≡ Some digits → ls ≡ number digits ∷ []

@@ -1,9 +1,8 @@
 -- When the lines that close, part or end blocks are unmatched, by the lines that were read.
-use Rattle.std.proofs.Common.{◌≡◌, ◌<◌, ◌≤◌, ◌+◌, ◌↔◌, ℕ, Bool, true, false, not, List, [], ◌∷◌, ◌++◌, length, count_by, cond, Option, Some, None, Ok, refl, sym, ap, subst, ◌∙◌, append_assoc, append-nil, arith}
+use Rattle.std.proofs.Common.{◌≡◌, ◌+◌, ℕ, Bool, true, false, not, List, [], ◌∷◌, ◌++◌, length, count_by, cond, Some, None, refl, sym, ap, subst, ◌∙◌, append_assoc, append-nil, arith}
 use Rattle.std.proofs.lemmas.List.Sums.{sum_by-cons}
-use Rattle.cca_base.specs.declared.formula.Formula.{Formula}
 use Rattle.cca_base.specs.PlantModel.{PlantModel}
-use Rattle.control_syntax.specs.Codes.{IsChoose, IsUnmatched}
+use Rattle.control_syntax.specs.Codes.{IsChoose}
 use Rattle.control_syntax.specs.Items.{Otherwise, Done, End}
 use Rattle.control_syntax.specs.Matched.{AreParts, EndInChoose, IsReadBehind, LimitsCountLines, ReadsAs, UnmatchedByLines, closes_block}
 use Rattle.control_syntax.specs.Reading.{Place, Reading, after, block_part, moved, nothing_read, put_in, turned_block}
@@ -16,7 +15,7 @@ use Rattle.control_syntax.specs.declared.line.Line.{Line}
 use Rattle.control_syntax.specs.declared.line.Line.TheVariants as line
 use Rattle.control_syntax.specs.declared.part.Part.{Part, roll-Part}
 use Rattle.control_syntax.specs.declared.part.Part.TheOpen.{Part-F}
-use Rattle.control_syntax.proofs.ReadAsWritten.{state}
+use Rattle.control_syntax.proofs.ReadAsWritten.{state, as_deep}
 use Rattle.control_syntax.proofs.Runs.{MayCome, Runs, stands}
 use Rattle.control_syntax.proofs.WrittenIsRead.{put_all, put_in_block, put_outside}
 
@@ -265,10 +264,6 @@ unmatched_by_lines m texts ls r read =
 
 abbrev one_if : Bool → ℕ
 one_if b = cond b 1 0
-
-as_deep : (p : Part) (own : List Part) (bs : List Block) → length (put_in p own bs).open_blocks ≡ length bs
-as_deep p own [] = refl
-as_deep p own (b ∷ bs) = refl
 
 line_counts : (l : Line) (own : List Part) (bs : List Block) → is_inside l ≡ true → is_unmatched bs l ≡ false
     → length bs + one_if (begins_block l) ≡ one_if (closes_block l) + length (moved l (top own bs)).open_blocks

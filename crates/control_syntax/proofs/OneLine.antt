@@ -2,6 +2,7 @@
 use Rattle.std.proofs.Common.{◌≡◌, ℕ, List, [], ◌∷◌, Result, sym, ap, subst, ◌∙◌, true, false}
 use Rattle.std.specs.Fmt.{decimal}
 use Rattle.std.proofs.lemmas.Option.{same_Some}
+use Rattle.list_laws.proofs.Elements.{same_tail}
 use Rattle.cca_base.specs.declared.cube.Pair.{Pair}
 use Rattle.cca_base.specs.declared.formula.Formula.{Formula}
 use Rattle.cca_base.specs.PlantModel.{PlantModel}
@@ -20,8 +21,8 @@ use Rattle.control_syntax.specs.Reading.{Reading}
 use Rattle.control_syntax.specs.declared.line.Line.{Line}
 use Rattle.control_syntax.specs.declared.line.Line.TheVariants as line
 use Rattle.control_syntax.proofs.CodesHere.{here, item_here}
-use Rattle.control_syntax.proofs.LineWords.{made, rank, same_rank, tail_is, formula_asks}
-use Rattle.script_reader.proofs.FormulaTexts.{same_answer}
+use Rattle.control_syntax.proofs.LineWords.{made, rank, same_rank, formula_asks}
+use Rattle.formula_syntax.proofs.FormulaTexts.{same_answer}
 
 digits_are : (a b : List ℕ) → ◌≡◌ {A = List Lexeme} (number a ∷ []) (number b ∷ []) → a ≡ b
 digits_are a b e = let first : ◌≡◌ {A = Lexeme} (number a) (number b) = cc in ap (λ (l : Lexeme). l.1) first
@@ -53,20 +54,20 @@ module _ (m : PlantModel) (r : Reading) where
   -- items that are spelled alike say one thing
   spelled_alike : (i j : Item) (a b : Result Line ℕ) → grammar.spelled i ≡ grammar.spelled j → IsSpelled i → IsSpelled j → Says i a → Says j b → a ≡ b
   spelled_alike (Reach ps) (Reach qs) a b e h k x y =
-      let same = same_Some ps qs (sym (reads_only_pairs ps h.0 h.1) ∙ ap only_pairs (tail_is _ _ (behind (Reach ps)) (behind (Reach qs)) e) ∙ reads_only_pairs qs k.0 k.1) in
+      let same = same_Some ps qs (sym (reads_only_pairs ps h.0 h.1) ∙ ap only_pairs (same_tail _ _ (behind (Reach ps)) (behind (Reach qs)) e) ∙ reads_only_pairs qs k.0 k.1) in
       says_once (Reach qs) a b (subst (λ (z : List NamedPair). Says (Reach z) a) same x) y
   spelled_alike (Await s) (Await t) a b e h k x y =
       let said = λ (o : Result Formula ℕ). here m r (made m (λ f. line.Await f) o) in
-      let same = same_answer m s t (tail_is _ _ (spelling s) (spelling t) e) in
+      let same = same_answer m s t (same_tail _ _ (spelling s) (spelling t) e) in
       says_once (Await s) a (said (formula_or_code m s)) x (item_here m r (Await s) _ (formula_asks m false s)) ∙ ap said same
       ∙ says_once (Await t) (said (formula_or_code m t)) b (item_here m r (Await t) _ (formula_asks m false t)) y
   spelled_alike (Choose s) (Choose t) a b e h k x y =
       let said = λ (o : Result Formula ℕ). here m r (made m (λ f. line.Choose f) o) in
-      let same = same_answer m s t (tail_is _ _ (spelling s) (spelling t) e) in
+      let same = same_answer m s t (same_tail _ _ (spelling s) (spelling t) e) in
       says_once (Choose s) a (said (formula_or_code m s)) x (item_here m r (Choose s) _ (formula_asks m true s)) ∙ ap said same
       ∙ says_once (Choose t) (said (formula_or_code m t)) b (item_here m r (Choose t) _ (formula_asks m true t)) y
   spelled_alike (Repeat n) (Repeat l) a b e h k x y =
-      let same = same_number n l h k (digits_are (decimal n) (decimal l) (tail_is _ _ (behind (Repeat n)) (behind (Repeat l)) e)) in
+      let same = same_number n l h k (digits_are (decimal n) (decimal l) (same_tail _ _ (behind (Repeat n)) (behind (Repeat l)) e)) in
       says_once (Repeat l) a b (subst (λ (z : ℕ). Says (Repeat z) a) same x) y
   spelled_alike Program Program a b e h k x y = says_once Program a b x y
   spelled_alike Seq Seq a b e h k x y = says_once Seq a b x y

@@ -1,6 +1,6 @@
 -- Lines that run to the end of a program are that program, as it is written.
-use Rattle.std.proofs.Common.{◌≡◌, ◌<◌, ◌≤◌, ◌+◌, ◌⊎◌, ◌||◌, ◌&&◌, not, nat_le, max, ℕ, Bool, true, false, List, [], ◌∷◌, ◌++◌, length, Some, None, inl, inr, refl, sym, ap, subst, ◌∙◌, append_assoc, append-nil, arith}
-use Rattle.std.proofs.lemmas.Bool.{leb-false}
+use Rattle.std.proofs.Common.{◌≡◌, ◌<◌, ◌≤◌, ◌+◌, ◌⊎◌, ◌&&◌, nat_le, max, ℕ, Bool, true, false, List, [], ◌∷◌, ◌++◌, length, Some, None, inl, inr, refl, sym, ap, subst, ◌∙◌, append_assoc, append-nil, arith}
+use Rattle.std.proofs.lemmas.Bool.{leb-false, or_parts, not-false}
 use Rattle.std.proofs.lemmas.Option.{same_Some}
 use Rattle.cca_base.specs.declared.formula.Formula.{Formula}
 use Rattle.control_syntax.specs.declared.block.Block.{Block}
@@ -18,17 +18,13 @@ use Rattle.control_syntax.proofs.Runs.{Runs}
 
 -- ---- the limits that are kept
 
-or_false : (x y : Bool) → (x || y) ≡ false → (x ≡ false) × (y ≡ false)
-or_false true y e = absurd cc
-or_false false y e = (refl, e)
-
 and_false : (x y : Bool) → x ≡ true → (x && y) ≡ false → y ≡ false
 and_false true y e f = f
 and_false false y e f = absurd cc
 
 module _ (count blocks : ℕ) (l : Line) (within : passes_limit count blocks l ≡ false) where
   kept : ((is_inside l && nat_le MAX_LINES count) ≡ false) × ((begins_block l && nat_le MAX_BLOCKS blocks) ≡ false)
-  kept = or_false (is_inside l && nat_le MAX_LINES count) (begins_block l && nat_le MAX_BLOCKS blocks) within
+  kept = or_parts (is_inside l && nat_le MAX_LINES count) (begins_block l && nat_le MAX_BLOCKS blocks) within
 
   line_left : is_inside l ≡ true → count < MAX_LINES
   line_left h = leb-false MAX_LINES count (and_false (is_inside l) (nat_le MAX_LINES count) h kept.0)
@@ -131,6 +127,11 @@ module _ (Next : Part → List Line → Type 0) (n : ℕ) (ls : List Line) where
         next = subst (λ (g : Formula). Next (block_part (kind.Otherwise g (parts_of s.first)) (parts_of s.second)) s.rest) (sym same) s.next;
       }
 
+-- a part that is put in leaves as many blocks open
+pub as_deep : (p : Part) (own : List Part) (bs : List Block) → length (put_in p own bs).open_blocks ≡ length bs
+as_deep p own [] = refl
+as_deep p own (b ∷ bs) = refl
+
 module _ (part : Part) where
   -- the rest of the program, outside all blocks
   record Top (own : List Part) (ls : List Line) : Type 0 where
@@ -206,14 +207,6 @@ module _ (part : Part) where
 
   -- ---- line by line
 
-  as_deep : (p : Part) (own : List Part) (bs : List Block) → length (put_in p own bs).open_blocks ≡ length bs
-  as_deep p own [] = refl
-  as_deep p own (b ∷ bs) = refl
-
-  not_false : (b : Bool) → not b ≡ false → b ≡ true
-  not_false true e = refl
-  not_false false e = absurd cc
-
   -- what is found at a place with so many lines read
   abbrev Found : ℕ → List Part → List Block → List Line → Type 0
   Found c own bs ls = at_blocks own bs ls × (c + length ls ≤ MAX_LINES + 1)
@@ -273,7 +266,7 @@ module _ (part : Part) where
   found (line.Otherwise ∷ ls) c own (b ∷ bs) next few flat (going, may, run) some =
       let left = line_left c (length (b ∷ bs)) line.Otherwise may.limit refl in
       let rest = found ls (c + 1) own (turned_block b.kind b.parts ∷ bs) next (omega (arith, left)) flat run some in
-      (otherwise_at own bs b.kind b.parts ls (not_false (is_choose b.kind) may.matched) rest.0, omega (arith, rest.1))
+      (otherwise_at own bs b.kind b.parts ls (not-false (is_choose b.kind) may.matched) rest.0, omega (arith, rest.1))
   found (line.End ∷ ls) c own (b ∷ bs) next few flat (going, may, run) some = let never : true ≡ false = may.matched in absurd cc
   found (line.End ∷ ls) c own [] next few flat (going, may, run) some =
       let e = whole_end c own ls next run some in (

@@ -1,5 +1,6 @@
 -- Lines of bytes are read as the lines that they say are run.
 use Rattle.std.proofs.Common.{◌≡◌, ◌<◌, ℕ, Bool, true, false, List, [], ◌∷◌, length, Some, None, inl, inr, refl, sym, ap, subst, ◌∙◌, arith}
+use Rattle.std.proofs.lemmas.Bool.{false_from_ne_true}
 use Rattle.cca_base.specs.declared.codes.TheConstants.{MALFORMED, NAME_UNKNOWN, LIMIT, BROKEN_GOAL, REPEATED_PAIR, UNMATCHED}
 use Rattle.cca_base.specs.PlantModel.{PlantModel}
 use Rattle.control_syntax.specs.declared.line.Line.{Line}
@@ -10,10 +11,6 @@ use Rattle.control_syntax.specs.Reading.{Reading, after}
 use Rattle.control_syntax.specs.Tests.{is_unmatched, out_of_place, passes_limit}
 use Rattle.control_syntax.specs.Written.{AreLines, AreRead, MayStand}
 use Rattle.control_syntax.proofs.CodesHere.{by_row, decided}
-
-is_false : (b : Bool) → (b ≡ true → ⊥) → b ≡ false
-is_false true h = absurd (h refl)
-is_false false h = refl
 
 both : {P : Type 0} (b : Bool) → b ≡ true → b ≡ false → P
 both true e f = absurd cc
@@ -41,9 +38,9 @@ module _ (m : PlantModel) where
           once = λ x. none REPEATED_PAIR (inr (inr (inr (inr (inl (refl, x))))));
         },
         record {
-          place = is_false (out_of_place r.started l) (λ t. none MALFORMED (inl (refl, d.place.1 t)));
-          limit = is_false (passes_limit r.count (length r.place.open_blocks) l) (λ t. none LIMIT (inr (inr (inl (refl, d.limit.1 t)))));
-          matched = is_false (is_unmatched r.place.open_blocks l) (λ t. none UNMATCHED (inr (inr (inr (inr (inr (refl, d.unmatched.1 t)))))));
+          place = false_from_ne_true (out_of_place r.started l) (λ t. none MALFORMED (inl (refl, d.place.1 t)));
+          limit = false_from_ne_true (passes_limit r.count (length r.place.open_blocks) l) (λ t. none LIMIT (inr (inr (inl (refl, d.limit.1 t)))));
+          matched = false_from_ne_true (is_unmatched r.place.open_blocks l) (λ t. none UNMATCHED (inr (inr (inr (inr (inr (refl, d.unmatched.1 t)))))));
         },
       )
 

@@ -1,6 +1,7 @@
 -- What was read may be run on the model, line by line.
-use Rattle.std.proofs.Common.{Contains, ◌≡◌, ◌<◌, ◌≤◌, ℕ, Bool, true, false, List, [], ◌∷◌, ◌++◌, All, Option, Some, None, Ok, inl, inr, refl, sym, subst, arith}
+use Rattle.std.proofs.Common.{Contains, ◌≡◌, ◌<◌, ◌≤◌, ℕ, false, List, [], ◌∷◌, ◌++◌, All, Option, Some, None, Ok, inl, inr, refl, sym, subst, arith}
 use Rattle.std.proofs.lemmas.List.Elements.{All-cons, All-head, All-nil, All-push, All-tail}
+use Rattle.std.proofs.lemmas.Bool.{false_from_ne_true}
 use Rattle.cca_base.specs.declared.codes.TheConstants.{NAME_UNKNOWN, LIMIT, BROKEN_GOAL, REPEATED_PAIR}
 use Rattle.cca_base.specs.declared.cube.Pair.{Pair}
 use Rattle.cca_base.specs.Model.{HasMode, IsFormula, is_broken}
@@ -23,13 +24,8 @@ use Rattle.control_syntax.specs.Codes.{Applies, IsNamed, IsSaid}
 use Rattle.control_syntax.specs.Items.{Item, Program, Reach, Await, Seq, Both, Choose, Otherwise, Repeat, Done, End, IsSpelled}
 use Rattle.control_syntax.specs.Kept.{IsGoal, IsSound, IsSoundBlock, IsSoundKind, MayRunSoFar}
 use Rattle.control_syntax.specs.Reading.{Place, Reading, after, block_part, closed_in, inside, led, moved, put_in, seq, turned_block, turned_in}
-use Rattle.script_reader.proofs.FormulaTexts.{formula_of}
+use Rattle.formula_syntax.proofs.FormulaTexts.{formula_of}
 use Rattle.control_syntax.proofs.SoundParts.{sound_await, sound_both, sound_choose, sound_reach, sound_repeat, sound_seq}
-
--- a test is false where its being true is absurd
-is_false : (b : Bool) → (b ≡ true → ⊥) → b ≡ false
-is_false true h = absurd (h refl)
-is_false false h = refl
 
 module _ (m : PlantModel) where
   -- what the line adds may be run
@@ -50,21 +46,21 @@ module _ (m : PlantModel) where
   module _ (r : Reading) where
     item_sound : (i : Item) (l : Line) → IsSpelled i → IsNamed m i l → ((code : ℕ) → Applies m r i code → ⊥) → IsSoundLine l
     item_sound (Reach ps) l h (qs, e, is) none =
-        let once = is_false (has_item_twice qs) (λ t. none REPEATED_PAIR (inr (inr (inr (inr (inl (refl, twice_named (component_of m) (mode_pair m) (mode_names m) ps qs e t))))))) in
+        let once = false_from_ne_true (has_item_twice qs) (λ t. none REPEATED_PAIR (inr (inr (inr (inr (inl (refl, twice_named (component_of m) (mode_pair m) (mode_names m) ps qs e t))))))) in
         let mode : (q : Pair) → Contains qs q → HasMode m q.item q.value = λ q among. let from = comes_from (mode_pair m) ps qs q e among in mode_is m from.0 q from.2 in
         let whole : (q : Pair) → Contains qs q → is_broken m.moves q.item q.value ≡ false = λ q among.
         let from = comes_from (mode_pair m) ps qs q e among in
-        is_false (is_broken m.moves q.item q.value) (λ t. none BROKEN_GOAL (inr (inr (inr (inl (refl, (from.0, q, from.1, from.2, t)))))))
+        false_from_ne_true (is_broken m.moves q.item q.value) (λ t. none BROKEN_GOAL (inr (inr (inr (inl (refl, (from.0, q, from.1, from.2, t)))))))
         in
         let goal : IsGoal qs = (omega (arith, as_many (mode_pair m) ps qs e, h.0), once_each qs once) in
         subst IsSoundLine (sym is) (sound_reach m qs goal (all_from (λ (q : Pair). HasMode m q.item q.value) qs mode) (all_from (λ (q : Pair). is_broken m.moves q.item q.value ≡ false) qs whole))
     item_sound (Await text) l h is none =
-        let known = is_false (names_unknown m text) (λ u. none NAME_UNKNOWN (inr (inl (refl, u)))) in
-        let shallow = is_false (is_deep text) (λ d. none LIMIT (inr (inr (inl (refl, inl d))))) in
+        let known = false_from_ne_true (names_unknown m text) (λ u. none NAME_UNKNOWN (inr (inl (refl, u)))) in
+        let shallow = false_from_ne_true (is_deep text) (λ d. none LIMIT (inr (inr (inl (refl, inl d))))) in
         subst IsSoundLine (sym is) (sound_await m _ (formula_of m text known shallow))
     item_sound (Choose text) l h is none =
-        let known = is_false (names_unknown m text) (λ u. none NAME_UNKNOWN (inr (inl (refl, u)))) in
-        let shallow = is_false (is_deep text) (λ d. none LIMIT (inr (inr (inl (refl, inl d))))) in
+        let known = false_from_ne_true (names_unknown m text) (λ u. none NAME_UNKNOWN (inr (inl (refl, u)))) in
+        let shallow = false_from_ne_true (is_deep text) (λ d. none LIMIT (inr (inr (inl (refl, inl d))))) in
         subst IsSoundLine (sym is) (formula_of m text known shallow)
     item_sound (Repeat n) l h is none =
         let some : n < 1 → ⊥ = λ few. none LIMIT (inr (inr (inl (refl, inl (inl few))))) in

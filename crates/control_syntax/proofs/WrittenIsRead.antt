@@ -11,7 +11,7 @@ use Rattle.control_syntax.specs.declared.part.Part.{Part}
 use Rattle.control_syntax.specs.Reading.{Place, Reading, block_part, nothing_read, put_in, seq}
 use Rattle.control_syntax.specs.Tests.{begins_block, is_inside, passes_limit}
 use Rattle.control_syntax.specs.Written.{IsProgram, Text, Texts, Reach, Await, Seq, Both, Choose, Either, Repeat, none, more, deepest, depth, part_of, parts_of, text_before, texts_before}
-use Rattle.control_syntax.proofs.ReadAsWritten.{state}
+use Rattle.control_syntax.proofs.ReadAsWritten.{state, as_deep}
 use Rattle.control_syntax.proofs.Runs.{Runs}
 
 abbrev mutual
@@ -81,10 +81,6 @@ put_in_block (p ∷ ps) own k parts bs =
 pub put_outside : (ps own : List Part) → put_all ps own [] ≡ record { parts = own ++ ps; open_blocks = [] }
 put_outside [] own = ap (λ (y : List Part). record { parts = y; open_blocks = [] }) (sym (append-nil own))
 put_outside (p ∷ ps) own = put_outside ps (own ++ p ∷ []) ∙ ap (λ (y : List Part). record { parts = y; open_blocks = [] }) (append_assoc own (p ∷ []) ps)
-
-as_deep : (p : Part) (own : List Part) (bs : List Block) → length (put_in p own bs).open_blocks ≡ length bs
-as_deep p own [] = refl
-as_deep p own (b ∷ bs) = refl
 
 -- another count, which is the same
 recount : (c d : ℕ) (place : Place) (ls : List Line) (next : Reading) → c ≡ d → Runs (state c place) ls next → Runs (state d place) ls next

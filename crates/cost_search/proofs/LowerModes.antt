@@ -1,12 +1,12 @@
 -- Modes that are lowered component by component.
-use Rattle.std.proofs.Common.{◌≡◌, ◌⊎◌, inl, inr, ℕ, zero, suc, ◌+◌, ◌<◌, List, [], ◌∷◌, ◌++◌, length, take, get_or, refl, sym, ap, subst, ◌∙◌, arith}
+use Rattle.std.proofs.Common.{◌≡◌, ◌⊎◌, inl, inr, ℕ, ◌+◌, ◌<◌, List, [], ◌∷◌, ◌++◌, length, take, get_or, refl, sym, ap, subst, ◌∙◌, arith}
 use Rattle.std.specs.Ordering.{nat_cmp}
 use Rattle.std.specs.Cmp.Lexicographic.{slice_cmp}
 use Rattle.std.proofs.lemmas.List.{take_more, take_all, length-take-le}
-use Rattle.list_laws.proofs.Orders.{nat_cmp-same}
+use Rattle.list_laws.proofs.Orders.{nat_cmp-same, then_cases, less_cmp, three_ways}
 use Rattle.cca_base.specs.Estimates.{IsEarlier}
 use Rattle.cost_search.specs.Lowered.{IsLowered}
-use Rattle.cost_search.proofs.Ranks.{less_nat, then_cases, then_first, then_second}
+use Rattle.cost_search.proofs.Ranks.{then_first, then_second}
 
 -- a difference stays where both go on
 earlier_more : (s t : List ℕ) (x y : ℕ) → length s ≡ length t → IsEarlier s t → IsEarlier (s ++ x ∷ []) (t ++ y ∷ [])
@@ -20,7 +20,7 @@ earlier_more (a ∷ s) (b ∷ t) x y l e = elim (then_cases (nat_cmp a b) (slice
 
 -- the first difference decides
 earlier_here : (s : List ℕ) (x y : ℕ) → x < y → IsEarlier (s ++ x ∷ []) (s ++ y ∷ [])
-earlier_here [] x y h = then_first (nat_cmp x y) (slice_cmp nat_cmp [] []) (less_nat x y h)
+earlier_here [] x y h = then_first (nat_cmp x y) (slice_cmp nat_cmp [] []) (less_cmp x y h)
 earlier_here (a ∷ s) x y h = then_second (nat_cmp a a) (slice_cmp nat_cmp (s ++ x ∷ []) (s ++ y ∷ [])) (nat_cmp-same a a refl) (earlier_here s x y h)
 
 pub lowering_improves : (Want : List ℕ → Type 0) (c : ℕ) (s t : List ℕ) → IsLowered Want c s → Want t → take c t ≡ take c s → IsLowered Want c t
@@ -41,17 +41,6 @@ lowering_ends Want n s long l t want =
       | inl same ↦ inl (sym whole_t ∙ same ∙ whole_s)
       | inr later ↦ inr (subst (λ z. IsEarlier z t) whole_s (subst (λ z. IsEarlier (take n s) z) whole_t later))
     ]
-
--- three ways in which numbers compare
-pub three_ways : (x y : ℕ) → (x < y) ⊎ ((x ≡ y) ⊎ (y < x))
-three_ways zero zero = inr (inl refl)
-three_ways zero (suc y) = inl (omega arith)
-three_ways (suc x) zero = inr (inr (omega arith))
-three_ways (suc x) (suc y) = elim (three_ways x y) [
-  | inl less ↦ inl (omega arith)
-  | inr (inl same) ↦ inr (inl (ap suc same))
-  | inr (inr more) ↦ inr (inr (omega arith))
-]
 
 fixed_at : (c : ℕ) (s t : List ℕ) → length s ≡ length t → c < length s → (take c t ≡ take c s) ⊎ IsEarlier (take c s) (take c t)
     → (take c t ≡ take c s → get_or t c 0 < get_or s c 0 → ⊥) → (take (c + 1) t ≡ take (c + 1) s) ⊎ IsEarlier (take (c + 1) s) (take (c + 1) t)

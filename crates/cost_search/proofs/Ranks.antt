@@ -6,13 +6,12 @@ use Rattle.std.specs.Cmp.{IsTotalOrder, then_total, on_total, nat_cmp_total}
 use Rattle.std.specs.Cmp.Lexicographic.{slice_cmp, nat_list_cmp_total}
 use Rattle.std.specs.declared.cmp.Ordering.{Ordering}
 use Rattle.std.specs.declared.cmp.Ordering.TheVariants.{Less, Equal, Greater}
-use Rattle.std.proofs.lemmas.Bool.Decides.{nat_tests}
 use Rattle.std.proofs.lemmas.Cmp.{tied_itself}
 use Rattle.std.proofs.lemmas.List.{get_or-take, get_or-drop, get_or_default, length-take}
 use Rattle.std.proofs.lemmas.List.Sums.{sum_by-cons}
 use Rattle.std.proofs.lemmas.List.Elements.{All-head, All-tail, Contains-get_or}
 use Rattle.std.proofs.lemmas.Map.Lookups.{exact_unsigned}
-use Rattle.list_laws.proofs.Orders.{then_equal, nat_cmp-same}
+use Rattle.list_laws.proofs.Orders.{then_equal, nat_cmp-same, then_cases, less_cmp, cmp_less, same_list}
 use Rattle.cca_base.specs.Estimates.{IsEarlier}
 use Rattle.cca_base.specs.declared.choice.Choice.{Choice}
 use Rattle.cost_search.specs.declared.part.Span.{Span}
@@ -22,18 +21,7 @@ use Rattle.cost_search.specs.SearchParts.{box, heads, head_of, nothing, IsSpan}
 use Rattle.cost_search.specs.Queue.{modes_of, cost_of}
 use Rattle.cost_search.proofs.Boxes.{head_of-range}
 
-pub nat_less : (x y : ℕ) → nat_cmp x y ≡ Less → x < y
-nat_less x y e = grind (arith, nat_tests)
-
-pub less_nat : (x y : ℕ) → x < y → nat_cmp x y ≡ Less
-less_nat x y h = grind (arith, nat_tests)
-
 -- ---- two orders, the one after the other
-
-pub then_cases : (a b : Ordering) → ordering_then a b ≡ Less → (a ≡ Less) ⊎ ((a ≡ Equal) × (b ≡ Less))
-then_cases Less b e = inl refl
-then_cases Equal b e = inr (refl, e)
-then_cases Greater b e = absurd (cc)
 
 pub then_first : (a b : Ordering) → a ≡ Less → ordering_then a b ≡ Less
 then_first a b e = ap (λ o. ordering_then o b) e
@@ -41,26 +29,17 @@ then_first a b e = ap (λ o. ordering_then o b) e
 pub then_second : (a b : Ordering) → a ≡ Equal → b ≡ Less → ordering_then a b ≡ Less
 then_second a b e f = ap (λ o. ordering_then o b) e ∙ f
 
-same_list : (xs ys : List ℕ) → slice_cmp nat_cmp xs ys ≡ Equal → xs ≡ ys
-same_list [] [] e = refl
-same_list [] (y ∷ ys) e = absurd (cc)
-same_list (x ∷ xs) [] e = absurd (cc)
-same_list (x ∷ xs) (y ∷ ys) e =
-    let both = then_equal (nat_cmp x y) (slice_cmp nat_cmp xs ys) e in
-    let first : x ≡ y = exact_unsigned x y both.0 in
-    let rest : xs ≡ ys = same_list xs ys both.1 in cc
-
 -- ---- costs and modes together
 
 pub before_by_cost : (a b : ℕ) (s t : List ℕ) → a < b → IsBefore a s b t
-before_by_cost a b s t h = then_first (nat_cmp a b) (slice_cmp nat_cmp s t) (less_nat a b h)
+before_by_cost a b s t h = then_first (nat_cmp a b) (slice_cmp nat_cmp s t) (less_cmp a b h)
 
 pub before_by_modes : (a b : ℕ) (s t : List ℕ) → a ≡ b → IsEarlier s t → IsBefore a s b t
 before_by_modes a b s t e h = then_second (nat_cmp a b) (slice_cmp nat_cmp s t) (nat_cmp-same a b e) h
 
 before_cases : (a b : ℕ) (s t : List ℕ) → IsBefore a s b t → (a < b) ⊎ ((a ≡ b) × IsEarlier s t)
 before_cases a b s t h = elim (then_cases (nat_cmp a b) (slice_cmp nat_cmp s t) h) [
-  | inl e ↦ inl (nat_less a b e)
+  | inl e ↦ inl (cmp_less a b e)
   | inr both ↦ inr (exact_unsigned a b both.0, both.1)
 ]
 
@@ -127,7 +106,7 @@ more_upto x y xs ys (inl same) (inr h) =
 more_upto x y xs ys (inr less) u =
     let rest : cost_of xs ≤ cost_of ys = upto_cost (cost_of xs) (cost_of ys) (modes_of xs) (modes_of ys) u in
     inr (elim (then_cases (nat_cmp x.cost y.cost) (nat_cmp x.mode y.mode) less) [
-      | inl cost ↦ (let lt : x.cost < y.cost = nat_less x.cost y.cost cost in before_by_cost (x.cost + cost_of xs) (y.cost + cost_of ys) (x.mode ∷ modes_of xs) (y.mode ∷ modes_of ys) (omega arith))
+      | inl cost ↦ (let lt : x.cost < y.cost = cmp_less x.cost y.cost cost in before_by_cost (x.cost + cost_of xs) (y.cost + cost_of ys) (x.mode ∷ modes_of xs) (y.mode ∷ modes_of ys) (omega arith))
       | inr both ↦ (let same : x.cost ≡ y.cost = exact_unsigned x.cost y.cost both.0 in
           let cases : (cost_of xs < cost_of ys) ⊎ (cost_of xs ≡ cost_of ys) = grind arith in
           elim cases [

@@ -7,18 +7,18 @@ use Rattle.std.proofs.lemmas.List.{get_or-take, get_or-drop, get_or_default, len
 use Rattle.std.proofs.lemmas.List.Elements.{All-nil, All-cons, All-head, All-tail, All-take, All-contains}
 use Rattle.std.proofs.lemmas.Map.Lookups.{exact_unsigned}
 use Rattle.cca_base.proofs.Members.{contains_cases, contains_here, contains_none}
-use Rattle.cca_base.proofs.Pairwise.{AllPairs-head, AllPairs-tail, AllPairs-take}
+use Rattle.list_laws.proofs.Pairwise.{AllPairs-head, AllPairs-tail, AllPairs-take}
+use Rattle.list_laws.proofs.Orders.{then_cases, cmp_less}
 use Rattle.cca_base.specs.declared.limits.TheConstants.{MAX_COST}
 use Rattle.cca_base.specs.Choices.{IsRow, choice_cmp}
 use Rattle.cca_base.specs.declared.choice.Choice.{Choice}
 use Rattle.cost_search.specs.declared.part.Span.{Span}
 use Rattle.cost_search.specs.SearchParts.{nothing, box, IsSpan}
 use Rattle.cost_search.specs.Bounds.{HasLeastFirst, IsStep}
-use Rattle.cost_search.proofs.Ranks.{nat_less, then_cases}
 
 cost_rises : (x y : Choice) → choice_cmp x y ≡ Less → x.cost ≤ y.cost
 cost_rises x y e = elim (then_cases (nat_cmp x.cost y.cost) (nat_cmp x.mode y.mode) e) [
-  | inl less ↦ omega (arith, nat_less x.cost y.cost less)
+  | inl less ↦ omega (arith, cmp_less x.cost y.cost less)
   | inr tied ↦ omega (arith, exact_unsigned x.cost y.cost tied.0)
 ]
 

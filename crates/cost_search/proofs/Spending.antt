@@ -83,10 +83,10 @@ zip_push R (a ∷ xs) (b ∷ ys) x y h r = (h.0, zip_push R xs ys x y h.1 r)
 longer : (cube : List Pair) (k : ℕ) → k < length cube → take (k + 1) cube ≡ take k cube ++ get_or cube k no_pair ∷ []
 longer cube k within = take_more cube k no_pair within
 
-pub names_more : (cube : List Pair) (k c : ℕ) → k < length cube → NamesComponent (take k cube) c → NamesComponent (take (k + 1) cube) c
+names_more : (cube : List Pair) (k c : ℕ) → k < length cube → NamesComponent (take k cube) c → NamesComponent (take (k + 1) cube) c
 names_more cube k c within (p, among, is) = (p, subst (λ l. Contains l p) (sym (longer cube k within)) (contains_old (take k cube) (get_or cube k no_pair) p among), is)
 
-pub names_here : (cube : List Pair) (k : ℕ) → k < length cube → NamesComponent (take (k + 1) cube) (item_at cube k)
+names_here : (cube : List Pair) (k : ℕ) → k < length cube → NamesComponent (take (k + 1) cube) (item_at cube k)
 names_here cube k within =
     let p = get_or cube k no_pair in
     (p, subst (λ l. Contains l p) (sym (longer cube k within)) (contains_last (take k cube) p), refl)

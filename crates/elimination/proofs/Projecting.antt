@@ -1,5 +1,5 @@
 -- Subjects projected away one by one.
-use Rattle.std.proofs.Common.{◌≡◌, ◌≢◌, ℕ, zero, suc, ◌<◌, ◌≤◌, Bool, true, false, List, length, replicate, refl, sym, ap, subst, ◌∙◌, arith, inl, inr, set, get_or, length-set, get_or-set_other, get_or-set_same, eq-eqb}
+use Rattle.std.proofs.Common.{◌≡◌, ◌≢◌, ℕ, zero, suc, ◌<◌, ◌≤◌, Bool, true, false, List, length, replicate, refl, sym, ap, subst, ◌∙◌, arith, inl, inr, set, get_or, get_or-set_other, get_or-set_same, eq-eqb}
 use Rattle.std.proofs.lemmas.Bool.{cases_eq, false≢true}
 use Rattle.std.proofs.lemmas.Grind.{same_number_lists}
 use Rattle.cca_base.specs.Flags.{IsSet, is_set}
@@ -8,6 +8,7 @@ use Rattle.clause_form.specs.declared.clause.Clause.{Clause}
 use Rattle.clause_form.specs.Clauses.{AllBelow, AllOthers, AreValues, all_met, any_below}
 use Rattle.elimination.specs.Projection.{AreAllDone, DifferAtMarks, IsLeft, IsProjectedSoFar}
 use Rattle.clause_form.proofs.SomeValue.{any_true, some_below}
+use Rattle.clause_form.proofs.SetValues.{values_set}
 
 -- ---- no subject yet
 
@@ -24,22 +25,7 @@ none_projected sizes n clauses xs h = (
       subst (λ ys. all_met ys clauses ≡ true) same other.3),
 )
 
-pub none_marked : (n x : ℕ) → IsSet (replicate n false) x → ⊥
-none_marked n x h = false≢true (sym (unmarked n x) ∙ h)
-
 -- ---- one subject more
-
-values_set : (sizes xs : List ℕ) (x v : ℕ) → AreValues sizes xs → v < get_or sizes x 0 → AreValues sizes (set xs x v)
-values_set sizes xs x v h small = record {
-  full = length-set xs x v ∙ h.full;
-  values = λ i l. elim (cases_eq i x) [
-    | inl e ↦
-        let at : get_or (set xs x v) i 0 ≡ v = ap (λ k. get_or (set xs x v) k 0) e ∙ get_or-set_same xs x v 0 (subst (λ k. k < length xs) e (omega (arith, l, h.full))) in
-        let size : get_or sizes i 0 ≡ get_or sizes x 0 = ap (λ k. get_or sizes k 0) e in
-        omega (arith, at, size, small)
-    | inr ne ↦ subst (λ k. k < get_or sizes i 0) (sym (get_or-set_other xs x i v 0 ne)) (h.values i l)
-  ];
-}
 
 marked_now : (marks : List Bool) (x u : ℕ) → x < length marks → is_set (set marks x true) u ≡ false → u ≢ x
 marked_now marks x u inside h e = false≢true (sym h ∙ ap (is_set (set marks x true)) e ∙ get_or-set_same marks x true false inside)

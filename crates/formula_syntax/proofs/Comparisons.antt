@@ -33,7 +33,7 @@ or_none true false = refl
 or_none false true = refl
 or_none false false = refl
 
-same_text : (a : List ℕ) → bytes_eq a a ≡ true
+pub same_text : (a : List ℕ) → bytes_eq a a ≡ true
 same_text a = (bytes_eq-Decides a a).1 refl
 
 bytes_sym : (a b : List ℕ) → bytes_eq a b ≡ bytes_eq b a

@@ -1,5 +1,6 @@
 -- Each formula's text is read, as what its parts say.
-use Rattle.std.proofs.Common.{◌≡◌, ℕ, ◌+◌, Bool, true, false, ◌||◌, codes, List, [], ◌∷◌, Option, Some, None, refl, ap, ◌∙◌, add-one}
+use Rattle.std.proofs.Common.{◌≡◌, ℕ, ◌+◌, Bool, true, false, codes, List, [], ◌∷◌, Option, Some, None, refl, ap, ◌∙◌, add-one}
+use Rattle.std.proofs.lemmas.Bool.{or_parts}
 use Rattle.std.specs.Str.{bytes_eq}
 use Rattle.cca_base.specs.PlantModel.{PlantModel}
 use Rattle.cca_base.specs.Names.{is_reserved}
@@ -26,10 +27,6 @@ here outer level place = record { outer = outer; level = level; place = place }
 abbrev pub level : Option Side → Option ReadParts → Option ReadParts → ℕ → Level
 level left any all n = record { left = left; any = any; all = all; nots = n }
 
-either_false : (a b : Bool) → (a || b) ≡ false → (a ≡ false) × (b ≡ false)
-either_false true b e = absurd cc
-either_false false b e = (refl, e)
-
 -- a word that may be a name is none of the words that begin a factor
 pub record BeginsNone (text : List ℕ) : Type 0 where
   pub not_word : bytes_eq text (codes "not") ≡ false
@@ -39,14 +36,14 @@ pub record BeginsNone (text : List ℕ) : Type 0 where
 pub begins_none : (text : List ℕ) → is_reserved text ≡ false → BeginsNone text
 begins_none text free =
     let test : List ℕ → Bool = bytes_eq text in
-    let a = either_false (test (codes "and")) _ free in
-    let b = either_false (test (codes "or")) _ a.1 in
-    let c = either_false (test (codes "not")) _ b.1 in
-    let d = either_false (test (codes "in")) _ c.1 in
-    let e = either_false (test (codes "implies")) _ d.1 in
-    let f = either_false (test (codes "iff")) _ e.1 in
-    let g = either_false (test (codes "true")) _ f.1 in
-    let h = either_false (test (codes "false")) _ g.1 in
+    let a = or_parts (test (codes "and")) _ free in
+    let b = or_parts (test (codes "or")) _ a.1 in
+    let c = or_parts (test (codes "not")) _ b.1 in
+    let d = or_parts (test (codes "in")) _ c.1 in
+    let e = or_parts (test (codes "implies")) _ d.1 in
+    let f = or_parts (test (codes "iff")) _ e.1 in
+    let g = or_parts (test (codes "true")) _ f.1 in
+    let h = or_parts (test (codes "false")) _ g.1 in
     record { not_word = c.0; true_word = g.0; false_word = h.0 }
 
 module _ (strict : Bool) (m : PlantModel) where
@@ -92,7 +89,7 @@ module _ (strict : Bool) (m : PlantModel) where
   last_of (Case part) = conjunction_read strict m part
   last_of (Or front last) = conjunction_read strict m last
 
-  pub all_cases : (d : Disjunction) → more_or_one (before d) (all_of (last_of d)) ≡ disjunction_read strict m d
+  all_cases : (d : Disjunction) → more_or_one (before d) (all_of (last_of d)) ≡ disjunction_read strict m d
   all_cases (Case part) = refl
   all_cases (Or front last) = refl
 
@@ -102,7 +99,7 @@ module _ (strict : Bool) (m : PlantModel) where
   whole_level (Implies a b) = level (Some (record { link = link.Implies; reading = any_of (disjunction_read strict m a) })) (before b) (Some (last_of b)) 0
   whole_level (Iff a b) = level (Some (record { link = link.Iff; reading = any_of (disjunction_read strict m a) })) (before b) (Some (last_of b)) 0
 
-  pub whole_ends : (t : Whole) → level_read (whole_level t) ≡ Some (whole_read strict m t)
+  whole_ends : (t : Whole) → level_read (whole_level t) ≡ Some (whole_read strict m t)
   whole_ends (Plain part) = rw (all_cases part) refl
   whole_ends (Implies a b) = rw (all_cases b) refl
   whole_ends (Iff a b) = rw (all_cases b) refl

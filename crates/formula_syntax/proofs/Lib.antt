@@ -15,3 +15,4 @@ pub mod FirstPlaces
 pub mod Spellings
 pub mod UnknownCommands
 pub mod NamesInGrowth
+pub mod FormulaTexts

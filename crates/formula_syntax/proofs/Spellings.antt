@@ -20,7 +20,7 @@ linked_apart f g l p q rest =
 
 -- a text is spelled alike before whatever stands behind it
 mutual
-  pub factor_apart : (t : Factor) → With (factor_spelled t)
+  factor_apart : (t : Factor) → With (factor_spelled t)
   factor_apart True rest = refl
   factor_apart False rest = refl
   factor_apart (Equal name value) rest = refl

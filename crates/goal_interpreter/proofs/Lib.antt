@@ -2,6 +2,5 @@ pub mod WeightLaws
 pub mod LightModes
 pub mod Candidates
 pub mod Choices
-pub mod SoundGoals
 pub mod Interpreted
 pub mod OneAnswer

@@ -4,6 +4,7 @@ use Rattle.std.proofs.lemmas.List.{length_push, get_or_push, get_or_append_left}
 use Rattle.std.proofs.lemmas.List.Elements.{All-nil}
 use Rattle.cca_base.specs.declared.cube.Pair.{Pair}
 use Rattle.std.proofs.lemmas.Option.{same_Some}
+use Rattle.list_laws.proofs.Orders.{below_next}
 use Rattle.cca_base.specs.Sets.{has}
 use Rattle.cca_base.specs.PlantModel.{PlantModel}
 use Rattle.cca_base.specs.Model.{HasMode, mode_counts}
@@ -18,9 +19,6 @@ use Rattle.wish_laws.specs.Lightest.{IsLighterMode, IsLightestOf}
 use Rattle.goal_interpreter.specs.Weights.{AreWeights}
 use Rattle.goal_interpreter.proofs.WeightLaws.{row_full, rows_full}
 use Rattle.goal_interpreter.specs.Choosing.{AreFreeModes, IsFreeMode, IsLightestBelow}
-
-below_next : (m n : ℕ) → m < n + 1 → (m < n) ⊎ (m ≡ n)
-below_next m n h = grind arith
 
 pub skipped : (row : List ℕ) (set n : ℕ) (best : Option ℕ) → has set n ≡ false → IsLightestBelow row set n best → IsLightestBelow row set (n + 1) best
 skipped row set n None e h = λ m within has_it. elim (below_next m n within) [ inl less ↦ h m less has_it | inr same ↦ absurd (let f : has set n ≡ true = subst (λ k. has set k ≡ true) same has_it in cc) ]
@@ -70,7 +68,7 @@ no_lighter row set n x le (less, its, lightest) = (
 
 module _ (m : PlantModel) (member : Test) (weights : List (List ℕ)) (s : List ℕ) where
   -- the lightest of the class, or the component's own mode
-  pub free_mode_is : (c set : ℕ) (found : Option ℕ) (x : ℕ) → ((mode : ℕ) → member c mode ≡ has set mode) → ((mode : ℕ) → member c mode ≡ true → HasMode m c mode)
+  free_mode_is : (c set : ℕ) (found : Option ℕ) (x : ℕ) → ((mode : ℕ) → member c mode ≡ has set mode) → ((mode : ℕ) → member c mode ≡ true → HasMode m c mode)
       → HasMode m c (slice_index s c) → length (slice_index_or weights c []) ≡ slice_index (mode_counts m) c
       → IsLightestBelow (slice_index_or weights c []) set (length (slice_index_or weights c [])) found
       → (found ≡ Some x) ⊎ ((found ≡ None) × (x ≡ slice_index s c)) → IsFreeMode m member weights s c x

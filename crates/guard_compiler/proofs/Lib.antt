@@ -15,3 +15,4 @@ pub mod ConjunctionWays
 pub mod GuardParts
 pub mod WishMeaning
 pub mod WishParts
+pub mod ImplicantsInStates

@@ -6,7 +6,7 @@ use Rattle.list_laws.proofs.Elements.{all_left, all_right}
 use Rattle.cca_base.specs.declared.cube.Pair.{Pair}
 use Rattle.cca_base.specs.Cube.{IsPart, IsRising, Lacks}
 use Rattle.cca_base.proofs.Members.{all_from}
-use Rattle.cca_base.proofs.Pairwise.{AllPairs-head, AllPairs-right}
+use Rattle.list_laws.proofs.Pairwise.{AllPairs-head, AllPairs-right}
 use Rattle.prime_implicants.proofs.PartialPairs.{one_of_each}
 use Rattle.prime_implicants.proofs.ListedPairs.{lacks_seam as lacks_next}
 use Rattle.guard_compiler.specs.Cover.{IsOver, IsLeastOver}

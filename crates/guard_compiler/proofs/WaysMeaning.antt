@@ -1,5 +1,5 @@
 -- From clauses over states to the move's prime implicants.
-use Rattle.std.proofs.Common.{◌≡◌, ℕ, ◌<◌, ◌≤◌, ◌≢◌, Bool, true, false, not, ◌&&◌, eqb, List, [], ◌∷◌, ◌++◌, length, Some, None, refl, sym, ◌∙◌, ap, subst, arith, set, get_or, take, drop, filter, zero, suc, All, Contains, slice_get, IsTrue, ◌↔◌, ◌⊎◌, inl, inr, get_or-set_other, get_or-set_same, length-set, length-append}
+use Rattle.std.proofs.Common.{◌≡◌, ℕ, ◌<◌, ◌≤◌, ◌≢◌, Bool, true, false, not, ◌&&◌, eqb, List, [], ◌∷◌, ◌++◌, length, Some, None, refl, sym, ◌∙◌, ap, subst, arith, set, get_or, take, drop, filter, zero, suc, All, Contains, slice_get, IsTrue, ◌↔◌, ◌⊎◌, inl, inr, length-append}
 use Rattle.std.specs.List.{list_all}
 use Rattle.std.proofs.lemmas.List.{length-map, set-get_or, set-append_left}
 use Rattle.std.proofs.Math.Seq.{take-append_seam, drop-append_seam}
@@ -24,6 +24,7 @@ use Rattle.clause_form.specs.declared.clause.Clauses.{Clauses}
 use Rattle.clause_form.specs.Clauses.{AreValues, all_met}
 use Rattle.clause_form.specs.Formulas.{is_asked}
 use Rattle.clause_form.proofs.ModelSizes.{state_values}
+use Rattle.clause_form.proofs.SetValues.{values_set}
 use Rattle.guard_compiler.specs.Asked.{AreAskedOf}
 use Rattle.prime_implicants.specs.Primes.{IsBlocked, IsPrime, AreAllPrimes, AreMorePrimes}
 use Rattle.prime_implicants.specs.Many.{AreMoreCubes}
@@ -48,20 +49,6 @@ pub to_state : (m : PlantModel) (s : List ℕ) → AreValues (mode_counts m) s �
 to_state m s v =
     let long = length-map m.components (λ c. length c.modes) in
     record { full = v.full ∙ long; modes = λ c h. v.values c (omega (arith, long)) }
-
--- ---- a state with another mode of one component
-
-set_values : (sizes s : List ℕ) (c v : ℕ) → AreValues sizes s → v < get_or sizes c 0 → AreValues sizes (set s c v)
-set_values sizes s c v k h = record {
-  full = length-set s c v ∙ k.full;
-  values = λ i l. elim (same_or_not i c) [
-    | inl e ↦
-        let inside : i < length s = omega (arith, k.full) in
-        subst (λ z. get_or (set s c v) z 0 < get_or sizes z 0) (sym e)
-        (subst (λ z. z < get_or sizes c 0) (sym (get_or-set_same s c v 0 (subst (λ z. z < length s) e inside))) h)
-    | inr n ↦ subst (λ z. z < get_or sizes i 0) (sym (get_or-set_other s c i v 0 n)) (k.values i l)
-  ];
-}
 
 -- ---- the clauses that are asked for
 
@@ -111,7 +98,7 @@ states_of m move asked fixed states n k =
       sizes = k.states_sizes ∙ first;
       meaning = λ s v.
           let there = k.projects s (subst (λ z. AreValues z s) (sym first) v) in
-          let asks = k.asks.meaning (set s move.component move.source) (set_values (mode_counts m) s move.component move.source v k.source) in (
+          let asks = k.asks.meaning (set s move.component move.source) (values_set (mode_counts m) s move.component move.source v k.source) in (
             (λ t. let r = there.0 t in let u = subst (λ z. AreValues z r.0) rest r.1 in
                 asks.0 (r.0, u, sym (fixed_means m move asked fixed s r.0 k.source k.asks k.fixes v u) ∙ r.2)),
             (λ r. let q = asks.1 r in there.1 (q.0, subst (λ z. AreValues z q.0) (sym rest) q.1, fixed_means m move asked fixed s q.0 k.source k.asks k.fixes v q.1 ∙ q.2)),
@@ -177,7 +164,7 @@ suffices_blocks m move states cube of lacks enough s v met x =
     let counted : AreValues (mode_counts m) s = subst (λ z. AreValues z s) of.sizes v in
     let r = (of.meaning s counted).0 met in
     let there = false_in m move.guard (set s c move.source) r.0 r.1 r.2 in
-    let state = to_state m (set s c move.source) (set_values (mode_counts m) s c move.source counted of.source) in
+    let state = to_state m (set s c move.source) (values_set (mode_counts m) s c move.source counted of.source) in
     let inside : c < length s = omega (arith, place_within (mode_counts m) c (omega (arith, of.source)), counted.full) in
     let extends = All-cons (λ p. slice_get (set s c move.source) p.item ≡ Some p.value) (source_pair move) cube
     (slice_get-set_same s c move.source inside) (extends_other s c move.source cube lacks x) in
@@ -212,7 +199,7 @@ others_block m move states cube p of f here own s v met x =
     let counted : AreValues (mode_counts m) s = subst (λ z. AreValues z s) of.sizes v in
     let value : p.value < get_or (mode_counts m) c 0 = subst (λ z. p.value < get_or (mode_counts m) z 0) own
     (subst (λ z. p.value < get_or z p.item 0) of.sizes (All-contains (λ p. p.value < get_or states.sizes p.item 0) cube p f.values here)) in
-    let other = set_values (mode_counts m) s c p.value counted value in
+    let other = values_set (mode_counts m) s c p.value counted value in
     let r = (of.meaning s counted).0 met in
     let again = (of.meaning (set s c p.value) other).1 (r.0, r.1, subst (λ z. is_asked m None (Some move.guard) z r.0 ≡ true) (sym (set-set s c p.value move.source)) r.2) in
     let inside : c < length s = omega (arith, place_within (mode_counts m) c (omega (arith, value)), counted.full) in

@@ -1,6 +1,9 @@
 pub mod Places
 pub mod Elements
 pub mod Kept
+pub mod Passing
 pub mod Tests
 pub mod Orders
 pub mod GoneThrough
+pub mod WordsByPlace
+pub mod Pairwise

@@ -1,8 +1,8 @@
 -- What stands at a place of a list.
-use Rattle.std.proofs.Common.{◌≡◌, ◌<◌, ℕ, zero, suc, List, [], ◌∷◌, length, take, slice_get, slice_index, get_or, Some, inl, inr, refl, ap, ◌∙◌, arith}
+use Rattle.std.proofs.Common.{◌≡◌, ◌<◌, ℕ, zero, suc, List, [], ◌∷◌, length, take, slice_get, slice_index, get_or, Some, All, inl, inr, refl, ap, subst, ◌∙◌, arith}
 use Rattle.std.proofs.lemmas.Bool.{cases_lt}
 use Rattle.std.proofs.lemmas.List.{get_or_past}
-use Rattle.std.proofs.lemmas.Option.{get_or_from_slice_get, slice_get-get_or}
+use Rattle.std.proofs.lemmas.Option.{get_or_from_slice_get, slice_get-get_or, slice_get_within}
 
 -- something stands at each place of the list
 pub some_at : {X : Type 0} (xs : List X) (i : ℕ) → i < length xs → (x : X) × (slice_get xs i ≡ Some x)
@@ -16,6 +16,10 @@ get_take xs zero k h = absurd (omega (arith, h))
 get_take [] (suc n) k h = refl
 get_take (x ∷ xs) (suc n) zero h = refl
 get_take (x ∷ xs) (suc n) (suc k) h = get_take xs n k (omega (arith, h))
+
+-- what holds of all holds of what stands at a place
+pub all_at : {X : Type 0} (P : X → Type 0) (xs : List X) (i : ℕ) (x : X) → All P xs → slice_get xs i ≡ Some x → P x
+all_at P xs i x all at = subst P (get_or_from_slice_get xs i x x at) (all i x (slice_get_within xs i x at))
 
 -- the number at a place, by both words
 pub value_at : (xs : List ℕ) (i v : ℕ) → slice_get xs i ≡ Some v → slice_index xs i ≡ v

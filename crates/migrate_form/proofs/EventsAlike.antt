@@ -24,7 +24,7 @@ module _ (m : PlantModel) (v : ℕ) where
   event_of_alike pending mirrored Reset = refl
   event_of_alike pending mirrored Tick = refl
 
-  pub event_line_alike : (pending : List Pair) (mirrored : ℕ) (l : List ℕ) → event_line (at_version v m) pending mirrored l ≡ event_line m pending mirrored l
+  event_line_alike : (pending : List Pair) (mirrored : ℕ) (l : List ℕ) → event_line (at_version v m) pending mirrored l ≡ event_line m pending mirrored l
   unfolding event_line
   event_line_alike pending mirrored l = λ i. by_tokens (λ item. event_of_alike pending mirrored item i) (tokens_of l)
 

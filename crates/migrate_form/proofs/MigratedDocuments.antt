@@ -185,7 +185,7 @@ module _ (input : List ℕ) (b : CompiledModel) (compiled : IsCompiled b) (n : �
   bare : (k' : PlantModel) (j : ℕ) (ls' : List (List ℕ)) → EndsModel whole (WholeModel k' j ls') → All HasTokens ls'
   bare k' j ls' ends = subst (All HasTokens) (same_rest (texts_are_one whole (WholeModel c.model k kept) (WholeModel k' j ls') reads_again ends)) (kept_have_tokens ls)
 
-  pub is_migrated : IsMigrated input whole
+  is_migrated : IsMigrated input whole
   is_migrated = record {
     document = r;
     read = (WholeModel m n ls, reads, (AcceptedAs b, (compiled, refl), says));

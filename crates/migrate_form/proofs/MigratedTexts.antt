@@ -49,7 +49,7 @@ module _ (m : PlantModel) (well : WellFormed m) where
       ++ moves_stay m (in_second m) grows m.moves well.moves i ++ failures_stay m (in_second m) grows m.failures well.failures i
 
 -- in version 2 a model is printed in as many lines, and none of them is too long
-pub second_within : (m : PlantModel) (n : ℕ) → Within m n → Within (in_second m) n
+second_within : (m : PlantModel) (n : ℕ) → Within m n → Within (in_second m) n
 second_within m n h =
     let well = h.good.well_formed in
     let header : IsShort (header_said 2) = (let k : length (joined (header_said 2)) ≡ 7 = refl in omega (arith, k)) in

@@ -1,5 +1,6 @@
 -- The nominal state is the estimate if it shows what is seen; else the search finds the first one that does.
 use Rattle.std.proofs.Common.{◌≡◌, ℕ, ◌<◌, ◌*◌, inl, inr, List, Option, refl, sym, subst, arith}
+use Rattle.list_laws.proofs.Orders.{three_ways}
 use Rattle.cca_base.specs.declared.cube.Pair.{Pair}
 use Rattle.cca_base.specs.declared.limits.TheConstants.{MAX_COST, MAX_ROWS}
 use Rattle.cca_base.specs.PlantModel.{PlantModel}
@@ -13,7 +14,6 @@ use Rattle.cca_base.specs.declared.choice.Choice.{Choice}
 use Rattle.cca_base.proofs.NominalLaws.{one_nominal, nominal_is_free}
 use Rattle.cca_laws.proofs.CostLaws.{free_is_nominal}
 use Rattle.cost_search.specs.Search.{IsUpTo}
-use Rattle.cost_search.proofs.LowerModes.{three_ways}
 use Rattle.cost_search.proofs.LoweredRows.{picks_cheap}
 use Rattle.cost_search.proofs.Ranks.{before_by_cost, before_by_modes, not_earlier}
 use Rattle.mode_estimator.specs.First.{NoneBelow, Shows}

@@ -20,7 +20,7 @@ module _ (json : Bool) (P Q : Saying) (follows : (b : CompiledModel) (n : ℕ) (
   by_acceptance (AcceptedAs b) m n ls e text is h = follows b n ls e text is.0 h
   by_acceptance (RefusedFor r) m n ls e text is h = h
 
-  pub end_follows : (end : ModelText) (e : End) (text : List ℕ) → AnswersByEnd json P end e text → AnswersByEnd json Q end e text
+  end_follows : (end : ModelText) (e : End) (text : List ℕ) → AnswersByEnd json P end e text → AnswersByEnd json Q end e text
   end_follows (WholeModel m n ls) e text (v, is, h) = (v, is, by_acceptance v m n ls e text is h)
   end_follows (RefusedModel m line r) e text h = h
 

@@ -7,13 +7,14 @@ use Rattle.std.specs.Cmp.Lexicographic.{pointwise}
 use Rattle.std.proofs.Math.Bool.{or-false}
 use Rattle.std.proofs.lemmas.Bool.{eqb-true, eq-eqb, cases_Bool, cases_lt, false≢true, or_parts, not-false}
 use Rattle.std.proofs.lemmas.List.{length_push}
-use Rattle.std.proofs.lemmas.List.Elements.{All-nil, All-cons, All-weaker}
+use Rattle.std.proofs.lemmas.List.Elements.{All-weaker}
 use Rattle.std.proofs.lemmas.List.Folds.{list_any-append, list_any_none}
 use Rattle.std.proofs.lemmas.List.Quantifiers.{position-Some}
 use Rattle.std.proofs.lemmas.Slice.Eq.{bytes_eq-Decides}
 use Rattle.indexmap.specs.IndexMap.{IsUnchanged, Updates}
 use Rattle.std.specs.Map.{lookup}
 use Rattle.list_laws.proofs.Tests.{and_false}
+use Rattle.list_laws.proofs.Passing.{none_passes as all_fail}
 use Rattle.cca_base.specs.declared.model.Move.{Move}
 use Rattle.cca_base.specs.declared.limits.TheConstants.{MAX_MOVES}
 use Rattle.cca_base.specs.PlantModel.{PlantModel}
@@ -41,10 +42,6 @@ leads_to_push moves x =
     ∙ ap (λ b. list_any (leads_to x.component x.source) moves || b) (or-false (x.component == x.component && x.target == x.source) ∙ ap (λ b. b && x.target == x.source) (eqb_same x.component))
 
 -- ---- facts about each move
-
-all_of_any : {X : Type 0} (p : X → Bool) (xs : List X) → list_any p xs ≡ false → All (λ x. p x ≡ false) xs
-all_of_any p [] e = All-nil (λ x. p x ≡ false)
-all_of_any p (x ∷ xs) e = let q = or_parts (p x) (list_any p xs) e in All-cons (λ x. p x ≡ false) x xs q.0 (all_of_any p xs q.1)
 
 any_push : {X : Type 0} (p : X → Bool) (xs : List X) (x : X) → list_any p (xs ++ x ∷ []) ≡ (list_any p xs || p x)
 any_push p xs x = list_any-append p xs (x ∷ []) ∙ ap (λ b. list_any p xs || b) (or-false (p x))
@@ -80,7 +77,7 @@ module _ (m : PlantModel) (x : Move) (command : List ℕ) (w : WellFormed m) (ma
   commands_after : All (λ y. y.command ≡ x.command → (y.component ≡ x.component) × (y.source ≢ x.source)) m.moves
   commands_after = All-weaker (λ y. (y.command == x.command && (not (y.component == x.component) || y.source == x.source)) ≡ false)
       (λ y. y.command ≡ x.command → (y.component ≡ x.component) × (y.source ≢ x.source)) own_command m.moves
-      (all_of_any (λ y. y.command == x.command && (not (y.component == x.component) || y.source == x.source)) m.moves may.clear)
+      (all_fail (λ y. y.command == x.command && (not (y.component == x.component) || y.source == x.source)) m.moves may.clear)
 
   module _ (good : IsFormula m x.guard) (source : HasMode m x.component x.source) (target : HasMode m x.component x.target) (complete : IsComplete m) (number : x.command ≡ command_number m command) where
     repairs_after : RepairsFit m.version (m.moves ++ x ∷ [])

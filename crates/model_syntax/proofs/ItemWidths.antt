@@ -1,11 +1,11 @@
 -- The line that an item adds is no longer than the text from which it was read.
-use Rattle.std.proofs.Common.{◌≡◌, ℕ, ◌<◌, ◌≤◌, inl, inr, Bool, true, false, cond, ◌||◌, List, [], ◌∷◌, ◌++◌, length, slice_index, codes, Option, Some, None, refl, sym, ap, subst, ◌∙◌, arith}
+use Rattle.std.proofs.Common.{◌≡◌, ℕ, ◌≤◌, inl, inr, Bool, true, false, cond, ◌||◌, List, [], ◌∷◌, ◌++◌, length, codes, Option, Some, None, refl, sym, ap, subst, ◌∙◌, arith}
 use Rattle.std.specs.Prelude.{nat_le, is_some}
 use Rattle.std.specs.Fmt.{decimal}
 use Rattle.cca_base.specs.declared.limits.TheConstants.{MAX_RULES, MAX_MOVES}
 use Rattle.cca_base.specs.PlantModel.{PlantModel}
 use Rattle.cca_base.specs.declared.model.Move.{Move}
-use Rattle.cca_base.specs.Model.{WellFormed, HasMode, mode_counts, with_component, with_variable, with_rule, with_command, with_move, with_failure}
+use Rattle.cca_base.specs.Model.{WellFormed, with_component, with_variable, with_rule, with_command, with_move, with_failure}
 use Rattle.text_base.specs.Lexemes.{Lexeme, word, number, symbol}
 use Rattle.formula_syntax.specs.Grammar.{Whole, spelling}
 use Rattle.formula_syntax.specs.Meanings.{whole_formula, names_unknown, lists_twice, is_deep}
@@ -93,13 +93,9 @@ module _ (m : PlantModel) (w : WellFormed m) (text : List ℕ) where
   named_keeps true command = (refl, refl, refl, refl, refl, refl)
   named_keeps false command = (refl, refl, refl, refl, refl, refl)
 
-  -- a component that has a mode is declared
-  declared : (c a : ℕ) → HasMode m c a → 0 < slice_index (mode_counts m) c
-  declared c a h = omega arith
-
   -- the ends are printed by their words in the grown model too
   ends_again : (n : PlantModel) (ends : Ends) (c a b : ℕ) (rest : List Lexeme) → Grows m n → AreNamed m ends c a b → ends_said n c a b rest ≡ ends_spelled ends rest
-  ends_again n ends c a b rest g h = ends_stay m n g c a b rest (declared c a h.mode) ∙ ends_printed m ends c a b rest h
+  ends_again n ends c a b rest g h = ends_stay m n g c a b rest (omega (arith, h.mode)) ∙ ends_printed m ends c a b rest h
 
   module _ (repair : Bool) (ends : Ends) (command : List ℕ) (t : Whole) where
     abbrev new : ℕ × ℕ × ℕ → Move

@@ -7,7 +7,7 @@ use Rattle.std.proofs.lemmas.Bool.{le-ltb, lt-leb, or_from}
 use Rattle.std.proofs.lemmas.List.{map-append}
 use Rattle.std.proofs.lemmas.List.Elements.{All-head, All-tail, All-cons, All-nil}
 use Rattle.list_laws.proofs.Elements.{all_left, all_right}
-use Rattle.cca_base.proofs.Pairwise.{AllPairs-right}
+use Rattle.list_laws.proofs.Pairwise.{AllPairs-right}
 use Rattle.cca_base.specs.declared.formula.Subject.TheVariants as subjects
 use Rattle.cca_base.specs.declared.model.Component.{Component}
 use Rattle.cca_base.specs.declared.model.Variable.{Variable}

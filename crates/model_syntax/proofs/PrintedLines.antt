@@ -16,7 +16,8 @@ use Rattle.cca_base.specs.declared.limits.TheConstants.{MAX_NAME, MAX_DEPTH}
 use Rattle.cca_base.specs.PlantModel.{PlantModel}
 use Rattle.cca_base.specs.Names.{is_name, is_word, is_reserved, AreNames, AreDifferent}
 use Rattle.cca_base.specs.Model.{IsFormula, IsVersion, empty_model}
-use Rattle.cca_base.proofs.Pairwise.{AllPairs-tail, AllPairs-head}
+use Rattle.list_laws.proofs.Pairwise.{AllPairs-tail, AllPairs-head}
+use Rattle.list_laws.proofs.Places.{all_at}
 use Rattle.text_base.specs.Tokens.{Tok, tokens_of, is_digits}
 use Rattle.text_base.specs.Lexemes.{Lexeme}
 use Rattle.text_base.proofs.NumberTexts.{tells_list_all}
@@ -35,7 +36,7 @@ use Rattle.model_syntax.proofs.ItemGrammar.{item_again}
 use Rattle.model_syntax.proofs.JoinedTokens.{joined_read}
 use Rattle.formula_syntax.proofs.UnknownNames.{different_text}
 use Rattle.model_syntax.proofs.PrintedFormulas.{printed_text}
-use Rattle.model_syntax.proofs.PrintedNames.{HasNames, atom_read, place_found, member_at}
+use Rattle.model_syntax.proofs.PrintedNames.{HasNames, atom_read, place_found}
 use Rattle.model_syntax.proofs.PrintedParts.{name_parts}
 
 -- a reader behind the line of the version
@@ -110,7 +111,7 @@ name_by names k None e h lt = absurd (missing names k lt e)
         some_none : (x : List ℕ) → ◌≡◌ {A = Option (List ℕ)} (Some x) None → ⊥
         some_none x e = absurd cc
     missing (x ∷ xs) (suc i) lt e = missing xs i (omega arith) e
-name_by names k (Some x) e h lt = record { found = place_found names k x h.different e; name = member_at (λ name. IsTrue (is_name name)) names k x h.each e }
+name_by names k (Some x) e h lt = record { found = place_found names k x h.different e; name = all_at (λ name. IsTrue (is_name name)) names k x h.each e }
 
 pub name_there : (names : List (List ℕ)) (k : ℕ) → AreNames names → k < length names → IsAt names k (name_at names k)
 name_there names k h lt = name_by names k (slice_get names k) refl h lt

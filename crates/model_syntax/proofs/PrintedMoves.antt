@@ -13,7 +13,7 @@ use Rattle.cca_base.specs.declared.limits.TheConstants.{MAX_MOVES}
 use Rattle.cca_base.specs.PlantModel.{PlantModel}
 use Rattle.cca_base.specs.Names.{AreDifferent}
 use Rattle.cca_base.specs.Model.{IsMove, RepairsFit, CommandsFit, WellFormed, is_used, with_command, with_move}
-use Rattle.cca_base.proofs.Pairwise.{AllPairs-take}
+use Rattle.list_laws.proofs.Pairwise.{AllPairs-take}
 use Rattle.text_base.specs.Lexemes.{Lexeme, word}
 use Rattle.formula_syntax.specs.Grammar.{Whole, spelling}
 use Rattle.model_syntax.specs.Items.{Ends, move_word}

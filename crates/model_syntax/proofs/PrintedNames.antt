@@ -9,9 +9,8 @@ use Rattle.std.proofs.Math.Seq.{take-append_seam}
 use Rattle.std.proofs.lemmas.Bool.{and_parts, and_from, ltb-true, lt-ltb, le-ltb, cases_lt}
 use Rattle.std.proofs.lemmas.Bool.Decides.{nat_tests}
 use Rattle.std.proofs.lemmas.Nat.Bits.{same_from_bits, bit_at-lt}
-use Rattle.std.proofs.lemmas.Option.{slice_get_within, get_or_from_slice_get, unwrap_or-slice_get, slice_get-map}
+use Rattle.std.proofs.lemmas.Option.{unwrap_or-slice_get, slice_get-map}
 use Rattle.std.proofs.lemmas.List.Elements.{All-head, All-tail, All-cons, All-nil}
-use Rattle.std.proofs.lemmas.Slice.Eq.{bytes_eq-Decides}
 use Rattle.list_laws.proofs.Elements.{all_left, all_right}
 use Rattle.cca_base.specs.declared.formula.Subject.{Subject}
 use Rattle.cca_base.specs.declared.formula.Subject.TheVariants as subjects
@@ -22,19 +21,18 @@ use Rattle.cca_base.specs.Names.{is_name, AreNames, AreDifferent}
 use Rattle.cca_base.specs.Sets.{has, with_number}
 use Rattle.cca_base.specs.Formula.{is_choice_of, subject_value}
 use Rattle.cca_base.specs.Model.{AreChoices, IsComponent, mode_counts, value_counts, names_of}
-use Rattle.cca_base.proofs.Pairwise.{AllPairs-tail, AllPairs-head, AllPairs-take, AllPairs-right}
+use Rattle.list_laws.proofs.Pairwise.{AllPairs-tail, AllPairs-head, AllPairs-take, AllPairs-right}
+use Rattle.list_laws.proofs.Places.{all_at}
 use Rattle.cca_base.proofs.SetLaws.{has-with_number, has-empty, has_above}
 use Rattle.formula_syntax.specs.Lookups.{place_of, subject_of, value_of, choices_of, or_else}
 use Rattle.formula_syntax.specs.Meanings.{has_twice, with_found, with_numbers}
 use Rattle.model_syntax.specs.Printing.{name_of, names_in}
 use Rattle.formula_syntax.proofs.UnknownNames.{position_none, different_text}
 use Rattle.formula_syntax.proofs.FirstPlaces.{position_map, position_cons}
+use Rattle.formula_syntax.proofs.Comparisons.{same_text}
 use Rattle.model_syntax.proofs.PrintedParts.{IsAtom}
 
 -- ---- elements of lists
-
-pub member_at : {X : Type 0} (P : X → Type 0) (xs : List X) (k : ℕ) (x : X) → All P xs → slice_get xs k ≡ Some x → P x
-member_at P xs k x h e = subst P (get_or_from_slice_get xs k x x e) (h k x (slice_get_within xs k x e))
 
 pub pairs_left : {X : Type 0} (R : X → X → Type 0) (xs ys : List X) → AllPairs R (xs ++ ys) → AllPairs R xs
 pairs_left R xs ys h = subst (AllPairs R) (take-append_seam xs ys) (AllPairs-take R (length xs) (xs ++ ys) h)
@@ -43,12 +41,9 @@ pairs_left R xs ys h = subst (AllPairs R) (take-append_seam xs ys) (AllPairs-tak
 pub pairs_across : {X : Type 0} (R : X → X → Type 0) (xs ys : List X) (k : ℕ) (y : X) → AllPairs R (xs ++ ys) → slice_get ys k ≡ Some y → All (λ x. R x y) xs
 pairs_across R [] ys k y h e = All-nil (λ x. R x y)
 pairs_across R (x ∷ xs) ys k y h e =
-    All-cons (λ z. R z y) x xs (member_at (R x) ys k y (all_right (R x) xs ys (AllPairs-head R x (xs ++ ys) h)) e) (pairs_across R xs ys k y (AllPairs-tail R x (xs ++ ys) h) e)
+    All-cons (λ z. R z y) x xs (all_at (R x) ys k y (all_right (R x) xs ys (AllPairs-head R x (xs ++ ys) h)) e) (pairs_across R xs ys k y (AllPairs-tail R x (xs ++ ys) h) e)
 
 -- ---- places of names
-
-same_text : (x : List ℕ) → bytes_eq x x ≡ true
-same_text x = (bytes_eq-Decides x x).1 refl
 
 -- a name is found at its own place
 pub place_found : (names : List (List ℕ)) (k : ℕ) (x : List ℕ) → AreDifferent names → slice_get names k ≡ Some x → place_of names x ≡ Some k
@@ -57,7 +52,7 @@ place_found (y ∷ ys) zero x h e =
     let same : y ≡ x = cc in
     position_cons (λ n. bytes_eq n x) y ys ∙ ap (λ b. cond b (Some 0) (option_map (λ n. n + 1) (place_of ys x))) (ap (λ n. bytes_eq n x) same ∙ same_text x)
 place_found (y ∷ ys) (suc k) x h e =
-    let other : bytes_eq y x ≡ false = different_text y x (member_at (λ z. y ≢ z) ys k x (AllPairs-head (λ a b. a ≢ b) y ys h) e) in
+    let other : bytes_eq y x ≡ false = different_text y x (all_at (λ z. y ≢ z) ys k x (AllPairs-head (λ a b. a ≢ b) y ys h) e) in
     position_cons (λ n. bytes_eq n x) y ys
     ∙ ap (λ b. cond b (Some 0) (option_map (λ n. n + 1) (place_of ys x))) other
     ∙ ap (λ o. option_map (λ n. n + 1) o) (place_found ys k x (AllPairs-tail (λ a b. a ≢ b) y ys h) e)
@@ -123,15 +118,15 @@ module _ (m : PlantModel) (h : HasNames m) where
   component_there c n None e k some = let zero_count = counted (λ (p : Component). length p.modes) m.components c None e in absurd (omega (arith, k, some, zero_count))
   component_there c n (Some x) e k some =
       part_there (λ (p : Component). p.modes) m.components c n (subjects.Component c) x x.name e (ap (λ o. option_map_or (λ (p : Component). p.name) o []) e) (ap (λ o. option_map_or (λ (p : Component). p.modes) o []) e)
-      (member_at (λ name. IsTrue (is_name name)) component_names c x.name (all_left (λ name. IsTrue (is_name name)) component_names variable_names h.names.each) (named_at (λ (p : Component). p.name) m.components c x e))
-      (component_found c x e) (member_at IsComponent m.components c x h.components e).modes k
+      (all_at (λ name. IsTrue (is_name name)) component_names c x.name (all_left (λ name. IsTrue (is_name name)) component_names variable_names h.names.each) (named_at (λ (p : Component). p.name) m.components c x e))
+      (component_found c x e) (all_at IsComponent m.components c x h.components e).modes k
 
   variable_there : (v n : ℕ) (o : Option Variable) → slice_get m.variables v ≡ o → slice_index (value_counts m) v ≡ n → 0 < n → IsThere (subjects.Variable v) n
   variable_there v n None e k some = let zero_count = counted (λ (q : Variable). length q.values) m.variables v None e in absurd (omega (arith, k, some, zero_count))
   variable_there v n (Some x) e k some =
       part_there (λ (q : Variable). q.values) m.variables v n (subjects.Variable v) x x.name e (ap (λ o. option_map_or (λ (q : Variable). q.name) o []) e) (ap (λ o. option_map_or (λ (q : Variable). q.values) o []) e)
-      (member_at (λ name. IsTrue (is_name name)) variable_names v x.name (all_right (λ name. IsTrue (is_name name)) component_names variable_names h.names.each) (named_at (λ (q : Variable). q.name) m.variables v x e))
-      (variable_found v x e) (member_at (λ (q : Variable). AreChoices q.values) m.variables v x h.variables e) k
+      (all_at (λ name. IsTrue (is_name name)) variable_names v x.name (all_right (λ name. IsTrue (is_name name)) component_names variable_names h.names.each) (named_at (λ (q : Variable). q.name) m.variables v x e))
+      (variable_found v x e) (all_at (λ (q : Variable). AreChoices q.values) m.variables v x h.variables e) k
 
   pub there : (s : Subject) → 0 < subject_value s (mode_counts m) (value_counts m) → IsThere s (subject_value s (mode_counts m) (value_counts m))
   there (subjects.Component c) some = component_there c _ (slice_get m.components c) refl refl some

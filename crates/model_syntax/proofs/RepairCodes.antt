@@ -1,10 +1,11 @@
 -- Codes and the rules of repairs.
-use Rattle.std.proofs.Common.{◌||◌, ◌≡◌, ◌==◌, ◌&&◌, ◌⊎◌, ℕ, zero, suc, Bool, true, false, not, List, [], ◌∷◌, ◌++◌, Contains, refl, sym, ap, subst, ◌∙◌, inl, inr}
+use Rattle.std.proofs.Common.{◌||◌, ◌≡◌, ◌==◌, ◌&&◌, ◌⊎◌, ℕ, zero, suc, true, false, not, List, [], ◌∷◌, ◌++◌, Contains, refl, sym, ap, subst, ◌∙◌, inl, inr}
 use Rattle.std.specs.List.{list_any, slice_index}
 use Rattle.std.proofs.lemmas.Bool.{cases_Bool, cases_eq, both_ways, and_parts, and_from, eqb-true, eq-eqb, or_parts, or_from, or_cases, not-true, not_from_false, false_from_ne_true}
 use Rattle.std.proofs.lemmas.List.Elements.{All-contains, Contains-push_cases, Contains-append_left, Contains-append_right}
-use Rattle.std.proofs.lemmas.List.Folds.{list_any-from_Any, Any-from_list_any}
+use Rattle.std.proofs.lemmas.List.Folds.{Any-from_list_any}
 use Rattle.list_laws.proofs.Tests.{no_and, and_false}
+use Rattle.list_laws.proofs.Passing.{some_passes}
 use Rattle.cca_base.specs.declared.model.Move.{Move}
 use Rattle.cca_base.specs.PlantModel.{PlantModel}
 use Rattle.cca_base.specs.Model.{WellFormed, IsNext, RepairChain, RepairsFit, MendsAtOnce, mode_counts, is_broken, is_repair_of}
@@ -14,13 +15,10 @@ use Rattle.cca_base.proofs.Growth.{ordinary_fits}
 use Rattle.model_syntax.specs.Codes.{leads_to, mends_elsewhere, is_move_into_broken, is_repair_into_broken, is_into_broken, is_unmarked_exit, mends_twice, is_repair_cycle, stands_in_chain}
 use Rattle.model_syntax.proofs.ChainTests.{to_chain, chains_are_tested}
 
-pub any_some : {X : Type 0} (p : X → Bool) (xs : List X) (y : X) → Contains xs y → p y ≡ true → list_any p xs ≡ true
-any_some p xs y among pass = list_any-from_Any p xs (among.0, y, among.1, among.2, pass)
-
 -- ---- a mode that is broken, and a move that is the repair
 
 broken_by : (moves : List Move) (c mode : ℕ) (y : Move) → Contains moves y → is_repair_of c mode y ≡ true → is_broken moves c mode ≡ true
-broken_by moves c mode y among is = any_some (is_repair_of c mode) moves y among is
+broken_by moves c mode y among is = some_passes (is_repair_of c mode) moves y among is
 
 module _ (m : PlantModel) (w : WellFormed m) (x : Move) where
   abbrev c : ℕ
@@ -56,7 +54,7 @@ module _ (m : PlantModel) (w : WellFormed m) (x : Move) where
       | inl marked ↦ marked
       | inr plain ↦
           let free = and_false x.repair _ (or_parts (not x.repair && is_broken m.moves c (end x)) _ none).1 repair in
-          absurd (both_ways (list_any (λ y. not y.repair && (y.component == c && end y == x.source)) m.moves) free (any_some (λ y. not y.repair && (y.component == c && end y == x.source)) m.moves y among
+          absurd (both_ways (list_any (λ y. not y.repair && (y.component == c && end y == x.source)) m.moves) free (some_passes (λ y. not y.repair && (y.component == c && end y == x.source)) m.moves y among
           (and_from (not y.repair) _ (not_from_false y.repair plain) (and_from (y.component == c) (end y == x.source) (eq-eqb y.component c own) (eq-eqb (end y) x.source there)))))
     ]
 
@@ -70,7 +68,7 @@ module _ (m : PlantModel) (w : WellFormed m) (x : Move) where
           let its = repair_parts d a y p.mends in
           let free = and_false x.repair _ twice repair in
           let differs : (y.target == x.target) ≡ false = false_from_ne_true (y.target == x.target) (λ e. other (eqb-true y.target x.target e)) in
-          absurd (both_ways (list_any (mends_elsewhere c x.source x.target) m.moves) free (any_some (mends_elsewhere c x.source x.target) m.moves y p.of_model
+          absurd (both_ways (list_any (mends_elsewhere c x.source x.target) m.moves) free (some_passes (mends_elsewhere c x.source x.target) m.moves y p.of_model
           (and_from y.repair _ its.0 (and_from (y.component == c && y.source == x.source) (not (y.target == x.target))
           (and_from (y.component == c) (y.source == x.source) (eq-eqb y.component c (its.1 ∙ sym mine.1)) (eq-eqb y.source x.source (its.2 ∙ sym mine.2)))
           (not_from_false (y.target == x.target) differs)))))
@@ -91,7 +89,7 @@ module _ (m : PlantModel) (w : WellFormed m) (x : Move) where
         at_once first zero e =
             let free = and_false x.repair _ (and_false (m.version == 1) _ (or_parts (is_move_into_broken m.moves x) _ into).1 first) repair in
             let none = (or_parts (is_broken m.moves c x.target) _ free).1 in
-            both_ways (list_any (leads_to c x.source) later) none (any_some (leads_to c x.source) later x (Contains-append_right m.moves (x ∷ []) x (contains_here x x [] refl))
+            both_ways (list_any (leads_to c x.source) later) none (some_passes (leads_to c x.source) later x (Contains-append_right m.moves (x ∷ []) x (contains_here x x [] refl))
             (and_from (x.component == c) (x.target == x.source) (eq-eqb c c refl) (eq-eqb x.target x.source e)))
         at_once first (suc n) p =
             let free = and_false x.repair _ (and_false (m.version == 1) _ (or_parts (is_move_into_broken m.moves x) _ into).1 first) repair in
@@ -144,7 +142,7 @@ module _ (m : PlantModel) (w : WellFormed m) (x : Move) where
             | inr now ↦
                 let mine = repair_parts d b x now in
                 let its = repair_parts d a old.repair old.mends in
-                both_ways (list_any (leads_to c x.source) later) parts.1 (any_some (leads_to c x.source) later old.repair (Contains-append_left m.moves (x ∷ []) old.repair old.of_model)
+                both_ways (list_any (leads_to c x.source) later) parts.1 (some_passes (leads_to c x.source) later old.repair (Contains-append_left m.moves (x ∷ []) old.repair old.of_model)
                 (and_from (old.repair.component == c) (old.repair.target == x.source) (eq-eqb old.repair.component c (its.1 ∙ sym mine.1)) (eq-eqb old.repair.target x.source (old.target ∙ sym mine.2))))
           ]
           | inr new ↦
@@ -154,7 +152,7 @@ module _ (m : PlantModel) (w : WellFormed m) (x : Move) where
                     (subst (λ y. is_broken m.moves c y ≡ true) (sym new.1) (subst (λ e. is_broken m.moves e b ≡ true) (sym mine.1) before))
                 | inr now ↦
                     let here = repair_parts d b x now in
-                    both_ways (list_any (leads_to c x.source) later) parts.1 (any_some (leads_to c x.source) later x (Contains-append_right m.moves (x ∷ []) x (contains_here x x [] refl))
+                    both_ways (list_any (leads_to c x.source) later) parts.1 (some_passes (leads_to c x.source) later x (Contains-append_right m.moves (x ∷ []) x (contains_here x x [] refl))
                     (and_from (x.component == c) (x.target == x.source) (eq-eqb c c refl) (eq-eqb x.target x.source (new.1 ∙ sym here.2))))
               ]
         ])

@@ -5,12 +5,12 @@ use Rattle.std.specs.List.{list_any}
 use Rattle.std.proofs.lemmas.Bool.{cases_Bool, and_parts, and_from, or_cases, or_left, or_right, eq-eqb, not_from_false}
 use Rattle.std.proofs.lemmas.List.Elements.{Contains-append_left}
 use Rattle.std.proofs.lemmas.List.Folds.{Any-from_list_any}
+use Rattle.list_laws.proofs.Passing.{some_passes}
 use Rattle.cca_base.specs.declared.model.Move.{Move}
 use Rattle.cca_base.specs.PlantModel.{PlantModel}
 use Rattle.cca_base.specs.Model.{is_broken}
 use Rattle.model_syntax.specs.Codes.{leads_to, leads_unmarked, is_move_into_broken, is_repair_into_broken, is_into_broken, stands_in_chain}
 use Rattle.model_syntax.specs.RepairLaws.{touches_broken, FirstVersionAsBefore}
-use Rattle.model_syntax.proofs.RepairCodes.{any_some}
 
 module _ (m : PlantModel) (x : Move) (first : m.version ≡ 1) where
   abbrev broken : Bool
@@ -26,7 +26,7 @@ module _ (m : PlantModel) (x : Move) (first : m.version ≡ 1) where
   led_on : list_any (leads_unmarked x.component x.source) m.moves ≡ true → led ≡ true
   led_on h =
       let found = Any-from_list_any (leads_unmarked x.component x.source) m.moves h in
-      any_some (leads_to x.component x.source) (m.moves ++ x ∷ []) found.1 (Contains-append_left m.moves (x ∷ []) found.1 (found.0, found.2, found.3))
+      some_passes (leads_to x.component x.source) (m.moves ++ x ∷ []) found.1 (Contains-append_left m.moves (x ∷ []) found.1 (found.0, found.2, found.3))
       (and_parts (not found.1.repair) (found.1.component == x.component && found.1.target == x.source) found.4).1
 
   on : is_into_broken m x ≡ true → touches_broken m.moves x ≡ true

@@ -1,12 +1,12 @@
 -- Least costs of failures one by one, and sums of what the components cost.
-use Rattle.std.proofs.Common.{◌≡◌, ◌≢◌, ◌<◌, ◌≤◌, ◌+◌, ◌*◌, ℕ, List, [], ◌∷◌, ◌++◌, length, sum, min, slice_get, slice_index, Option, Some, None, Contains, refl, sym, ap, subst, ◌∙◌, inl, inr, arith}
+use Rattle.std.proofs.Common.{◌≡◌, ◌≢◌, ◌<◌, ◌≤◌, ◌+◌, ◌*◌, ◌^◌, ℕ, List, [], ◌∷◌, ◌++◌, length, sum, min, slice_get, slice_index, Option, Some, None, All, Contains, refl, sym, ap, subst, ◌∙◌, inl, inr, arith}
 use Rattle.std.proofs.lemmas.Bool.{cases_lt, cases_eq}
 use Rattle.std.proofs.lemmas.List.{length-append, get_or_append_left}
 use Rattle.std.proofs.Math.Seq.{get_or-append_seam}
-use Rattle.std.proofs.lemmas.List.Elements.{All-contains, Contains-append_left, Contains-push, Contains-push_cases}
-use Rattle.std.proofs.lemmas.List.Sums.{sum_by-append}
+use Rattle.std.proofs.lemmas.List.Elements.{All-contains, All-from_get_or, Contains-append_left, Contains-push, Contains-push_cases}
+use Rattle.std.proofs.lemmas.List.Sums.{sum_by-append, sum_by-le}
 use Rattle.list_laws.proofs.Places.{value_at}
-use Rattle.cca_base.specs.declared.limits.TheConstants.{MAX_COST}
+use Rattle.cca_base.specs.declared.limits.TheConstants.{MAX_COMPONENTS, MAX_COST}
 use Rattle.cca_base.specs.declared.model.Failure.{Failure}
 use Rattle.cca_base.specs.PlantModel.{PlantModel}
 use Rattle.cca_base.specs.Model.{WellFormed, IsFailure}
@@ -81,7 +81,7 @@ module _ (m : PlantModel) (s nominal s2 : List ℕ) where
   pub no_parts : AreParts m s nominal s2 0 []
   no_parts = record { full = refl; each = λ c within. absurd (omega arith) }
 
-  pub more_parts : (count cost : ℕ) (parts : List ℕ) → AreParts m s nominal s2 count parts
+  more_parts : (count cost : ℕ) (parts : List ℕ) → AreParts m s nominal s2 count parts
       → ChangeCosts m count (slice_index s count) (slice_index nominal count) (slice_index s2 count) cost → AreParts m s nominal s2 (count + 1) (parts ++ cost ∷ [])
   more_parts count cost parts h more = record {
     full = omega (arith, length-append parts (cost ∷ []), h.full);
@@ -96,7 +96,7 @@ module _ (m : PlantModel) (s nominal s2 : List ℕ) where
     ];
   }
 
-  pub total_more : (parts : List ℕ) (cost : ℕ) → sum (parts ++ cost ∷ []) ≡ sum parts + cost
+  total_more : (parts : List ℕ) (cost : ℕ) → sum (parts ++ cost ∷ []) ≡ sum parts + cost
   total_more parts cost = omega (arith, sum_by-append (λ (n : ℕ). n) parts (cost ∷ []))
 
   pub no_total : (count : ℕ) → count < length s2 → ((cost : ℕ) → ChangeCosts m count (slice_index s count) (slice_index nominal count) (slice_index s2 count) cost → ⊥)
@@ -139,3 +139,15 @@ pub along : (P : ℕ → ℕ → ℕ → Type 0) (s t u : List ℕ) (i x y z : �
     → P (slice_index s i) (slice_index t i) (slice_index u i)
 along P s t u i x y z e f g h =
     subst (λ n. P n (slice_index t i) (slice_index u i)) (sym (value_at s i x e)) (subst (λ n. P x n (slice_index u i)) (sym (value_at t i y f)) (subst (P x y) (sym (value_at u i z g)) h))
+
+-- ---- a cost has its bits
+
+-- each component's part is cheap, and there are not many
+pub cost_fits : (m : PlantModel) → WellFormed m → (s s2 : List ℕ) (k : Option ℕ) (cost : ℕ) → Costs m s k s2 cost → cost < 2 ^ 64
+cost_fits m wf s s2 k cost h =
+    let cheap : All (λ part. part ≤ MAX_COST) h.parts =
+    All-from_get_or (λ part. part ≤ MAX_COST) h.parts 0 (λ c lt. change_cheap m wf c (slice_index s c) (slice_index h.nominal c) (slice_index s2 c) (slice_index h.parts c) (h.each c (omega (arith, lt, h.full)))) in
+    let whole : sum h.parts ≤ length h.parts * MAX_COST = sum_by-le (λ (n : ℕ). n) MAX_COST h.parts cheap in
+    let few : length m.components ≤ MAX_COMPONENTS = wf.limits.components in
+    let full : length s2 ≡ length m.components = h.state.full in
+    omega (arith, whole, few, full, h.full, h.total)

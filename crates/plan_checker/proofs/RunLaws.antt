@@ -1,5 +1,5 @@
 -- How far a run has come, and what is left of it.
-use Rattle.std.proofs.Common.{◌≡◌, ◌<◌, ◌+◌, ℕ, List, [], ◌∷◌, length, drop, get_or, refl, sym, subst, add-one, drop-cons}
+use Rattle.std.proofs.Common.{◌≡◌, ℕ, List, [], ◌∷◌, refl, sym, subst}
 use Rattle.cca_base.specs.PlantModel.{PlantModel}
 use Rattle.cca_base.specs.Model.{CommandsFit}
 use Rattle.cca_base.specs.Steps.{Step, Run}
@@ -28,7 +28,3 @@ module _ (m : PlantModel) (start ks : List ℕ) where
 
   pub ends : (here left : List ℕ) → left ≡ [] → IsOnWay m start ks here left → Run m start ks here
   ends here left e h = h.back here (subst (λ l. Run m here l here) (sym e) refl)
-
--- the command that comes next, and those behind it
-pub next_left : (ks : List ℕ) (i : ℕ) → i < length ks → drop i ks ≡ get_or ks i 0 ∷ drop (i + 1) ks
-next_left ks i h = rw (add-one, drop-cons ks i 0)

@@ -34,7 +34,7 @@ module _ (m : PlantModel) (good : WellFormed m) where
   counts x estimate plant command holding ticks h state stands within =
       record { estimate = state; plant = stands; command = within; pending = All-nil (λ (p : Pair). HasValue m p.item p.value); mirrored = h.mirrored; goal = h.goal }
 
-  pub takes_fit : (x : ExecutiveState) (shown : Shown) (y : ExecutiveState) → FitsModel m x → OnEstimate shown (λ cost s reply. IsState m s)
+  takes_fit : (x : ExecutiveState) (shown : Shown) (y : ExecutiveState) → FitsModel m x → OnEstimate shown (λ cost s reply. IsState m s)
       → OnSend shown (λ s k. (next : List ℕ) × Step m s k next) → Takes m x shown y → FitsModel m y
   takes_fit x (Estimated cost state reply) y h is step takes = subst (FitsModel m) (sym takes.after)
       (counts x state.modes takes.plant (command_of reply) x.holding (x.ticks + 1) h is (nominal_is_free m x.plant takes.plant (command_of reply) good h.plant takes.moves).state

@@ -1,8 +1,8 @@
 -- Where components go back to.
-use Rattle.std.proofs.Common.{◌≡◌, ◌<◌, ◌≤◌, ◌↔◌, ◌+◌, ◌⊎◌, ℕ, zero, suc, true, false, List, [], ◌∷◌, ◌++◌, length, slice_get, slice_index, take, Some, Contains, refl, sym, ap, subst, ◌∙◌, inl, inr, arith, append_assoc, append-nil}
+use Rattle.std.proofs.Common.{◌≡◌, ◌<◌, ◌≤◌, ◌↔◌, ◌+◌, ◌⊎◌, ℕ, true, false, List, [], ◌∷◌, ◌++◌, length, slice_get, slice_index, take, Some, Contains, refl, sym, ap, subst, ◌∙◌, inl, inr, append_assoc, append-nil}
 use Rattle.std.proofs.lemmas.Bool.{cases_Bool, both_ways}
 use Rattle.std.proofs.lemmas.List.{take_all}
-use Rattle.std.proofs.lemmas.Option.{slice_get_within, get_or_from_slice_get, same_Some, none-some}
+use Rattle.std.proofs.lemmas.Option.{slice_get_within, get_or_from_slice_get, same_Some}
 use Rattle.std.proofs.lemmas.List.Elements.{All-contains, Contains-append_left, Contains-push, Contains-push_cases}
 use Rattle.cca_base.specs.declared.cube.Pair.{Pair}
 use Rattle.cca_base.specs.Accepted.{CompiledModel}
@@ -24,13 +24,6 @@ use Rattle.planner_step.proofs.Covered.{setting, inside_mode}
 use Rattle.plan_runner.specs.WaysBack.{GoesBackTo, GoesOnlyTo, GoesNowhere, AreBackPairs}
 use Rattle.planner_step.proofs.Stuck.{mendable_exactly, some_mended}
 use Rattle.cca_base.proofs.NextModes.{one_mended}
-
-pub take_next : (xs : List ℕ) (i x : ℕ) → slice_get xs i ≡ Some x → take (i + 1) xs ≡ take i xs ++ x ∷ []
-take_next [] i x at = absurd (none-some x at)
-take_next (y ∷ xs) zero x at = ap (λ z. z ∷ []) (same_Some y x at)
-take_next (y ∷ xs) (suc i) x at =
-    let e : suc i + 1 ≡ suc (i + 1) = omega arith in
-    subst (λ n. take n (y ∷ xs) ≡ take (suc i) (y ∷ xs) ++ x ∷ []) (sym e) (ap (λ l. y ∷ l) (take_next xs i x at))
 
 -- what was taken of the whole order is all
 pub taken_whole : (c : ClassParts) (s order : List ℕ) (i : ℕ) (ps : List Pair) → length order ≤ i → AreBackPairs c s (take i order) ps → AreBackPairs c s order ps
@@ -100,7 +93,7 @@ module _ (t : TableParts) (is : IsTables t) (s : List ℕ) (cov : CoversState t.
   in_order_push (d ∷ order) c v ps (inr (mode, others, e, h)) =
       inr (mode, others ++ record { item = c; value = v } ∷ [], ap (λ l. l ++ record { item = c; value = v } ∷ []) e, in_order_push order c v others h)
 
-  pub back_none : AreBackPairs t.classes s [] []
+  back_none : AreBackPairs t.classes s [] []
   back_none = record { in_order = refl; each = λ p. ((λ among. absurd (contains_none p among)), (λ h. absurd (contains_none p.item h.0))) }
 
   pub back_skip : (order : List ℕ) (c : ℕ) (ps : List Pair) → AreBackPairs t.classes s order ps → GoesNowhere t.classes s c → AreBackPairs t.classes s (order ++ c ∷ []) ps

@@ -2,7 +2,6 @@ pub mod CellKinds
 pub mod Approach
 pub mod Halving
 pub mod FirstCube
-pub mod ShortCubes
 pub mod Leavers
 pub mod Filled
 pub mod Agreement

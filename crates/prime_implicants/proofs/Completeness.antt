@@ -7,9 +7,10 @@ use Rattle.prime_implicants.specs.Found.{CoversAt, Covers, IsBlockedByRows}
 use Rattle.std.proofs.Common.{◌≡◌, ℕ, zero, suc, ◌<◌, ◌≤◌, Bool, true, false, not, cond, ◌&&◌, ◌||◌, eqb, List, [], ◌∷◌, length, Option, Some, None, refl, sym, ◌∙◌, ap, subst, arith, set, get_or, ◌⊎◌, inl, inr}
 use Rattle.std.specs.List.{filter}
 use Rattle.std.proofs.lemmas.Bool.{and_parts, eqb-true, not-false}
+use Rattle.list_laws.proofs.Passing.{all_pass_too}
 use Rattle.cca_base.specs.Sets.{has}
 use Rattle.cca_base.proofs.SetLaws.{has-empty}
-use Rattle.prime_implicants.proofs.DenseClauseLaws.{list_all-filter, list_all_implies, either_so}
+use Rattle.prime_implicants.proofs.DenseClauseLaws.{list_all-filter, either_so}
 use Rattle.prime_implicants.proofs.DenseClauseLaws.{length-within}
 use Rattle.prime_implicants.proofs.PartialValueLaws.{within-set}
 use Rattle.clause_form.proofs.SomeValue.{some_below}
@@ -149,7 +150,7 @@ row_unfalsified_wider (o ∷ a) (p ∷ q) [] x h = h
 row_unfalsified_wider (o ∷ a) (p ∷ q) (s ∷ row) x h = either_so (fits o s) (row_unfalsified a row) (fits p s) (row_unfalsified q row) (fits_wider o p s x.0) (row_unfalsified_wider a q row x.1) h
 
 pub all_unfalsified_wider : (a q : List (Option ℕ)) (rows : List (List ℕ)) → Covers a q → all_unfalsified a rows ≡ true → all_unfalsified q rows ≡ true
-all_unfalsified_wider a q rows x = list_all_implies (row_unfalsified a) (row_unfalsified q) (λ r. row_unfalsified_wider a q r x) rows
+all_unfalsified_wider a q rows x = all_pass_too (row_unfalsified a) (row_unfalsified q) (λ r. row_unfalsified_wider a q r x) rows
 
 pub false_if : (a b : Bool) → (a ≡ true → b ≡ true) → b ≡ false → a ≡ false
 false_if true b f e = let t = f refl in cc

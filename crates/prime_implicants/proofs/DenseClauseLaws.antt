@@ -9,6 +9,7 @@ use Rattle.std.proofs.lemmas.List.Folds.{list_all-append}
 use Rattle.std.proofs.Common.{eq-eqb, replicate, length-set, lt-ltb}
 use Rattle.std.proofs.lemmas.List.{length-replicate}
 use Rattle.std.proofs.lemmas.Bool.{and_parts, eqb-true}
+use Rattle.list_laws.proofs.Passing.{all_pass_too}
 use mathlib.Core.Bool.{and-true}
 use Rattle.cca_base.specs.Sets.{has}
 use Rattle.cca_base.proofs.SetLaws.{has-or, has_ones}
@@ -26,8 +27,6 @@ zero_or s t e = subst (λ z. bit_or z t ≡ t) (sym e) refl
 fits-or : (o : Option ℕ) (s t : ℕ) → fits o (bit_or s t) ≡ (fits o s || fits o t)
 fits-or None s t = or_zero (bit_or s t) s t (le_or_l s t) (le_or_r s t) (zero_or s t)
 fits-or (Some v) s t = has-or s t v
-
--- ---- tests
 
 -- ---- rows
 
@@ -184,9 +183,6 @@ wide-unions n a (b ∷ bs) h k = let both = and_parts (is_wide n b) (list_all (i
 pub union_unfalsified : (n : ℕ) (q : List (Option ℕ)) (a b : List ℕ) → is_wide n a ≡ true → is_wide n b ≡ true → row_unfalsified q (union_rows a b) ≡ (row_unfalsified q a || row_unfalsified q b)
 union_unfalsified n q a b h k = row_unfalsified-union q a b (widths n a h ∙ sym (widths n b k))
 
-pub unless_always : (o x : Bool) → x ≡ true → o ≡ (o && x)
-unless_always o x e = rw e (sym (and-true o))
-
 pub has_set : (q : List (Option ℕ)) (row : List ℕ) (x v : ℕ) → length row ≡ length q → x < length row → has (get_or row x 0) v ≡ true → row_unfalsified (set q x (Some v)) row ≡ true
 has_set q row x v e h k = row_unfalsified-set q row x v e h ∙ ap (λ b. b || row_unfalsified q (set row x 0)) k
 
@@ -200,18 +196,14 @@ wide-all n (a ∷ ls) bs h k = let both = and_parts (is_wide n a) (list_all (is_
 
 -- ---- all values of a subject
 
-pub list_all_implies : {X : Type 0} (p t : X → Bool) → ((x : X) → p x ≡ true → t x ≡ true) → (xs : List X) → list_all p xs ≡ true → list_all t xs ≡ true
-list_all_implies p t f [] h = refl
-list_all_implies p t f (x ∷ xs) h = let both = and_parts (p x) (list_all p xs) h in rw (f x both.0, list_all_implies p t f xs both.1)
-
 pub rows_in : (n x : ℕ) (rows : List (List ℕ)) → x < n → list_all (is_wide n) rows ≡ true → list_all (is_in x) rows ≡ true
-rows_in n x rows h = list_all_implies (is_wide n) (is_in x) (λ r k. let e = widths n r k in let l : x < length r = omega arith in lt-ltb x (length r) l) rows
+rows_in n x rows h = all_pass_too (is_wide n) (is_in x) (λ r k. let e = widths n r k in let l : x < length r = omega arith in lt-ltb x (length r) l) rows
 
 pub rows_sized : (n : ℕ) (q : List (Option ℕ)) (rows : List (List ℕ)) → length q ≡ n → list_all (is_wide n) rows ≡ true → list_all (is_sized q) rows ≡ true
-rows_sized n q rows e = list_all_implies (is_wide n) (is_sized q) (λ r k. eq-eqb (length r) (length q) (widths n r k ∙ sym e)) rows
+rows_sized n q rows e = all_pass_too (is_wide n) (is_sized q) (λ r k. eq-eqb (length r) (length q) (widths n r k ∙ sym e)) rows
 
 pub wide-fixed : (n x : ℕ) (rows : List (List ℕ)) → list_all (is_wide n) rows ≡ true → list_all (λ r. is_wide n (fix_row x r)) rows ≡ true
-wide-fixed n x rows = list_all_implies (is_wide n) (λ r. is_wide n (fix_row x r)) (λ r k. eq-eqb (length (set r x 0)) n (length-set r x 0 ∙ widths n r k)) rows
+wide-fixed n x rows = all_pass_too (is_wide n) (λ r. is_wide n (fix_row x r)) (λ r k. eq-eqb (length (set r x 0)) n (length-set r x 0 ∙ widths n r k)) rows
 
 pub length-within : (sizes : List ℕ) (q : List (Option ℕ)) → IsWithin sizes q → length q ≡ length sizes
 length-within [] [] w = refl
@@ -272,4 +264,4 @@ zero_stays (suc x) zero (s ∷ row) z = z
 zero_stays (suc x) (suc y) (s ∷ row) z = zero_stays x y row z
 
 pub zeros_stay : (x y : ℕ) (rows : List (List ℕ)) → list_all (is_zero y) rows ≡ true → list_all (λ r. is_zero y (fix_row x r)) rows ≡ true
-zeros_stay x y = list_all_implies (is_zero y) (λ r. is_zero y (fix_row x r)) (zero_stays x y)
+zeros_stay x y = all_pass_too (is_zero y) (λ r. is_zero y (fix_row x r)) (zero_stays x y)

@@ -1,5 +1,5 @@
 -- What keys that pass all tests stand for.
-use Rattle.std.proofs.Common.{◌≡◌, ℕ, suc, ◌<◌, Bool, true, false, not, ◌&&◌, ◌||◌, eqb, ltb, List, [], ◌∷◌, length, Option, Some, None, refl, sym, ◌∙◌, ap, subst, arith, filter, Vec, Global, All, Contains, inl, inr, eq-eqb, lt-ltb}
+use Rattle.std.proofs.Common.{◌≡◌, ℕ, suc, ◌<◌, Bool, true, false, not, ◌&&◌, eqb, ltb, List, [], ◌∷◌, length, Option, Some, None, refl, sym, ◌∙◌, ap, arith, filter, Vec, Global, All, Contains, eq-eqb, lt-ltb}
 use Rattle.std.specs.Option.{is_some}
 use Rattle.std.specs.List.{list_all, list_any, AllByRecursion}
 use Rattle.std.specs.List.Sorted.{IsStrictlySortedBy}
@@ -9,13 +9,14 @@ use Rattle.std.specs.declared.cmp.Ordering.{Ordering}
 use Rattle.std.specs.declared.cmp.Ordering.TheVariants.{Less, Equal, Greater}
 use Rattle.std.proofs.lemmas.List.Kept.{AllPairs-cons}
 use Rattle.std.proofs.lemmas.List.Elements.{All-cons}
-use Rattle.std.proofs.lemmas.Bool.{and_parts, eqb-true, ltb-true, not-true, or_left, or_right}
+use Rattle.std.proofs.lemmas.Bool.{and_parts, eqb-true, ltb-true, not-true}
+use Rattle.list_laws.proofs.Passing.{some_passes, passes_some, each_passes}
 use Rattle.cca_base.specs.declared.cube.Pair.{Pair}
 use Rattle.cca_base.specs.Cube.{IsBeforeCube, AreInCubeOrder, cube_cmp, pair_cmp}
-use Rattle.cca_base.proofs.Members.{all_from, contains_cases, contains_here, contains_there, contains_none}
+use Rattle.cca_base.proofs.Members.{all_from, contains_here, contains_there}
 use Rattle.prime_implicants.specs.Partial.{IsWithin}
 use Rattle.prime_implicants.specs.DenseClauses.{all_unfalsified}
-use Rattle.prime_implicants.proofs.DenseClauseLaws.{length-within, list_all_get}
+use Rattle.prime_implicants.proofs.DenseClauseLaws.{length-within}
 use Rattle.prime_implicants.specs.Found.{IsFoundable, all_below, is_needed, Key, key_from, key_of, all_keys, pairs_listed, pairs_of_key, cubes_of_keys, AreOrdered}
 use Rattle.prime_implicants.proofs.PartialPairs.{pair_of, given_pairs, values_in, length-values_in, matches_values, matches_given, rising_given, rising_agree, partial_same, some_inside}
 
@@ -119,43 +120,24 @@ found sizes rows key e =
     let second = and_parts (all_below (length q) (is_needed rows q)) (same_numbers (key_of q) key) parts.1 in
     (q, record { within = is_within sizes q first.0; refuted = not-true (all_unfalsified q rows) first.1; minimal = second.0 }, sym (numbers_same (key_of q) key second.1))
 
-list_all_of : {X : Type 0} (t : X → Bool) (xs : List X) (x : X) → list_all t xs ≡ true → Contains xs x → t x ≡ true
-list_all_of t xs x h m = subst (λ z. t z ≡ true) m.2 (list_all_get t xs m.0 x m.1 h)
-
 -- ---- keys of which every test that the tests find passes
 
 pub each_stands : (sizes : List ℕ) (rows : List (List ℕ)) (keys : List (Vec ℕ Global))
     → ((t : Key → Bool) → ((p : List (Option ℕ)) → IsFoundable sizes rows p → t (key_of p) ≡ true) → all_keys t keys ≡ true)
     → (k : Vec ℕ Global) → Contains keys k → StandsFor sizes rows k.items
 each_stands sizes rows keys sound k m =
-    found sizes rows k.items (list_all_of (λ z. found_test sizes rows z.items) keys k (sound (found_test sizes rows) (passes sizes rows)) m)
+    found sizes rows k.items (each_passes (λ z. found_test sizes rows z.items) keys k (sound (found_test sizes rows) (passes sizes rows)) m)
 
 pub list_all_if : {X : Type 0} (t : X → Bool) (xs : List X) → ((x : X) → Contains xs x → t x ≡ true) → list_all t xs ≡ true
 list_all_if t [] f = refl
 list_all_if t (x ∷ xs) f = rw (f x (contains_here x x xs refl), list_all_if t xs (λ y m. f y (contains_there x y xs m)))
 
-list_any_if : {X : Type 0} (t : X → Bool) (xs : List X) (x : X) → Contains xs x → t x ≡ true → list_any t xs ≡ true
-list_any_if t [] x m e = absurd (contains_none x m)
-list_any_if t (y ∷ xs) x m e = elim (contains_cases y x xs m) [
-  | inl same ↦ or_left (t y) (list_any t xs) (subst (λ z. t z ≡ true) (sym same) e)
-  | inr there ↦ or_right (t y) (list_any t xs) (list_any_if t xs x there e)
-]
-
-any_case : {X : Type 0} (t : X → Bool) (y : X) (xs : List X) (b : Bool) → t y ≡ b → (b || list_any t xs) ≡ true
-    → (list_any t xs ≡ true → (x : X) × Contains xs x × (t x ≡ true)) → (x : X) × Contains (y ∷ xs) x × (t x ≡ true)
-any_case t y xs true e h f = (y, contains_here y y xs refl, e)
-any_case t y xs false e h f = let r = f h in (r.0, contains_there y r.0 xs r.1, r.2)
-
-any_of : {X : Type 0} (t : X → Bool) (xs : List X) → list_any t xs ≡ true → (x : X) × Contains xs x × (t x ≡ true)
-any_of t [] h = absurd (cc)
-any_of t (y ∷ xs) h = any_case t y xs (t y) refl h (any_of t xs)
-
 -- what passes each test that all keys pass is one of the keys
 pub is_a_key : (keys : List (Vec ℕ Global)) (key : List ℕ) → ((t : Key → Bool) → all_keys t keys ≡ true → t key ≡ true) → (k : Vec ℕ Global) × Contains keys k × (k.items ≡ key)
 is_a_key keys key f =
     let t : List ℕ → Bool = λ z. list_any (λ k. same_numbers k.items z) keys in
-    let all : all_keys t keys ≡ true = list_all_if (λ z. t z.items) keys (λ z m. list_any_if (λ k. same_numbers k.items z.items) keys z m (same_numbers-self z.items)) in
-    let r = any_of (λ k. same_numbers k.items key) keys (f t all) in
+    let all : all_keys t keys ≡ true = list_all_if (λ z. t z.items) keys (λ z m. some_passes (λ k. same_numbers k.items z.items) keys z m (same_numbers-self z.items)) in
+    let r = passes_some (λ k. same_numbers k.items key) keys (f t all) in
     (r.0, r.1, numbers_same r.0.items key r.2)
 
 -- ---- the order of keys is that of cubes

@@ -6,6 +6,7 @@ use Rattle.std.specs.List.{list_all}
 use Rattle.std.specs.Option.{is_none}
 use mathlib.Core.Bool.{or-true}
 use Rattle.prime_implicants.proofs.Completeness.{fits_wider}
+use Rattle.prime_implicants.proofs.PartialValueLaws.{shifted}
 
 -- ---- a value taken out
 
@@ -16,17 +17,13 @@ at_head false true false h = refl
 at_head false false true h = refl
 at_head false false false h = refl
 
-in_tail : (fit new old named : Bool) → new ≡ (old || named) → (fit || new) ≡ ((fit || old) || named)
-in_tail true new old named e = refl
-in_tail false new old named e = e
-
 row_unfalsified-without : (q : List (Option ℕ)) (row : List ℕ) (i : ℕ) → i < length q → row_unfalsified (set q i None) row ≡ (row_unfalsified q row || mentions i row)
 row_unfalsified-without [] row i h = absurd (omega arith)
 row_unfalsified-without (o ∷ q) [] zero h = refl
 row_unfalsified-without (o ∷ q) [] (suc i) h = refl
 row_unfalsified-without (o ∷ q) (s ∷ row) zero h = at_head (fits o s) (row_unfalsified q row) (not (eqb s 0)) (fits_wider o None s tt)
 row_unfalsified-without (o ∷ q) (s ∷ row) (suc i) h =
-    let l : i < length q = omega arith in in_tail (fits o s) (row_unfalsified (set q i None) row) (row_unfalsified q row) (mentions i row) (row_unfalsified-without q row i l)
+    let l : i < length q = omega arith in shifted (fits o s) (row_unfalsified (set q i None) row) (row_unfalsified q row) (mentions i row) (row_unfalsified-without q row i l)
 
 -- ---- a value is needed by every row
 

@@ -19,7 +19,7 @@ union_rows-step a b i h k = rw (add-one) (union-step a b i h k)
 
 -- ---- one more value in a subject's set
 
-shifted : (a b c d : Bool) → b ≡ (c || d) → (a || b) ≡ ((a || c) || d)
+pub shifted : (a b c d : Bool) → b ≡ (c || d) → (a || b) ≡ ((a || c) || d)
 shifted true b c d e = refl
 shifted false b c d e = e
 

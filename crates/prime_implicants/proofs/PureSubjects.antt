@@ -5,8 +5,9 @@ use Rattle.clause_form.specs.Clauses.{any_below}
 use Rattle.std.proofs.Common.{◌≡◌, ℕ, ◌<◌, Bool, true, false, not, cond, ◌&&◌, ◌||◌, List, [], ◌∷◌, length, Option, Some, refl, sym, ◌∙◌, arith, set, get_or}
 use Rattle.std.specs.List.{list_all, filter}
 use Rattle.std.proofs.lemmas.Bool.{and_parts}
+use Rattle.list_laws.proofs.Tests.{and_with}
 use Rattle.cca_base.specs.Sets.{has}
-use Rattle.prime_implicants.proofs.DenseClauseLaws.{has_set, length-within, unless_always, widths}
+use Rattle.prime_implicants.proofs.DenseClauseLaws.{has_set, length-within, widths}
 use Rattle.clause_form.proofs.SomeValue.{any_true, some_below}
 
 kept : (q : List (Option ℕ)) (r : List ℕ) (rows : List (List ℕ)) (unnamed met : Bool) → (unnamed || met) ≡ true → (met ≡ true → row_unfalsified q r ≡ true)
@@ -31,5 +32,5 @@ pub pure_adds_nothing : (sizes : List ℕ) (x : ℕ) (q : List (Option ℕ)) (ro
     → all_unfalsified q rows ≡ (all_unfalsified q rows && any_below (get_or sizes x 0) (λ v. all_unfalsified (set q x (Some v)) (filter (mentions x) rows)))
 pure_adds_nothing sizes x q rows w h wide pure =
     let r = any_true (get_or sizes x 0) (λ v. have_value x v rows) pure in
-    unless_always (all_unfalsified q rows) _ (some_below (get_or sizes x 0) (λ v. all_unfalsified (set q x (Some v)) (filter (mentions x) rows)) r.0 r.1
+    and_with (all_unfalsified q rows) _ (some_below (get_or sizes x 0) (λ v. all_unfalsified (set q x (Some v)) (filter (mentions x) rows)) r.0 r.1
     (named_true (length sizes) x r.0 q rows (length-within sizes q w) h wide r.2))

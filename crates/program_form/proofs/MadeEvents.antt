@@ -1,5 +1,5 @@
 -- Events that were made, with what is told of them.
-use Rattle.std.proofs.Common.{◌≡◌, ℕ, Bool, List, Option, Some, None, Result, Ok, Err, refl}
+use Rattle.std.proofs.Common.{◌≡◌, ℕ, Bool, List, Option, Some, Result, Ok, Err}
 use Rattle.std.specs.Prelude.{IfOk}
 use Rattle.cca_base.specs.Accepted.{CompiledModel}
 use Rattle.cca_base.specs.Plans.{Promising}
@@ -12,7 +12,7 @@ use Rattle.control_laws.specs.Turns.{Control}
 use Rattle.trace_laws.specs.Events.{Acts, IsTick}
 use Rattle.program_form.specs.Printed.{told_text}
 use Rattle.program_form.specs.ProgramMachine.{MakesEvent, Prepares, event_text, sequencer}
-use Rattle.program_form.specs.PutIn.{Sequencer, Told, PutsBefore, TurnsBefore, ends, left_by}
+use Rattle.program_form.specs.PutIn.{Told, TurnsBefore, ends, left_by}
 use Rattle.program_form.specs.Stages.{RunsWell}
 use Rattle.program_form.proofs.RunningWell.{well_again}
 use Rattle.program_form.proofs.Sequencing.{tick_is}
@@ -28,21 +28,6 @@ pub tick_made : {V E : Type 0} (items : V → List ℕ) (b : CompiledModel) (x z
 tick_made items b x z y c next ended report (Ok t) (put, turns, prepares, is) acts text =
     (Some (record { report = report; ended = ended }), record { put = put; puts = turns; told = (tt, is); middle = z; prepares = prepares; acts = acts }, text)
 tick_made items b x z y c next ended report (Err e) h acts text = tt
-
--- nothing is put in before an event that is no tick
-quiet_puts : (m : PlantModel) (e : Event) (s : Sequencer) (next : Control) → (IsTick e → ⊥) → next ≡ left_by e s.control → PutsBefore m e s None next
-quiet_puts m event.Tick s next other is = absurd (other tt)
-quiet_puts m event.Reset s next other is = (refl, is)
-quiet_puts m (event.Goal pairs) s next other is = (refl, is)
-quiet_puts m event.Clear s next other is = (refl, is)
-quiet_puts m (event.Observe pairs) s next other is = (refl, is)
-quiet_puts m (event.Fault p) s next other is = (refl, is)
-quiet_puts m (event.Mirror v) s next other is = (refl, is)
-
--- an event that is no tick
-pub other_made : (b : CompiledModel) (x y : ExecutiveState) (c next : Control) (e : Event) (report : Option TickReport) → (IsTick e → ⊥) → Acts b (Promising b) x e y report → next ≡ left_by e c → MakesEvent b x c e y next None
-other_made b x y c next e None other acts is = record { put = None; puts = quiet_puts b.model e (sequencer x c) next other is; told = other; middle = x; prepares = refl; acts = acts }
-other_made b x y c next e (Some report) other acts is = absurd (other acts.0)
 
 -- a program that runs well goes on so behind it
 pub well_left : (m : PlantModel) (e : Event) (c : Control) → RunsWell m c → RunsWell m (left_by e c)

@@ -62,7 +62,7 @@ module _ (b : CompiledModel) (compiled : IsCompiled b) where
   turn_well true x c put next well (none, is) = subst (RunsWell b.model) (sym is) well
   turn_well false x c put next well (goal, turns, is) = well_after b.model x.estimate c goal next well turns
 
-  pub put_well : (e : Event) (x : ExecutiveState) (c : Control) (put : Option Event) (next : Control) → RunsWell b.model c → PutsBefore b.model e (sequencer x c) put next → RunsWell b.model next
+  put_well : (e : Event) (x : ExecutiveState) (c : Control) (put : Option Event) (next : Control) → RunsWell b.model c → PutsBefore b.model e (sequencer x c) put next → RunsWell b.model next
   put_well event.Tick x c put next well h = turn_well x.holding x c put next well h
   put_well event.Reset x c put next well h = subst (RunsWell b.model) (sym h.1) (well_again b.model c well)
   put_well (event.Goal pairs) x c put next well h = subst (RunsWell b.model) (sym h.1) well

@@ -13,7 +13,7 @@ use Rattle.line_machine.specs.declared.machine.End.TheVariants.{Refused}
 use Rattle.line_machine.specs.declared.machine.Said.{Said}
 use Rattle.script_reader.specs.SaidLines.{Answers}
 use Rattle.trace_text.specs.Json.{refusal_text}
-use Rattle.program_form.specs.ProgramMachine.{IsOpen, ProgramAwaits, ProgramState, ProgramSteps, Reads, Runs, Stage, StepsIn, stage_by}
+use Rattle.program_form.specs.ProgramMachine.{IsProperStage, ProgramAwaits, ProgramState, ProgramSteps, Reads, Runs, Stage, StepsIn, stage_by}
 use Rattle.program_form.specs.Stages.{ReadsTo, RunsWell, begun}
 use Rattle.program_form.proofs.RunningWell.{well_at_first}
 
@@ -70,6 +70,6 @@ still_awaits m w x s n line y z stop (Err e) same at answer h waits to = tt
 still_awaits m w x s n line y z stop (Ok said) same at answer (code, is, ends, texts) waits to =
     let awaits = subst (λ v. ProgramAwaits v n) (sym same) waits in
     let few = awaits.0 in
-    let is_open = subst IsOpen at awaits.1 in
+    let is_open = subst IsProperStage at awaits.1 in
     let read = coded (λ s. ReadsTo m y line s z) stop code answer is in
     subst (λ v. ProgramAwaits v (n + 1)) (sym to) (omega arith, ap (λ (v : Reading). v.whole) read.1 ∙ is_open)

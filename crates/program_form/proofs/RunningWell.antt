@@ -83,10 +83,3 @@ ends_by c d before after h k = (λ i. not (none_by before c.left h i) && none_by
     some_or_none : (o : Option Rest) → not (is_none o) ≡ is_some o
     some_or_none None = refl
     some_or_none (Some x) = refl
-
-pub never_ends : (c d : Control) → d ≡ c → false ≡ ends c d
-never_ends c d h = sym (ap (λ z. ends c z) h ∙ both c.left)
-  where
-    both : (o : Option Rest) → (is_some o && is_none o) ≡ false
-    both None = refl
-    both (Some x) = refl

@@ -1,9 +1,8 @@
 -- What the lines behind a model say, without a reader.
-use Rattle.std.proofs.Common.{◌≡◌, ◌+◌, ◌↔◌, ℕ, true, false, List, [], ◌∷◌, ◌++◌, length, map, Option, Some, None, Result, Ok, Err, IsTrue, refl, sym, ap, subst, ◌∙◌, arith}
+use Rattle.std.proofs.Common.{◌≡◌, ◌+◌, ℕ, List, [], ◌∷◌, ◌++◌, length, map, Option, Some, None, Result, Ok, Err, IsTrue, refl, sym, ap, subst, ◌∙◌, arith}
 use Rattle.std.proofs.lemmas.Option.{same_Some}
 use Rattle.std.specs.List.{AllByRecursion}
 use Rattle.cca_base.specs.PlantModel.{PlantModel}
-use Rattle.cca_base.specs.declared.codes.TheConstants.{MALFORMED}
 use Rattle.cca_base.specs.declared.cube.Pair.{Pair}
 use Rattle.cca_base.specs.declared.events.Event.{Event}
 use Rattle.cca_base.specs.declared.events.Event.TheVariants as event
@@ -14,7 +13,7 @@ use Rattle.control_syntax.specs.Written.{AreRead}
 use Rattle.control_syntax.specs.declared.line.Line.{Line}
 use Rattle.control_syntax.specs.declared.part.Part.{Part}
 use Rattle.model_form.specs.Limits.{line_code, unless_long}
-use Rattle.script_reader.specs.EventLines.{as_event, by_form, by_tokens, event_here, event_of, named_event, unless}
+use Rattle.script_reader.specs.EventLines.{as_event, by_form, by_tokens, event_here, named_event, unless}
 use Rattle.script_reader.specs.Items.{Item, Goal, Clear, Observe, Fault, Mirror, Reset, Tick, item_of}
 use Rattle.script_reader.specs.Named.{variable_of, stands_for, each_pair}
 use Rattle.script_reader.specs.declared.named.Naming.TheVariants.{Modes, Values}
@@ -24,7 +23,7 @@ use Rattle.text_base.specs.Tokens.{Tok, tokens_of}
 use Rattle.trace_laws.specs.Events.{mirrored_after}
 use Rattle.program_form.specs.PutInLaws.{sets_no_goal}
 use Rattle.program_form.specs.Sequences.{Sequence, ProgramBy, ReadsLine, SaysBy, SaysEvents, SaysNext, SaysProgram, event_line, line_says}
-use Rattle.program_form.specs.WrittenPrograms.{AreShort, IsWrittenFirst, LinesSetNoGoal, ProgramsAreWritten}
+use Rattle.program_form.specs.WrittenPrograms.{AreShort, LinesSetNoGoal, ProgramsAreWritten}
 
 module _ (m : PlantModel) where
   module _ (part : Part) where

@@ -17,6 +17,7 @@ use Rattle.cca_base.specs.Steps.{Step, AllowedPlan, Reach}
 use Rattle.cca_base.specs.Choice.{PicksForGoal, IsChosenReply}
 use Rattle.cca_base.specs.Plans.{Whole, IsWanted, IsBackGoal}
 use Rattle.cca_base.proofs.Members.{all_from, contains_here}
+use Rattle.cca_base.proofs.Replies.{same_send, achieved_send, unreachable_send}
 use Rattle.reach_laws.specs.declared.cell.Cell.TheVariants as cell
 use Rattle.reach_laws.specs.Classes.{Test, AreInside, OpenRepairs, IsHome, IsOnWay, Covers}
 use Rattle.reach_laws.specs.Laws.{Setting}
@@ -65,15 +66,6 @@ one_found_goal cells s goal n j k l x y =
     one_found cells s n j y.0.item y.0.value k l (subst (λ z. Finds cells s z.item z.value k n) same x.2) y.2
 
 -- ---- answers
-
-same_send : (k l : ℕ) → Send k ≡ Send l → k ≡ l
-same_send k l h = cc
-
-achieved_send : (k : ℕ) → Achieved ≡ Send k → ⊥
-achieved_send k h = cc
-
-unreachable_send : (c mode k : ℕ) → Unreachable c mode ≡ Send k → ⊥
-unreachable_send c mode k h = cc
 
 module _ (b : CompiledModel) (base : List ℕ) (member : Test) (cells : Cells) (compiled : IsCompiled b) (policy : IsPolicy b base member cells)
     (s : List ℕ) (g : Setting b.model b.order base member s) (goal : List Pair) (along : AreInOrder b.order goal) where

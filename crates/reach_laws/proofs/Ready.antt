@@ -1,5 +1,5 @@
 -- A prime implicant of a step's move stands on modes that are not broken.
-use Rattle.std.proofs.Common.{◌≡◌, ◌<◌, ◌≢◌, ◌==◌, ◌&&◌, ℕ, Bool, true, false, not, List, ◌∷◌, length, slice_get, Some, Contains, filter, refl, sym, ap, subst, ◌∙◌, inl, inr, arith}
+use Rattle.std.proofs.Common.{◌≡◌, ◌<◌, ◌≢◌, ◌==◌, ◌&&◌, ℕ, Bool, true, false, not, List, ◌∷◌, slice_get, Some, Contains, filter, refl, sym, ap, subst, ◌∙◌, inl, inr}
 use Rattle.std.proofs.lemmas.Bool.{cases_eq, both_ways, eq-eqb, ne_eqb, not-true, not_from_false, and_parts, and_from}
 use Rattle.std.proofs.lemmas.List.Elements.{All-contains}
 use Rattle.std.proofs.lemmas.Option.{slice_get_within, same_Some}

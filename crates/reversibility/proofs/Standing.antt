@@ -19,10 +19,6 @@ below_next P n each last k lt = elim (cases_lt k n) [
   | inr above ↦ let e : n ≡ k = omega (arith, above, lt) in subst P e last
 ]
 
-module _ (p : ClassParts) (is : IsClasses p) (s : List ℕ) (c row mode : ℕ) (at_row : slice_get p.rows c ≡ Some row) (at_mode : slice_get s c ≡ Some mode) where
-  row_within : c < length p.compiled.model.components
-  row_within = omega (arith, slice_get_within p.rows c row at_row, is.rows_full)
-
 -- where a component may stand
 module _ (p : ClassParts) (is : IsClasses p) (c row mode : ℕ) (at_row : slice_get p.rows c ≡ Some row) where
   pub stands_chain : (chain : ℕ) → slice_get p.chains c ≡ Some chain → has row mode ≡ false → (has chain mode ≡ true) ↔ Stands p.compiled.model p.base (in_row p.rows) c mode

@@ -70,7 +70,7 @@ module _ (m : PlantModel) (base rows : List ℕ) (flags : List Bool) (c : ℕ) (
   new_apart : Among c done → ⊥
   new_apart = first.1
 
-  pub done_none : ((a : ℕ) → IsHomeFrom m (in_row rows) c (slice_index base c) a → ⊥) → AreDone m base rows flags (c ∷ done)
+  done_none : ((a : ℕ) → IsHomeFrom m (in_row rows) c (slice_index base c) a → ⊥) → AreDone m base rows flags (c ∷ done)
   done_none none =
       let no_home : (a : ℕ) → IsHome m base (in_row rows) c a → ⊥ = λ a k. none a (record { sound = k.sound; count = k.count; way = k.way }) in
       record {

@@ -13,4 +13,3 @@ pub mod ScriptRuns
 pub mod ShownPlans
 pub mod SureRuns
 pub mod TraceOfRun
-pub mod FittingLines

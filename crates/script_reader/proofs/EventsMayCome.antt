@@ -4,9 +4,11 @@ use Rattle.std.specs.Prelude.{IfSome}
 use Rattle.std.specs.List.{list_any}
 use Rattle.std.specs.Option.{option_map_or}
 use Rattle.std.proofs.lemmas.Bool.{or_parts, not-false, eqb-false}
-use Rattle.std.proofs.lemmas.List.Elements.{All-nil, All-cons, All-weaker, All-contains}
+use Rattle.std.proofs.lemmas.List.Elements.{All-weaker, All-contains}
 use Rattle.std.proofs.lemmas.List.Kept.{AllPairs-cons}
 use Rattle.std.proofs.lemmas.Option.{same_Some}
+use Rattle.list_laws.proofs.Tests.{same_ok}
+use Rattle.list_laws.proofs.Passing.{none_passes}
 use Rattle.cca_base.proofs.Members.{all_from}
 use Rattle.cca_base.specs.declared.codes.TheConstants.{NOT_SENSED, BROKEN_GOAL, REPEATED_PAIR, MIRRORED}
 use Rattle.cca_base.specs.declared.cube.Pair.{Pair}
@@ -37,14 +39,8 @@ use Rattle.script_reader.proofs.ItemGrammar.{item_written}
 
 -- ---- tests that fail
 
-none_of : {X : Type 0} (test : X → Bool) (xs : List X) → list_any test xs ≡ false → All (λ x. test x ≡ false) xs
-none_of test [] h = All-nil (λ x. test x ≡ false)
-none_of test (x ∷ xs) h =
-    let p = or_parts (test x) (list_any test xs) h in
-    All-cons (λ y. test y ≡ false) x xs p.0 (none_of test xs p.1)
-
 others : (item : ℕ) (ps : List Pair) → has_item ps item ≡ false → All (λ p. p.item ≢ item) ps
-others item ps h = All-weaker (λ (p : Pair). p.item == item ≡ false) (λ (p : Pair). p.item ≢ item) (λ p e. eqb-false p.item item e) ps (none_of (λ (p : Pair). p.item == item) ps h)
+others item ps h = All-weaker (λ (p : Pair). p.item == item ≡ false) (λ (p : Pair). p.item ≢ item) (λ p e. eqb-false p.item item e) ps (none_passes (λ (p : Pair). p.item == item) ps h)
 
 pub once_each : (ps : List Pair) → has_item_twice ps ≡ false → IsCube ps
 once_each [] h = λ i j d before within same. omega arith
@@ -71,11 +67,8 @@ may_be_seen m pending mirrored v s p h = sensed_by m pending mirrored v (slice_g
 
 -- ---- events
 
-ok_is : {X : Type 0} (x y : X) → ◌≡◌ {A = Result X ℕ} (Ok x) (Ok y) → x ≡ y
-ok_is x y h = cc
-
 taken_as : {X : Type 0} (code : Option ℕ) (x : X) (y : X) → unless code x ≡ Ok y → (code ≡ None) × (x ≡ y)
-taken_as None x y h = (refl, ok_is x y h)
+taken_as None x y h = (refl, same_ok x y h)
 taken_as (Some code) x y h = absurd cc
 
 goal_sound : (m : PlantModel) (pairs : List Pair) → goal_code m pairs ≡ None → (list_any (is_broken_pair m) pairs ≡ false) × (has_item_twice pairs ≡ false)
@@ -117,7 +110,7 @@ module _ (m : PlantModel) (pending : List Pair) (mirrored : ℕ) (e : Event) whe
         some = omega (arith, as_many (stands_for Modes m) named pairs f, some);
         cube = once_each pairs sound.1;
         modes = all_from (λ (q : Pair). HasMode m q.item q.value) pairs mode;
-        sound = none_of (is_broken_pair m) pairs sound.0;
+        sound = none_passes (is_broken_pair m) pairs sound.0;
       })
 
   observe_comes : (named : List NamedPair) (o : Option (List Pair)) → 0 < length named → each_pair (stands_for Values m) named ≡ o → named_event event.Observe (observe_code m pending mirrored) o ≡ Ok e
@@ -127,9 +120,9 @@ module _ (m : PlantModel) (pending : List Pair) (mirrored : ℕ) (e : Event) whe
       let t = taken_as (observe_code m pending mirrored pairs) (event.Observe pairs) e h in
       let sound = observe_sound m pending mirrored pairs t.0 in
       let value : (q : Pair) → Contains pairs q → HasValue m q.item q.value = λ q among. let from = comes_from (stands_for Values m) named pairs q f among in value_is m from.0 q from.2 in
-      let sensed = none_of (λ (q : Pair). not (is_sensed m q.item)) pairs sound.0 in
-      let again = none_of (λ (q : Pair). has_item pending q.item) pairs sound.2 in
-      let reflected = none_of (λ (q : Pair). has mirrored q.item) pairs sound.3 in
+      let sensed = none_passes (λ (q : Pair). not (is_sensed m q.item)) pairs sound.0 in
+      let again = none_passes (λ (q : Pair). has_item pending q.item) pairs sound.2 in
+      let reflected = none_passes (λ (q : Pair). has mirrored q.item) pairs sound.3 in
       let seen : (q : Pair) → Contains pairs q → MayBeSeen m pending mirrored q.item = λ q among.
       may_be_seen m pending mirrored q.item
       (All-contains (λ (x : Pair). not (is_sensed m x.item) ≡ false) pairs q sensed among)
@@ -145,7 +138,7 @@ module _ (m : PlantModel) (pending : List Pair) (mirrored : ℕ) (e : Event) whe
 
   fault_comes : (named : NamedPair) (o : Option Pair) → mode_pair m named ≡ o → named_event event.Fault (λ p. None) o ≡ Ok e → MayCome m pending mirrored e
   fault_comes named None f h = absurd cc
-  fault_comes named (Some q) f h = subst (MayCome m pending mirrored) (ok_is (event.Fault q) e h) (mode_is m named q f)
+  fault_comes named (Some q) f h = subst (MayCome m pending mirrored) (same_ok (event.Fault q) e h) (mode_is m named q f)
 
   mirror_comes : (o : Option ℕ) → named_event event.Mirror (mirror_code m pending mirrored) o ≡ Ok e → MayCome m pending mirrored e
   mirror_comes None h = absurd cc
@@ -155,12 +148,12 @@ module _ (m : PlantModel) (pending : List Pair) (mirrored : ℕ) (e : Event) whe
 
   item_comes : (i : Item) → IsSpelled i → event_of m pending mirrored i ≡ Ok e → MayCome m pending mirrored e
   item_comes (Goal named) s h = goal_comes named (each_pair (stands_for Modes m) named) s.0 refl h
-  item_comes Clear s h = subst (MayCome m pending mirrored) (ok_is event.Clear e h) tt
+  item_comes Clear s h = subst (MayCome m pending mirrored) (same_ok event.Clear e h) tt
   item_comes (Observe named) s h = observe_comes named (each_pair (stands_for Values m) named) s.0 refl h
   item_comes (Fault named) s h = fault_comes named (mode_pair m named) refl h
   item_comes (Mirror name) s h = mirror_comes (variable_of m name) h
-  item_comes Reset s h = subst (MayCome m pending mirrored) (ok_is event.Reset e h) tt
-  item_comes Tick s h = subst (MayCome m pending mirrored) (ok_is event.Tick e h) tt
+  item_comes Reset s h = subst (MayCome m pending mirrored) (same_ok event.Reset e h) tt
+  item_comes Tick s h = subst (MayCome m pending mirrored) (same_ok event.Tick e h) tt
 
   here_comes : (i : Item) → IsSpelled i → event_here m pending mirrored i ≡ Ok e → MayCome m pending mirrored e
   here_comes (Goal named) s h = absurd cc
@@ -177,7 +170,7 @@ module _ (m : PlantModel) (pending : List Pair) (mirrored : ℕ) (e : Event) whe
 
   event_is : (r : Result Event ℕ) → as_event r ≡ Ok (Some e) → r ≡ Ok e
   event_is (Err code) h = absurd cc
-  event_is (Ok x) h = ap (λ (y : Event). Ok y) (same_Some x e (ok_is (Some x) (Some e) h))
+  event_is (Ok x) h = ap (λ (y : Event). Ok y) (same_Some x e (same_ok (Some x) (Some e) h))
 
   form_comes : (goals : Bool) (ls : List Lexeme) (o : Option Item) → item_of ls ≡ o → by_form (event_by goals m pending mirrored) o ≡ Ok (Some e) → MayCome m pending mirrored e
   form_comes goals ls None f h = absurd cc

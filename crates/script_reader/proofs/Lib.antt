@@ -7,4 +7,3 @@ pub mod NamedItems
 pub mod OneSaid
 pub mod TableOfCodes
 pub mod LinesSayItems
-pub mod FormulaTexts

@@ -1,5 +1,6 @@
 -- What a line says is what its item does; the line is malformed exactly where it spells none.
 use Rattle.std.proofs.Common.{◌≡◌, ◌↔◌, ℕ, List, [], ◌∷◌, map, Option, Some, None, Result, Ok, Err, inl, inr, refl, sym, ap, ◌∙◌, arith}
+use Rattle.list_laws.proofs.Tests.{same_ok}
 use Rattle.cca_base.specs.declared.codes.TheConstants.{MALFORMED}
 use Rattle.cca_base.specs.declared.cube.Pair.{Pair}
 use Rattle.cca_base.specs.declared.events.Event.{Event}
@@ -14,9 +15,6 @@ use Rattle.script_reader.proofs.TableOfCodes.{says, Says, applies_above}
 
 code_is : (code : ℕ) → ◌≡◌ {A = Result (Option Event) ℕ} (Err code) (Err MALFORMED) → code ≡ MALFORMED
 code_is code h = cc
-
-ok_is : (a b : List Tok) → ◌≡◌ {A = Result (List Tok) ℕ} (Ok a) (Ok b) → a ≡ b
-ok_is a b h = cc
 
 -- an item has a first word
 some_words : (i : Item) → [] ≡ spelling i → ⊥
@@ -68,7 +66,7 @@ module _ (m : PlantModel) (pending : List Pair) (mirrored : ℕ) where
         ts,
         e,
         λ i spells.
-            let same = ok_is spells.0 (t ∷ ts) (sym spells.1 ∙ e) in
+            let same = same_ok spells.0 (t ∷ ts) (sym spells.1 ∙ e) in
             let read : item_of (map lexeme (t ∷ ts)) ≡ Some i = ap (λ (x : List Tok). item_of (map lexeme x)) (sym same) ∙ ap item_of spells.2 ∙ item_again i spells.3 in
             let both : None ≡ Some i = sym f ∙ read in
             absurd cc,

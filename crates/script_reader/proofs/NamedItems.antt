@@ -1,6 +1,5 @@
 -- Tests of what pairs stand for, in words of their names.
-use Rattle.std.proofs.Common.{◌≡◌, ℕ, Bool, true, false, ◌==◌, List, [], ◌∷◌, Option, Some, None, Contains, position, get_or, inl, inr, refl, sym, ap, ◌∙◌}
-use Rattle.std.specs.List.{list_any}
+use Rattle.std.proofs.Common.{◌≡◌, ℕ, true, false, ◌==◌, List, [], ◌∷◌, Option, Some, None, position, get_or, inl, inr, sym, ap, ◌∙◌}
 use Rattle.std.specs.Option.{option_map}
 use Rattle.std.specs.Str.{bytes_eq}
 use Rattle.std.proofs.lemmas.Bool.{eqb-true, eq-eqb, or_left, or_right}
@@ -8,7 +7,7 @@ use Rattle.std.proofs.lemmas.Option.{same_Some}
 use Rattle.std.proofs.lemmas.Slice.Eq.{bytes_eq-Decides}
 use Rattle.std.proofs.lemmas.List.Quantifiers.{position-Some}
 use Rattle.list_laws.proofs.Tests.{either}
-use Rattle.cca_base.proofs.Members.{contains_cases, contains_here, contains_there, contains_none}
+use Rattle.list_laws.proofs.Passing.{some_passes, passes_some}
 use Rattle.cca_base.specs.declared.cube.Pair.{Pair}
 use Rattle.cca_base.specs.declared.formula.Subject.TheVariants.{Component, Variable}
 use Rattle.cca_base.specs.declared.model.Component.{Component as ComponentOfModel}
@@ -20,19 +19,6 @@ use Rattle.script_reader.specs.Named.{component_of, variable_of, mode_pair, valu
 use Rattle.script_reader.specs.EventCodes.{has_item, has_item_twice}
 use Rattle.script_reader.specs.Laws.{HaveNameTwice}
 use Rattle.script_reader.proofs.EachPair.{each_of, comes_from, goes_to, pair_parts}
-
--- ---- members that pass a test
-
-pub found : {X : Type 0} (test : X → Bool) (xs : List X) → list_any test xs ≡ true → (x : X) × Contains xs x × (test x ≡ true)
-found test [] h = absurd cc
-found test (x ∷ xs) h = either (test x) (list_any test xs) h (λ t. (x, contains_here x x xs refl, t)) (λ t. let r = found test xs t in (r.0, contains_there x r.0 xs r.1, r.2))
-
-pub found_by : {X : Type 0} (test : X → Bool) (xs : List X) (x : X) → Contains xs x → test x ≡ true → list_any test xs ≡ true
-found_by test [] x among t = absurd (contains_none x among)
-found_by test (y ∷ xs) x among t = elim (contains_cases y x xs among) [
-  | inl here ↦ or_left (test y) (list_any test xs) (ap test here ∙ t)
-  | inr there ↦ or_right (test y) (list_any test xs) (found_by test xs x there t)
-]
 
 -- ---- one name, one item
 
@@ -56,7 +42,7 @@ module _ (item_of : List ℕ → Option ℕ) (f : NamedPair → Option Pair) (on
       let again : has_item_twice (e.first ∷ e.rest) ≡ true = ap has_item_twice e.are ∙ t in
       either (has_item e.rest e.first.item) (has_item_twice e.rest) again
       (λ k.
-      let x = found (λ (q : Pair). q.item == e.first.item) e.rest k in
+      let x = passes_some (λ (q : Pair). q.item == e.first.item) e.rest k in
       let from = comes_from f ps e.rest x.0 e.is_rest x.1 in
       inl (from.0, from.1, name_again p from.0 e.first x.0 e.is_first from.2 (eqb-true x.0.item e.first.item x.2)))
       (λ k. inr (twice_named ps e.rest e.is_rest k))
@@ -67,7 +53,7 @@ module _ (item_of : List ℕ → Option ℕ) (f : NamedPair → Option Pair) (on
       let e = each_of f p ps qs h in
       let to = goes_to f ps e.rest x e.is_rest among in
       let equal = eq-eqb to.0.item e.first.item (item_again p x e.first to.0 e.is_first to.2 same) in
-      ap has_item_twice (sym e.are) ∙ or_left (has_item e.rest e.first.item) (has_item_twice e.rest) (found_by (λ (q : Pair). q.item == e.first.item) e.rest to.0 to.1 equal)
+      ap has_item_twice (sym e.are) ∙ or_left (has_item e.rest e.first.item) (has_item_twice e.rest) (some_passes (λ (q : Pair). q.item == e.first.item) e.rest to.0 to.1 equal)
   named_twice (p ∷ ps) qs h (inr later) =
       let e = each_of f p ps qs h in
       ap has_item_twice (sym e.are) ∙ or_right (has_item e.rest e.first.item) (has_item_twice e.rest) (named_twice ps e.rest e.is_rest later)

@@ -1,6 +1,7 @@
 -- A line says one thing, or has one code, where items that are spelled alike do.
 use Rattle.std.proofs.Common.{◌≡◌, ℕ, List, [], ◌∷◌, map, Option, Some, None, Result, Ok, Err, inl, inr, refl, sym, ap, subst, ◌∙◌, arith}
 use Rattle.std.proofs.lemmas.Bool.{cases_order}
+use Rattle.list_laws.proofs.Tests.{same_ok}
 use Rattle.cca_base.specs.declared.events.Stop.{Stop}
 use Rattle.cca_base.specs.declared.events.Stop.TheVariants as stops
 use Rattle.text_base.specs.Lexemes.{Lexeme, lexeme, lexeme_of}
@@ -8,9 +9,6 @@ use Rattle.text_base.specs.Tokens.{Tok, tokens_of, token_view}
 use Rattle.text_base.specs.declared.token.Token.{Token}
 use Rattle.script_reader.specs.SaidLines.{Grammar, AreSpelling, Spells, IsMalformed, IsLeast, SaidByItem, SaidByLine, SaidByTokens, Answers}
 use Rattle.script_reader.proofs.ItemsOfTokens.{lexemes}
-
-ok_is : (a b : List Tok) → ◌≡◌ {A = Result (List Tok) ℕ} (Ok a) (Ok b) → a ≡ b
-ok_is a b h = cc
 
 -- two least codes are one
 pub one_least : (Applies : ℕ → Type 0) (a b : ℕ) → IsLeast Applies a → IsLeast Applies b → a ≡ b
@@ -38,7 +36,7 @@ module _ {I R : Type 0} (g : Grammar I) (IsNamed : I → R → Type 0) (Applies 
     spells ts i e h = (ts, e, h)
 
     spelled : (ts : List Tok) (i : I) → tokens_of line ≡ Ok ts → Spells g line i → AreSpelling g (map lexeme ts) i
-    spelled ts i e (us, f, h) = subst (λ (x : List Tok). AreSpelling g (map lexeme x) i) (ok_is us ts (sym f ∙ e)) h
+    spelled ts i e (us, f, h) = subst (λ (x : List Tok). AreSpelling g (map lexeme x) i) (same_ok us ts (sym f ∙ e)) h
 
     -- what the tokens say
     pub of_tokens : (ts : List Token) (said : Result (Option R) ℕ) → tokens_of line ≡ Ok (map token_view ts) → SaidByTokens g IsNamed Applies (map lexeme_of ts) said → SaidByLine g IsNamed Applies line said
@@ -71,15 +69,15 @@ module _ {I R : Type 0} (g : Grammar I) (IsNamed : I → R → Type 0) (Applies 
 
     not_both : IsMalformed g line → tokens_of line ≡ Ok [] → ⊥
     not_both (inl (at, bad)) none = let both : Ok [] ≡ Err at = sym none ∙ bad in absurd cc
-    not_both (inr (t, ts, e, never)) none = let both : [] ≡ t ∷ ts = ok_is [] (t ∷ ts) (sym none ∙ e) in absurd cc
+    not_both (inr (t, ts, e, never)) none = let both : [] ≡ t ∷ ts = same_ok [] (t ∷ ts) (sym none ∙ e) in absurd cc
 
     alike : (i j : I) → Spells g line i → Spells g line j → g.spelled i ≡ g.spelled j
-    alike i j (ts, e, h) (us, f, k) = sym h.0 ∙ ap (map lexeme) (ok_is ts us (sym e ∙ f)) ∙ k.0
+    alike i j (ts, e, h) (us, f, k) = sym h.0 ∙ ap (map lexeme) (same_ok ts us (sym e ∙ f)) ∙ k.0
 
     module _ (some_words : (i : I) → [] ≡ g.spelled i → ⊥)
         (spelled_alike : (i j : I) (a b : Result R ℕ) → g.spelled i ≡ g.spelled j → g.IsSpelled i → g.IsSpelled j → SaidByItem g IsNamed Applies i a → SaidByItem g IsNamed Applies j b → a ≡ b) where
       not_empty : (i : I) → Spells g line i → tokens_of line ≡ Ok [] → ⊥
-      not_empty i (ts, e, spelled) none = some_words i (ap (map lexeme) (sym (ok_is ts [] (sym e ∙ none))) ∙ spelled.0)
+      not_empty i (ts, e, spelled) none = some_words i (ap (map lexeme) (sym (same_ok ts [] (sym e ∙ none))) ∙ spelled.0)
 
       spelled_once : (i : I) (a : Result R ℕ) (b : Result (Option R) ℕ) → Spells g line i → SaidByItem g IsNamed Applies i a → SaidByLine g IsNamed Applies line b → lifted a ≡ b
       spelled_once i a (Ok None) s h k = absurd (not_empty i s k)

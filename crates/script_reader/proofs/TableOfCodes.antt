@@ -3,7 +3,8 @@ use Rattle.std.proofs.Common.{Contains, ◌≡◌, ◌⊎◌, ◌↔◌, ◌<◌
 use Rattle.std.specs.List.{list_any}
 use Rattle.std.proofs.lemmas.Bool.{not-true, not_from_false, eqb-true, eq-eqb, or_left, or_right}
 use Rattle.std.proofs.lemmas.Option.{same_Some}
-use Rattle.list_laws.proofs.Tests.{either}
+use Rattle.list_laws.proofs.Tests.{either, never}
+use Rattle.list_laws.proofs.Passing.{some_passes, passes_some}
 use Rattle.cca_base.specs.declared.codes.TheConstants.{MALFORMED, NAME_UNKNOWN, NOT_SENSED, BROKEN_GOAL, REPEATED_PAIR, MIRRORED}
 use Rattle.cca_base.specs.declared.cube.Pair.{Pair}
 use Rattle.cca_base.specs.declared.events.Event.{Event}
@@ -20,7 +21,7 @@ use Rattle.script_reader.specs.EventLines.{unless, named_event, event_of}
 use Rattle.script_reader.proofs.OneSaid.{one_least}
 use Rattle.script_reader.specs.Laws.{NamesUnknown, NamesVariable, NamesUnsensed, WantsBroken, NamesTwice, NamesPending, NamesMirrored, Applies, IsLeastCode, IsNamed}
 use Rattle.script_reader.proofs.EachPair.{missing, comes_from, goes_to}
-use Rattle.script_reader.proofs.NamedItems.{found, found_by, twice_named, named_twice, mode_names, value_names}
+use Rattle.script_reader.proofs.NamedItems.{twice_named, named_twice, mode_names, value_names}
 
 no : {P : Type 0} → false ≡ true → P
 no e = absurd cc
@@ -60,10 +61,6 @@ module _ (m : PlantModel) (pending : List Pair) (mirrored : ℕ) where
   known i e false false false false u sn sb sr sk named =
       (named, λ code a. by_row i code a (λ c x. u x) (λ c x. no (sn.0 x)) (λ c x. no (sb.0 x)) (λ c x. no (sr.0 x)) (λ c x. no (sk.0 x)))
 
-  -- what no line of the form does
-  never : {A : Type 0} → (A → ⊥) → A ↔ (false ≡ true)
-  never h = (λ x. absurd (h x), λ e. no e)
-
   -- each pair of the line stands for something
   all_known : (f : NamedPair → Option Pair) (pairs : List NamedPair) (qs : List Pair) (p : NamedPair) → each_pair f pairs ≡ Some qs → Contains pairs p → f p ≡ None → ⊥
   all_known f pairs qs p h among none =
@@ -82,9 +79,9 @@ module _ (m : PlantModel) (pending : List Pair) (mirrored : ℕ) where
       λ x.
           let to = goes_to (stands_for Modes m) pairs qs x.0 h x.2 in
           let same : to.0 ≡ x.1 = same_Some to.0 x.1 (sym to.2 ∙ x.3) in
-          found_by (is_broken_pair m) qs to.0 to.1 (ap (is_broken_pair m) same ∙ x.4),
+          some_passes (is_broken_pair m) qs to.0 to.1 (ap (is_broken_pair m) same ∙ x.4),
       λ t.
-          let q = found (is_broken_pair m) qs t in
+          let q = passes_some (is_broken_pair m) qs t in
           let from = comes_from (stands_for Modes m) pairs qs q.0 h q.1 in
           (from.0, q.0, from.1, from.2, q.2),
     )
@@ -119,11 +116,11 @@ module _ (m : PlantModel) (pending : List Pair) (mirrored : ℕ) where
     by_variable test v (p, among, named) t =
         let to = goes_to (stands_for Values m) pairs qs p h among in
         let same : to.0.item ≡ v = same_Some to.0.item v (sym ((value_names m).item p to.0 to.2) ∙ named) in
-        found_by (λ (q : Pair). test q.item) qs to.0 to.1 (ap test same ∙ t)
+        some_passes (λ (q : Pair). test q.item) qs to.0 to.1 (ap test same ∙ t)
 
     to_variable : (test : ℕ → Bool) → list_any (λ (q : Pair). test q.item) qs ≡ true → (v : ℕ) × NamesVariable m (Observe pairs) v × (test v ≡ true)
     to_variable test t =
-        let q = found (λ (x : Pair). test x.item) qs t in
+        let q = passes_some (λ (x : Pair). test x.item) qs t in
         let from = comes_from (stands_for Values m) pairs qs q.0 h q.1 in
         (q.0.item, (from.0, from.1, (value_names m).item from.0 q.0 from.2), q.2)
 
@@ -139,7 +136,7 @@ module _ (m : PlantModel) (pending : List Pair) (mirrored : ℕ) where
     pending_named : list_any (λ (q : Pair). has_item pending q.item) qs ≡ true → NamesPending m pending (Observe pairs)
     pending_named some =
         let v = to_variable (has_item pending) some in
-        let p = found (λ (x : Pair). x.item == v.0) pending v.2 in
+        let p = passes_some (λ (x : Pair). x.item == v.0) pending v.2 in
         (v.0, p.0, v.1, p.1, eqb-true p.0.item v.0 p.2)
 
     observe_again : (NamesTwice (Observe pairs) ⊎ NamesPending m pending (Observe pairs)) ↔ ((has_item_twice qs || list_any (λ (q : Pair). has_item pending q.item) qs) ≡ true)
@@ -148,7 +145,7 @@ module _ (m : PlantModel) (pending : List Pair) (mirrored : ℕ) where
           λ x. elim x [
             | inl twice ↦ or_left (has_item_twice qs) again (named_twice (variable_of m) (stands_for Values m) (value_names m) pairs qs h twice)
             | inr (v, p, named, among, same) ↦
-                or_right (has_item_twice qs) again (by_variable (has_item pending) v named (found_by (λ (x : Pair). x.item == v) pending p among (eq-eqb p.item v same)))
+                or_right (has_item_twice qs) again (by_variable (has_item pending) v named (some_passes (λ (x : Pair). x.item == v) pending p among (eq-eqb p.item v same)))
           ],
           λ t. either (has_item_twice qs) again t (λ twice. inl (twice_named (variable_of m) (stands_for Values m) (value_names m) pairs qs h twice)) (λ some. inr (pending_named some)),
         )
@@ -180,9 +177,9 @@ module _ (m : PlantModel) (pending : List Pair) (mirrored : ℕ) where
     mirror_again = (
       λ x. elim x [
         | inl twice ↦ absurd twice
-        | inr (u, p, named, among, same) ↦ found_by (λ (y : Pair). y.item == v) pending p among (eq-eqb p.item v (same ∙ only u named))
+        | inr (u, p, named, among, same) ↦ some_passes (λ (y : Pair). y.item == v) pending p among (eq-eqb p.item v (same ∙ only u named))
       ],
-      λ t. let p = found (λ (y : Pair). y.item == v) pending t in inr (v, p.0, h, p.1, eqb-true p.0.item v p.2),
+      λ t. let p = passes_some (λ (y : Pair). y.item == v) pending t in inr (v, p.0, h, p.1, eqb-true p.0.item v p.2),
     )
 
     mirror_says : Says (Mirror name) (unless (mirror_code m pending mirrored v) (event.Mirror v))

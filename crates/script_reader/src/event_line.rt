@@ -83,7 +83,7 @@ pub fn read_event_by(
     }
 }
 
-/// Reads one line of a script that may set and clear goals. Names are found by a walk over the model.
+/// As `read_event_by`, of a script whose lines set and clear goals. Names are found by a walk over the model.
 pub fn read_event(
     alloc: Global,
     line: &[u8],

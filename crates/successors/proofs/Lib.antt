@@ -1,4 +1,3 @@
 pub mod Sending
 pub mod Changes
 pub mod Rows
-pub mod Starting

@@ -13,7 +13,7 @@ use Rattle.cca_base.proofs.Commands.{one_named}
 use Rattle.successors.specs.Nominal.{SomeStands, NoneSent}
 use Rattle.cca_laws.proofs.StandingPrimes.{holds_by_prime, prime_holds}
 
-pub stands_holds : (b : CompiledModel) → IsCompiled b → (s : List ℕ) → IsState b.model s → (at : ℕ) (move : Move) (cubes : List (List Pair)) → slice_get b.model.moves at ≡ Some move
+stands_holds : (b : CompiledModel) → IsCompiled b → (s : List ℕ) → IsState b.model s → (at : ℕ) (move : Move) (cubes : List (List Pair)) → slice_get b.model.moves at ≡ Some move
     → slice_get b.ways at ≡ Some cubes → slice_get s move.component ≡ Some move.source → SomeStands s cubes ↔ Holds b.model s move.guard
 stands_holds b h s state at move cubes of_model of_ways source =
     let ways = h.ways at move cubes of_model of_ways in (

@@ -15,4 +15,3 @@ pub mod CommentBegins
 pub mod NothingLeftOut
 pub mod NoTokenInComment
 pub mod FirstBadByte
-pub mod WordsByPlace

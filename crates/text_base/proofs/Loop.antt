@@ -1,6 +1,7 @@
 -- Reading tokens one after the other, as a loop does.
-use Rattle.std.proofs.Common.{◌≡◌, ℕ, zero, suc, ◌+◌, ◌-◌, ◌<◌, ◌≤◌, List, [], ◌∷◌, ◌++◌, length, get_or, take, drop, Result, Ok, Err, refl, sym, ap, ◌∙◌, append_assoc, add-one, add-zero, drop-cons, arith}
+use Rattle.std.proofs.Common.{◌≡◌, ℕ, zero, suc, ◌+◌, ◌-◌, ◌<◌, ◌≤◌, List, [], ◌∷◌, ◌++◌, length, get_or, take, drop, Result, Ok, Err, refl, sym, ap, ◌∙◌, append_assoc, add-zero, arith}
 use Rattle.std.proofs.lemmas.List.{take_rest, drop-drop}
+use Rattle.list_laws.proofs.GoneThrough.{front_and_rest}
 use Rattle.text_base.specs.declared.token.Piece.{Piece}
 use Rattle.text_base.specs.declared.token.Kind.{Kind}
 use Rattle.text_base.specs.declared.token.Piece.TheVariants.{Run}
@@ -24,12 +25,9 @@ skip (b ∷ bs) (suc k) at =
 abbrev rest_of : List ℕ → ℕ → Piece → Result (List Tok) ℕ
 rest_of line at piece = tokens_of_piece piece at (drop at line) (λ k. tokens_from k (at + 1) (drop (at + 1) line))
 
-front_cell : (line : List ℕ) (at : ℕ) → at < length line → drop at line ≡ get_or line at 0 ∷ drop (at + 1) line
-front_cell line at h = rw (add-one, drop-cons line at 0) refl
-
 step : (line : List ℕ) (at : ℕ) → at < length line → tokens_from 0 at (drop at line) ≡ rest_of line at (piece_of (get_or line at 0) (take (length line - (at + 1)) (drop (at + 1) line)))
 step line at h =
-    let e = front_cell line at h in
+    let e = front_and_rest line at h in
     ap (tokens_from 0 at) e
     ∙ ap (λ (bs : List ℕ). tokens_of_piece (piece_of (get_or line at 0) (drop (at + 1) line)) at bs (λ k. tokens_from k (at + 1) (drop (at + 1) line))) (sym e)
     ∙ ap (λ (bs : List ℕ). rest_of line at (piece_of (get_or line at 0) bs)) (sym (take_rest line (at + 1)))

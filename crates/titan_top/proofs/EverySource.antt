@@ -77,7 +77,7 @@ module _ {S : Type 0} (m : Ghosts S) (first : S) (never : (taken text : List ℕ
       let says : WroteWhole m first s.driven.taken left' out out' ends.Ended = subst (λ (f : End). WroteWhole m first s.driven.taken left' out out' f) is s.driven.says in
       elim says.whole [ inl h ↦ h.1 | inr h ↦ absurd (never s.driven.taken says.text h) ]
 
-  pub ended_at_end : (left left' out out' : Option (List ℕ)) (r : Result End Cut) → Streamed m first left left' out out' r → status_of r ≡ Ended → IsAtEnd left'
+  ended_at_end : (left left' out out' : Option (List ℕ)) (r : Result End Cut) → Streamed m first left left' out out' r → status_of r ≡ Ended → IsAtEnd left'
   ended_at_end left left' out out' (Ok e) s h = at_end_by left left' out out' e (end_ended e h) s
   ended_at_end left left' out out' (Err c) s h = absurd (no_cut_ended c h)
 

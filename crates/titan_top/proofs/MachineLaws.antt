@@ -6,7 +6,7 @@ use Rattle.line_machine.specs.Driven.{HasRoomFor, Prints}
 use Rattle.line_machine.specs.Next.{Next}
 use Rattle.line_machine.specs.Runs.{IsSure, IsText, IsPrefix}
 use Rattle.line_machine.specs.declared.machine.End.{End}
-use Rattle.line_machine.proofs.KnownInputs.{prints_begins}
+use Rattle.line_machine.proofs.KnownInputs.{prints_begins, told}
 use Rattle.line_machine.proofs.SureTextBegins.{sure_begins_text, quiet_sure}
 use Rattle.show_form.specs.Shown.{show_machine}
 use Rattle.show_form.proofs.ShowEnds.{show_is_quiet}
@@ -25,9 +25,6 @@ use Rattle.model_form.specs.FormStates.{form_first}
 front_fits : (x y : List ℕ) (n : ℕ) → IsPrefix x y → length y ≤ n → length x ≤ n
 front_fits x y n (z, e) h = omega (arith, h, ap length e, length-append x z)
 
-pub bytes_of : (input taken rest : List ℕ) → Some input ≡ Some (taken ++ rest) → taken ++ rest ≡ input
-bytes_of input taken rest e = cc
-
 module _ (form : Form) where
   form_comes : (input : List ℕ) (o : Outcome) → IsOutcomeFor form input o → (e : End) × IsText (meaning_of form).machine (meaning_of form).first input e o.text × (o.status ≡ end_status e)
   form_comes input o is =
@@ -44,7 +41,7 @@ module _ (form : Form) where
   form_fits input o n is fits taken text None moved may = absurd cc
   form_fits input o n is fits taken text (Some rest) moved may =
       let c = form_comes input o is in
-      front_fits text o.text n (prints_begins (meaning_of form).machine (meaning_of form).first (agrees form).fixed None None taken rest input c.0 text o.text (bytes_of input taken rest moved) may c.1) fits
+      front_fits text o.text n (prints_begins (meaning_of form).machine (meaning_of form).first (agrees form).fixed None None taken rest input c.0 text o.text (told input taken rest moved) may c.1) fits
 
 pub texts_are_outcomes : TextsAreOutcomes
 texts_are_outcomes = record { says = text_says; comes = form_comes }

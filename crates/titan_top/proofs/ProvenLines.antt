@@ -43,7 +43,8 @@ use Rattle.check_form.specs.declared.tick_lines.TickSoFar.{TickSoFar}
 use Rattle.check_form.specs.declared.tick_lines.TickSoFar.TheVariants.{Nothing, Reported, Explained, Planned}
 use Rattle.trace_text.specs.declared.limits.TheConstants.{MAX_TRACE_LINE}
 use Rattle.titan_top.specs.OwnTraces.{ShowsLong}
-use Rattle.run_form.proofs.FittingLines.{cost_fits, command_fits, run_fits, world_fits}
+use Rattle.plan_checker.proofs.CostSums.{cost_fits}
+use Rattle.trace_text.proofs.FittingLines.{command_fits, run_fits, world_fits}
 use Rattle.titan_top.proofs.ProvenTicks.{with_goal, IsGoalOf, proven_passes, proven_takes, proven_sees}
 use Rattle.run_form.proofs.ShownPlans.{whole_runs}
 

@@ -3,7 +3,7 @@ use Rattle.std.proofs.Common.{◌≡◌, ℕ, ◌<◌, ◌^◌, Bool, true, fals
 use Rattle.std.specs.Fmt.{decimal}
 use Rattle.std.specs.Str.{bytes_eq}
 use Rattle.std.specs.Str.Parse.{digits_value}
-use Rattle.std.proofs.lemmas.Bool.{ltb-true, lt-ltb}
+use Rattle.std.proofs.lemmas.Bool.{ltb-true, lt-ltb, and_from}
 use Rattle.std.proofs.lemmas.Fmt.{decimal_is_IsNumeral_wide}
 use Rattle.std.proofs.lemmas.Slice.Eq.{bytes_eq-Decides}
 use Rattle.titan_top.specs.Words.{seed_of}
@@ -11,9 +11,6 @@ use Rattle.titan_top.specs.Words.{seed_of}
 -- the two tests of a word, for the number that its digits make
 abbrev says : List ℕ → ℕ → Bool
 says w v = bytes_eq (decimal v) w && nat_lt v (2 ^ 64)
-
-both : (a b : Bool) → a ≡ true → b ≡ true → (a && b) ≡ true
-both a b h k = rw (h, k) refl
 
 first_of : (a b : Bool) → (a && b) ≡ true → a ≡ true
 first_of true b h = refl
@@ -32,7 +29,7 @@ says_number w n small is =
     let v : digits_value 10 w ≡ n = value_of w n (omega (arith, small)) is in
     let same : bytes_eq (decimal (digits_value 10 w)) w ≡ true = (bytes_eq-Decides (decimal (digits_value 10 w)) w).1 (ap decimal v ∙ sym is) in
     let below : nat_lt (digits_value 10 w) (2 ^ 64) ≡ true = lt-ltb (digits_value 10 w) (2 ^ 64) (subst (λ (k : ℕ). k < 2 ^ 64) (sym v) small) in
-    sym (ap (λ (t : Bool). cond t (Some (digits_value 10 w)) None) (both (bytes_eq (decimal (digits_value 10 w)) w) (nat_lt (digits_value 10 w) (2 ^ 64)) same below) ∙ ap (λ (k : ℕ). Some k) v)
+    sym (ap (λ (t : Bool). cond t (Some (digits_value 10 w)) None) (and_from (bytes_eq (decimal (digits_value 10 w)) w) (nat_lt (digits_value 10 w) (2 ^ 64)) same below) ∙ ap (λ (k : ℕ). Some k) v)
 
 -- the word is no such text
 pub says_none : (w : List ℕ) → ((n : ℕ) → n < 2 ^ 64 → w ≡ decimal n → ⊥) → None ≡ seed_of w

@@ -291,7 +291,7 @@ model_checked input (WholeModel k n ls) count ends (v, is, h) = acceptance_check
 model_checked input (models.RefusedModel k line r) count ends h = let never : AllYes count ≡ FirstRefusal k line r = h in absurd cc
 
 -- a check that ends with a Yes is of a checked trace
-pub ended_is_checked : (input : List ℕ) (o : Outcome) → IsOutcomeFor Check input o → o.status ≡ Ended → IsCheckedTrace input o
+ended_is_checked : (input : List ℕ) (o : Outcome) → IsOutcomeFor Check input o → o.status ≡ Ended → IsCheckedTrace input o
 ended_is_checked input o (a, is, (text, ends, (end, so, same))) h =
     let ended = end_ended a.end (sym (ap (λ (x : Outcome). x.status) is) ∙ h) in
     let (ticks, e) = all_yes end (sym (ap (λ (x : Answer). x.end) same) ∙ ended) in

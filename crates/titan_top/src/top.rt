@@ -217,7 +217,7 @@ pub fn titan<S: Source, K: Sink>(
     ensures quiet_read { ¬ (result ≡ Status.ReadFault) → S.faults source.new ≡ S.faults source.old }
     ensures quiet_write { ¬ (result ≡ Status.WriteFault) → K.faults sink.new ≡ K.faults sink.old }
 
-    // Words of no form, whether or not the source tells its bytes.
+    // Words of no form, whether or not the bytes of the source are known.
     ensures usage { result ≡ Status.Usage → AreNoForm words.now.items }
     ensures no_form { AreNoForm words.now.items →
         Writes result (K.written sink.old) (K.written sink.new) usage }

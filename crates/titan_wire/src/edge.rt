@@ -57,8 +57,8 @@ fn write_once<W: Write>(writer: &mut W, piece: &[u8]) -> Result<usize, Failed>
     Err(Failed)
 }
 
-/// A source over a reader, by one read a call. An interrupted read is tried again. It tells no
-/// bytes.
+/// A source over a reader, by one read a call. An interrupted read is tried again. Its
+/// bytes are unknown.
 #[derive(Drop)]
 pub struct ReaderSource<R: Read> {
     reader: R,
@@ -104,7 +104,7 @@ impl<R: Read> Source for ReaderSource<R> {
 }
 
 /// A sink over a writer, by one write a call and then a flush. An interrupted write is tried again,
-/// and one of no bytes is a fault. It tells no bytes.
+/// and one of no bytes is a fault. Its bytes are unknown.
 #[derive(Drop)]
 pub struct WriterSink<W: Write> {
     writer: W,

@@ -19,10 +19,11 @@ use Rattle.cca_base.specs.Plans.{Whole}
 use Rattle.cca_base.specs.Trace.{command_of}
 use Rattle.cca_base.specs.Runs.{TickRecord, reply_at, is_send, is_unreachable}
 use Rattle.std.proofs.lemmas.Option.{same_Some}
+use Rattle.list_laws.proofs.Elements.{contains_middle}
 use Rattle.cca_base.proofs.Members.{all_from, stands_in}
 use Rattle.cca_laws.specs.Laws.{NoneTwice}
 use Rattle.cca_base.proofs.NominalLaws.{one_nominal, nominal_is_free, stays}
-use Rattle.cca_laws.proofs.GoalLaws.{middle, sends_serve, standing_is_reached}
+use Rattle.cca_laws.proofs.GoalLaws.{sends_serve, standing_is_reached}
 use Rattle.cca_laws.proofs.OnePick.{one_command}
 use Rattle.trace_laws.specs.Served.{IsReached, IsMeasure}
 
@@ -141,7 +142,7 @@ module _ (b : CompiledModel) (good : WellFormed b.model) (goal : List Pair) wher
   }
 
   unreached : (s : List ℕ) (p : Pair) → IsReached b.model s goal → IsFirstUnreached b.model s goal p → ⊥
-  unreached s p h k = k.unreached (All-contains (λ q. Reach b.model s q.item q.value) goal p h (subst (λ l. Contains l p) (sym k.split) (middle k.before k.after p)))
+  unreached s p h k = k.unreached (All-contains (λ q. Reach b.model s q.item q.value) goal p h (subst (λ l. Contains l p) (sym k.split) (contains_middle k.before k.after p)))
 
   pub served : (n : ℕ) (s : List ℕ) (ts : List TickRecord) → IsState b.model s → IsReached b.model s goal → Left n s → Serving s ts → IsServed n ts
   served n s [] state reached left h = served_achieved n [] (All-nil Achieves)

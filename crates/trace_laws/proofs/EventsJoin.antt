@@ -181,9 +181,6 @@ module _ (b : CompiledModel) (answers : ReplyRule) where
     pub made : Ticks b answers x since events ticks
     pub reported : reports ≡ map (λ t. t.report) ticks
 
-  abbrev Goes : ExecutiveState → Event → List Event → List TickReport → Type 0
-  Goes x e events reports = (since : List Event) → IsMadeOf x since (e ∷ events) reports
-
   -- the ticks of the other events are those of all, where an event that is no tick comes first
   quiet : {x z : ExecutiveState} {since : List Event} {events : List Event} {reports others : List TickReport} (e : Event) → IsMadeOf z (since ++ e ∷ []) events others → reports ≡ others
       → ((ts : List TickRecord) → Ticks b answers z (since ++ e ∷ []) events ts → Ticks b answers x since (e ∷ events) ts) → IsMadeOf x since (e ∷ events) reports

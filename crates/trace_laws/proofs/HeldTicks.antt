@@ -1,5 +1,5 @@
 -- A lamp that is to be lit, where the goal is set anew before each tick.
-use Rattle.std.proofs.Common.{◌≡◌, ◌<◌, ◌≤◌, ℕ, zero, suc, true, false, List, [], ◌∷◌, Option, None, Some, All, slice_get, refl, sym, ap, subst, arith}
+use Rattle.std.proofs.Common.{◌≡◌, ◌<◌, ◌≤◌, ℕ, zero, suc, false, List, [], ◌∷◌, None, Some, All, slice_get, refl, sym, ap, subst, arith}
 use Rattle.std.proofs.lemmas.Bool.{false≢true}
 use Rattle.std.proofs.lemmas.List.Elements.{All-cons, All-head, All-nil, All-tail}
 use Rattle.std.proofs.lemmas.Option.{same_Some}
@@ -11,7 +11,7 @@ use Rattle.cca_base.specs.declared.events.Reply.TheVariants.{Send, Achieved, Unr
 use Rattle.cca_base.specs.Runs.{TickRecord, IsRight, IsStretch, LeavesPlantAlone, LeavesPlantAndGoalAlone, reply_at, is_send, is_unreachable}
 use Rattle.cca_laws.specs.Examples.{lit}
 use Rattle.cca_laws.proofs.Tiny.{one_at, two_at}
-use Rattle.trace_laws.specs.Examples.{lit_record, sent_on}
+use Rattle.trace_laws.specs.Examples.{sent_on}
 use Rattle.trace_laws.specs.Held.{IsHeldStretch}
 use Rattle.trace_laws.specs.HeldExamples.{HeldIsExcused, HeldIsLost, HeldIsServed, HeldSentTwice, IsNoneHeld, asked_again, held_ticks, other_goal, wrong_estimate}
 use Rattle.trace_laws.proofs.LampTicks.{lost, not_achieved}

@@ -26,9 +26,6 @@ module _ (b : CompiledModel) (answers : ReplyRule) where
   abbrev Comes : ExecutiveState → List Event → ExecutiveState → Type 0
   Comes x since y = Becomes b.model (IsSorted b.order) x since y
 
-  abbrev Next : ExecutiveState → Event → ExecutiveState → Type 0
-  Next x e y = Changes b.model (IsSorted b.order) x e y
-
   abbrev Shows : TickRecord → ExecutiveState → Type 0
   Shows t y = TickShows b.model answers t.before t.report.shown y
 

@@ -48,11 +48,11 @@ module _ (answers others : ReplyRule) (weaker : IsWeaker answers others) where
   ticks_too b x since (event.Mirror v ∷ events) ts (y, change, rest) = (y, change, ticks_too b y (since ++ event.Mirror v ∷ []) events ts rest)
   ticks_too b x since (event.Reset ∷ events) ts (y, change, rest) = (y, change, ticks_too b y (since ++ event.Reset ∷ []) events ts rest)
 
-  pub acts_too : (b : CompiledModel) (x : ExecutiveState) (e : Event) (y : ExecutiveState) (report : Option TickReport) → Acts b answers x e y report → Acts b others x e y report
+  acts_too : (b : CompiledModel) (x : ExecutiveState) (e : Event) (y : ExecutiveState) (report : Option TickReport) → Acts b answers x e y report → Acts b others x e y report
   acts_too b x e y None h = h
   acts_too b x e y (Some report) h = (h.0, h.1, tick_too b.model x report.shown y h.2)
 
-  pub makes_too : (b : CompiledModel) (x : ExecutiveState) (events : List Event) (y : ExecutiveState) (reports : List TickReport) → Makes b answers x events y reports → Makes b others x events y reports
+  makes_too : (b : CompiledModel) (x : ExecutiveState) (events : List Event) (y : ExecutiveState) (reports : List TickReport) → Makes b answers x events y reports → Makes b others x events y reports
   makes_too b x [] y reports h = h
   makes_too b x (e ∷ events) y reports (z, report, rest, act, made, split) = (z, report, rest, acts_too b x e z report act, makes_too b z events y rest made, split)
 

@@ -5,7 +5,7 @@ use Rattle.std.proofs.lemmas.Bool.{cases_lt}
 use Rattle.std.proofs.lemmas.List.{append-nil, map-append, drop-drop, drop_all, drop_more, get_or-drop, get_or-take, length-take, take-append-drop}
 use Rattle.std.proofs.lemmas.List.Concat.{flat_map-append}
 use Rattle.std.proofs.lemmas.List.Elements.{All-from_get_or, All-push}
-use Rattle.text_base.proofs.WordsByPlace.{Words}
+use Rattle.list_laws.proofs.WordsByPlace.{Words}
 use Rattle.trace_text.specs.Words.{behind_spaces, HasNoSpace, AreWords}
 
 -- words are cut from the line up to a start, and no space stands from there to i

@@ -2,6 +2,7 @@ mod AsciiNames
 mod ChosenRows
 mod CommandWords
 mod CutLines
+pub mod FittingLines
 mod JsonExamples
 mod KeyOrder
 mod LineExamples

@@ -3,14 +3,14 @@ use Rattle.std.proofs.Common.{◌≡◌, ◌≢◌, ◌<◌, ℕ, List, [], ◌�
 use Rattle.std.specs.Option.{option_map, option_map_or}
 use Rattle.std.proofs.lemmas.List.{length-map}
 use Rattle.std.proofs.lemmas.Option.{slice_get-map}
-use Rattle.list_laws.proofs.Places.{some_at, value_at, place_inside}
+use Rattle.list_laws.proofs.Places.{some_at, value_at, place_inside, all_at}
 use Rattle.cca_base.specs.declared.model.Component.{Component}
 use Rattle.cca_base.specs.declared.model.Variable.{Variable}
 use Rattle.cca_base.specs.PlantModel.{PlantModel}
 use Rattle.cca_base.specs.Names.{AreNames, AreDifferent}
 use Rattle.cca_base.specs.Model.{WellFormed, HasMode, IsComponent, mode_counts}
 use Rattle.formula_syntax.specs.Lookups.{place_of}
-use Rattle.model_syntax.proofs.PrintedNames.{member_at, pairs_left, place_found}
+use Rattle.model_syntax.proofs.PrintedNames.{pairs_left, place_found}
 use Rattle.trace_text.specs.Names.{name_at, choice_text, pair_text_at}
 use Rattle.trace_text.proofs.ChosenRows.{name_at_injective}
 use Rattle.cca_base.proofs.ModelNames.{IsName, HasNames, word_bytes, model_names}
@@ -33,8 +33,8 @@ there m h c mode has =
       component = x.0;
       at = x.1;
       inside = subst (λ n. mode < n) (value_at (mode_counts m) c (length x.0.modes) count) has;
-      named = (member_at HasNames m.components c x.0 (model_names m h) x.1).0;
-      modes = (member_at IsComponent m.components c x.0 h.components x.1).modes.names;
+      named = (all_at HasNames m.components c x.0 (model_names m h) x.1).0;
+      modes = (all_at IsComponent m.components c x.0 h.components x.1).modes.names;
     }
 
 component_one : (m : PlantModel) → WellFormed m → (b c : ℕ) (x y : Component) → slice_get m.components b ≡ Some x → slice_get m.components c ≡ Some y → x.name ≡ y.name → b ≡ c

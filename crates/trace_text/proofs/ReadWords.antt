@@ -1,14 +1,13 @@
 -- What is read from one word, and that nothing else has that word.
 use Rattle.std.proofs.Common.{◌≡◌, ◌≢◌, ◌<◌, ◌≤◌, ◌^◌, ℕ, true, false, List, [], ◌∷◌, ◌++◌, length, take, drop, get_or, Option, Some, None, sym, ap, ◌∙◌, arith}
 use Rattle.std.specs.Str.{bytes_eq}
-use Rattle.std.specs.Str.Parse.{digits_value}
 use Rattle.std.specs.Fmt.{decimal}
-use Rattle.std.proofs.lemmas.Fmt.{decimal_is_IsNumeral_wide}
 use Rattle.std.proofs.lemmas.List.{append_cancel_left}
 use Rattle.std.proofs.lemmas.List.Quantifiers.{position-Some}
 use Rattle.std.proofs.lemmas.Slice.Eq.{bytes_eq-Decides}
 use Rattle.std.proofs.Math.Seq.{take-append_seam}
 use Rattle.model_syntax.proofs.NamedPlaces.{at_place}
+use Rattle.model_syntax.proofs.OneWay.{same_number}
 use Rattle.formula_syntax.specs.Lookups.{place_of}
 use Rattle.formula_syntax.proofs.FirstPlaces.{none_passes}
 use Rattle.trace_text.specs.Names.{name_at, choice_text}
@@ -16,12 +15,9 @@ use Rattle.trace_text.specs.LineWords.{IsReadFrom}
 
 -- ---- numbers
 
-decimal_wide : (a b : ℕ) → a < 2 ^ 128 → b < 2 ^ 128 → decimal a ≡ decimal b → a ≡ b
-decimal_wide a b p q e = sym (decimal_is_IsNumeral_wide a (omega arith)).1 ∙ ap (digits_value 10) e ∙ (decimal_is_IsNumeral_wide b (omega arith)).1
-
 -- a number of more than 64 bits has the text of no other
 pub past_64_bits : (word : List ℕ) (n : ℕ) → 2 ^ 64 ≤ n → n < 2 ^ 128 → word ≡ decimal n → (k : ℕ) → k < 2 ^ 64 → decimal k ≢ word
-past_64_bits word n low high is k small e = let same : k ≡ n = decimal_wide k n (omega arith) high (e ∙ is) in omega arith
+past_64_bits word n low high is k small e = let same : k ≡ n = same_number k n (omega arith) high (e ∙ is) in omega arith
 
 -- ---- prefixes
 

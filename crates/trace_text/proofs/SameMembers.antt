@@ -1,12 +1,11 @@
 -- An object has the members that it is made of.
-use Rattle.std.proofs.Common.{◌≡◌, ◌≢◌, ◌⊎◌, inl, inr, ℕ, List, [], ◌∷◌, Ordering, Less, Equal, Greater, AllPairs, Contains, nat_cmp, is_eq, refl, sym, ap, ◌∙◌}
+use Rattle.std.proofs.Common.{◌≡◌, ◌≢◌, ◌⊎◌, inl, inr, ℕ, List, [], ◌∷◌, Ordering, Less, Equal, Greater, AllPairs, Contains, nat_cmp, refl, sym, ap, ◌∙◌}
 use Rattle.std.specs.Cmp.Lexicographic.{slice_cmp}
 use Rattle.std.specs.Ordering.{match_ordering}
 use Rattle.std.proofs.lemmas.List.Elements.{All-contains}
-use Rattle.std.proofs.lemmas.Map.Text.{is_eq-slice_cmp}
-use Rattle.std.proofs.lemmas.Slice.Eq.{bytes_eq-Decides}
 use Rattle.cca_base.proofs.Members.{contains_cases, contains_here, contains_there, contains_none}
-use Rattle.cca_base.proofs.Pairwise.{AllPairs-head, AllPairs-tail}
+use Rattle.list_laws.proofs.Pairwise.{AllPairs-head, AllPairs-tail}
+use Rattle.list_laws.proofs.Orders.{same_list}
 use Rattle.serde_json.specs.Data.{Data, Members, no_members, member, put}
 use Rattle.trace_text.specs.Json.{Member, with_members}
 use Rattle.trace_text.specs.JsonLaws.{listed, MembersStay}
@@ -18,14 +17,11 @@ one k d = (k, d)
 abbrev IsNew : List ℕ → Members → Type 0
 IsNew k ms = (p : Member) → Contains (listed ms) p → p.0 ≡ k → ⊥
 
-same_key : (k l : List ℕ) → slice_cmp nat_cmp k l ≡ Equal → k ≡ l
-same_key k l is = (bytes_eq-Decides k l).0 (sym (is_eq-slice_cmp k l) ∙ ap is_eq is)
-
 from_put_at : (o : Ordering) (k l : List ℕ) (d e : Data) (ms : Members) (p : Member) → slice_cmp nat_cmp k l ≡ o → (Contains (listed (put k d ms)) p → (one k d ≡ p) ⊎ Contains (listed ms) p)
     → Contains (listed (match_ordering o (member k d (member l e ms)) (member l d ms) (member l e (put k d ms)))) p → (one k d ≡ p) ⊎ Contains (listed (member l e ms)) p
 from_put_at Less k l d e ms p is later h = contains_cases (one k d) p (listed (member l e ms)) h
 from_put_at Equal k l d e ms p is later h = elim (contains_cases (one l d) p (listed ms) h) [
-  | inl this ↦ inl (ap (λ (x : List ℕ). one x d) (same_key k l is) ∙ this)
+  | inl this ↦ inl (ap (λ (x : List ℕ). one x d) (same_list k l is) ∙ this)
   | inr there ↦ inr (contains_there (one l e) p (listed ms) there)
 ]
 from_put_at Greater k l d e ms p is later h = elim (contains_cases (one l e) p (listed (put k d ms)) h) [
@@ -45,7 +41,7 @@ to_put_at : (o : Ordering) (k l : List ℕ) (d e : Data) (ms : Members) (p : Mem
     → Contains (listed (match_ordering o (member k d (member l e ms)) (member l d ms) (member l e (put k d ms)))) p
 to_put_at Less k l d e ms p is new later (inl this) = contains_here (one k d) p (listed (member l e ms)) this
 to_put_at Less k l d e ms p is new later (inr old) = contains_there (one k d) p (listed (member l e ms)) old
-to_put_at Equal k l d e ms p is new later h = absurd (new (one l e) (contains_here (one l e) (one l e) (listed ms) refl) (sym (same_key k l is)))
+to_put_at Equal k l d e ms p is new later h = absurd (new (one l e) (contains_here (one l e) (one l e) (listed ms) refl) (sym (same_list k l is)))
 to_put_at Greater k l d e ms p is new later (inl this) = contains_there (one l e) p (listed (put k d ms)) (later (inl this))
 to_put_at Greater k l d e ms p is new later (inr old) = elim (contains_cases (one l e) p (listed ms) old) [
   | inl here ↦ contains_here (one l e) p (listed (put k d ms)) here

@@ -51,7 +51,7 @@ module _ (q : Asked) (b : WindowBox) where
   -- ---- gates
 
   -- why the gate is as it is behind one record gives it at the next
-  pub cause_fixes : (at : ℕ) (k : Option ℕ) (gate : Bool) (limits : List Limit) → IsBox q b → at < length q.records
+  cause_fixes : (at : ℕ) (k : Option ℕ) (gate : Bool) (limits : List Limit) → IsBox q b → at < length q.records
       → ((r : Entry) → slice_get q.records (suc at) ≡ Some r → r.command ≡ k) → IsCause q.model k at (state_at b.states at) gate limits → FixesGate q b (suc at) gate limits
   cause_fixes at k gate limits is within commands cause =
       let own : IsState q.model (state_at b.states at) = box_state at is within in

@@ -72,7 +72,7 @@ module _ (m : PlantModel) (good : WellFormed m) (move : Move) (among : Contains 
       )
 
   -- what shows how the guard stands is why the gate is as it is
-  pub guard_cause : (limits : List Limit) (gate : Bool) → ShowsGuard move cubes s at limits → IsGate m s k gate → IsCause m k at s gate limits
+  guard_cause : (limits : List Limit) (gate : Bool) → ShowsGuard move cubes s at limits → IsGate m s k gate → IsCause m k at s gate limits
   guard_cause limits gate (inl (cube, inside, extends, e)) is =
       let (true_gate, cause) = open_cause cube inside extends in
       subst (λ g. IsCause m k at s g limits) (one_gate m s k true gate true_gate is) (subst (IsCause m k at s true) (sym e) cause)

@@ -6,6 +6,7 @@ use Rattle.std.proofs.Math.ListN.{get_or-append}
 use Rattle.std.proofs.Math.Seq.{get_or-append_seam}
 use Rattle.std.proofs.lemmas.List.{length-append}
 use Rattle.std.proofs.lemmas.Option.{same_Some, slice_get-get_or, slice_get-map}
+use Rattle.list_laws.proofs.Orders.{below_next}
 use Rattle.trajectory_estimator.specs.Asked.{Asked, IsCommandOf, entry_of}
 use Rattle.trajectory_estimator.specs.Pieces.{AreGatesTo}
 use Rattle.trajectory_estimator.specs.declared.record.Record.{Record}
@@ -14,9 +15,6 @@ use Rattle.window_laws.specs.Trajectories.{Entry}
 -- what is known of a tick, by its record
 pub entry_at : (q : Asked) (records : List Record) (at : ℕ) (d : Record) → map entry_of records ≡ q.records → at < length records → slice_get q.records at ≡ Some (entry_of (get_or records at d))
 entry_at q records at d same within = ap (λ l. slice_get l at) (sym same) ∙ slice_get-map entry_of records at ∙ ap (option_map entry_of) (slice_get-get_or records at d within)
-
-behind : (at bound : ℕ) → at < bound + 1 → (at < bound) ⊎ (at ≡ bound)
-behind at bound h = grind arith
 
 -- the gate of a record: that of the column where its command is one of the component
 abbrev pub IsGateWith : Asked → ℕ → Entry → ℕ → List Bool → List Bool → Bool → Type 0
@@ -29,7 +27,7 @@ one_more q c bound old column new gate r are here its =
     let last : get_or (new ++ gate ∷ []) bound false ≡ gate = ap (λ n. get_or (new ++ gate ∷ []) n false) (sym are.full) ∙ get_or-append_seam new gate [] false in
     record {
       full = omega (arith, length-append new (gate ∷ []), are.full);
-      each = λ at s h there. elim (behind at bound h) [
+      each = λ at s h there. elim (below_next at bound h) [
         | inl less ↦ subst (IsGateWith q c s at old column) (sym (get_or-append new (gate ∷ []) false at (omega (arith, less, are.full)))) (are.each at s less there)
         | inr e ↦
             let same : r ≡ s = same_Some r s (sym here ∙ ap (slice_get q.records) (sym e) ∙ there) in

@@ -1,13 +1,12 @@
 -- Limits that new modes and gates of one component meet.
 use Rattle.std.proofs.Common.{inl, inr, ◌≡◌, ◌≢◌, ◌<◌, ◌==◌, ℕ, Bool, true, false, List, [], length, get_or, slice_index, slice_index_or, Contains, refl, sym, ap, subst, ◌∙◌, arith}
 use Rattle.std.specs.Bool.{beq}
-use Rattle.std.specs.List.{list_all}
 use Rattle.std.proofs.lemmas.Bool.{eq-eqb}
-use Rattle.std.proofs.lemmas.List.Elements.{All-contains}
-use Rattle.std.proofs.lemmas.List.Sums.{AllPass-from_list_all}
 use Rattle.std.proofs.lemmas.List.{length-map}
 use Rattle.std.proofs.lemmas.Option.{same_Some, slice_get_within}
+use Rattle.list_laws.proofs.Passing.{each_passes}
 use Rattle.cca_base.proofs.Commands.{same_component}
+use Rattle.cca_base.proofs.PathLaws.{length-numbers}
 use Rattle.cca_base.specs.Model.{WellFormed}
 use Rattle.cca_base.specs.PlantModel.{PlantModel}
 use Rattle.cca_base.specs.Relations.{numbers_below}
@@ -17,16 +16,13 @@ use Rattle.trajectory_estimator.specs.Pieces.{AreGatesWith}
 use Rattle.trajectory_estimator.specs.declared.limit.Limit.{Limit}
 use Rattle.trajectory_estimator.specs.declared.limit.Limit.TheVariants.{Mode, Gate}
 use Rattle.trajectory_estimator.proofs.WithColumn.{at_column}
-use Rattle.trajectory_estimator.proofs.Within.{ArePassed, length-numbers, test_at, same_eq, same_beq, then_it}
+use Rattle.trajectory_estimator.proofs.Within.{ArePassed, test_at, same_eq, same_beq, then_it}
 use Rattle.window_laws.specs.Columns.{column}
 
 -- a command is one component's
 pub one_owner : (m : PlantModel) (command : _) (a b : ℕ) → WellFormed m → IsCommandOf m command a → IsCommandOf m command b → a ≡ b
 one_owner m command a b good (x, among, named, own) (y, within, called, other) =
     sym own ∙ same_component m.moves good.commands x y among within (same_Some x.command y.command (sym named ∙ called)) ∙ other
-
-one_of : {X : Type 0} (f : X → Bool) (xs : List X) (x : X) → list_all f xs ≡ true → Contains xs x → f x ≡ true
-one_of f xs x h among = All-contains (λ y. f y ≡ true) xs x (AllPass-from_list_all f xs h) among
 
 -- a limit on the component is met by modes and gates that the limits leave it
 pub met_by_column : (q : Asked) (c : ℕ) (limits : List Limit) (modes : List ℕ) (column_gates old gates : List Bool) (states : List (List ℕ)) (l : Limit) → Contains limits l → IsLimit q l
@@ -38,7 +34,7 @@ met_by_column q c limits modes column_gates old gates states (Mode own component
     let may : may_stand limits c own (slice_index modes own) ≡ true =
     sym (ap (λ f. f (slice_index modes own)) (test_at (may_stand limits c) n own (may_stand limits c own) within)) ∙ passed.modes_pass own (may_stand limits c own) (omega (arith, within, count)) in
     let left : allows_mode (Mode own component mode is) own c (slice_index modes own) ≡ true =
-    one_of (λ l. allows_mode l own c (slice_index modes own)) limits (Mode own component mode is) may among in
+    each_passes (λ l. allows_mode l own c (slice_index modes own)) limits (Mode own component mode is) may among in
     let there : slice_index (slice_index_or states own []) component ≡ slice_index modes own =
     ap (slice_index (slice_index_or states own [])) same ∙ at_column c own states ∙ ap (λ ms. slice_index ms own) own_column in
     ap (λ v. beq (v == mode) is) there ∙ ap (λ b. beq b is) (same_eq (slice_index modes own) mode)
@@ -50,7 +46,7 @@ met_by_column q c limits modes column_gates old gates states (Gate own component
     let can : can_be limits own (get_or column_gates own false) ≡ true =
     sym (ap (λ f. f (get_or column_gates own false)) (test_at (can_be limits) n own (can_be limits own) within)) ∙ passed.gates_pass own (can_be limits own) (omega (arith, within, count)) in
     let left : allows_gate (Gate own component is) own (get_or column_gates own false) ≡ true =
-    one_of (λ l. allows_gate l own (get_or column_gates own false)) limits (Gate own component is) can among in
+    each_passes (λ l. allows_gate l own (get_or column_gates own false)) limits (Gate own component is) can among in
     let new : get_or gates own false ≡ get_or column_gates own false = elim (with'.each own r within here) [
       | inl both ↦ both.1
       | inr both ↦ absurd (both.0 (subst (IsCommandOf q.model r.command) same commanded))

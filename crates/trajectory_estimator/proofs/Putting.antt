@@ -12,6 +12,7 @@ use Rattle.std.proofs.lemmas.List.Sums.{sum_by-le, sum_by-set, sum_by_more_le, l
 use Rattle.std.proofs.lemmas.Option.{slice_get_within}
 use Rattle.cca_base.proofs.Members.{all_from}
 use Rattle.cca_base.proofs.NominalLaws.{moved}
+use Rattle.cca_base.proofs.PathLaws.{length-numbers}
 use Rattle.cca_base.specs.Model.{HasMode, WellFormed}
 use Rattle.cca_base.specs.PlantModel.{PlantModel}
 use Rattle.cca_base.specs.Relations.{numbers_below}
@@ -29,12 +30,12 @@ use Rattle.trajectory_estimator.specs.declared.window_box.WindowBox.{WindowBox}
 use Rattle.trajectory_estimator.proofs.Meeting.{met_by_column, met_elsewhere, one_owner}
 use Rattle.trajectory_estimator.proofs.Regated.{MayDiffer, regated, cut_gates}
 use Rattle.trajectory_estimator.proofs.WithColumn.{length-with, own_column, other_column, with_all}
-use Rattle.trajectory_estimator.proofs.Within.{ArePassed, passed, box_within, length-numbers}
+use Rattle.trajectory_estimator.proofs.Within.{ArePassed, passed, box_within}
 use Rattle.window_laws.specs.Columns.{IsWithin, Path, column}
 use Rattle.window_laws.specs.Trajectories.{Entry, IsUpTo}
 
 -- a path has a mode for each record
-pub path_long : (m : PlantModel) (c from : ℕ) (records : List Entry) (gates : List Bool) (modes : List ℕ) (cost : ℕ) → Path m c from records gates modes cost → length modes ≡ length records
+path_long : (m : PlantModel) (c from : ℕ) (records : List Entry) (gates : List Bool) (modes : List ℕ) (cost : ℕ) → Path m c from records gates modes cost → length modes ≡ length records
 path_long m c from [] gates modes cost path = ap length path.0
 path_long m c from (r ∷ records) [] modes cost path = absurd path
 path_long m c from (r ∷ records) (g ∷ gates) [] cost path = absurd path
@@ -59,7 +60,7 @@ cut_meets q gates states (Mode at c mode is) limit met = met
 cut_meets q gates states (Gate at c is) (inside, r, here, commanded) met =
     ap (λ g. beq g is) (get_or-take (length q.records) gates at false (slice_get_within q.records at r here)) ∙ met
 
-pub cut_box : (q : Asked) (limits : List Limit) (gates : List Bool) (states : List (List ℕ)) → All (IsLimit q) limits → box_of limits gates states ≡ true
+cut_box : (q : Asked) (limits : List Limit) (gates : List Bool) (states : List (List ℕ)) → All (IsLimit q) limits → box_of limits gates states ≡ true
     → box_of limits (take (length q.records) gates) states ≡ true
 cut_box q limits gates states fit inside =
     list_all-from_AllPass (λ l. meets l (take (length q.records) gates) states) limits

@@ -20,7 +20,7 @@ sends_still m c k true from none = inr ((λ move own. none (move, own.of_model, 
 abbrev pub MayDiffer : PlantModel → ℕ → Option ℕ → Bool → Bool → Type 0
 MayDiffer m c k g h = (g ≡ h) ⊎ (IsCommandOf m k c → ⊥)
 
-pub sent_alike : (m : PlantModel) (c : ℕ) (k : Option ℕ) (g h : Bool) (from to : ℕ) → MayDiffer m c k g h → Sends m c k g from to → Sends m c k h from to
+sent_alike : (m : PlantModel) (c : ℕ) (k : Option ℕ) (g h : Bool) (from to : ℕ) → MayDiffer m c k g h → Sends m c k g from to → Sends m c k h from to
 sent_alike m c k g h from to (inl e) sends = subst (λ x. Sends m c k x from to) e sends
 sent_alike m c k g h from to (inr none) sends = subst (Sends m c k h from) (sym (stays m c k g from to none sends)) (sends_still m c k h from none)
 

@@ -4,7 +4,7 @@ use Rattle.std.specs.Ordering.{nat_cmp}
 use Rattle.std.specs.Cmp.Lexicographic.{slice_cmp}
 use Rattle.std.proofs.lemmas.Bool.{cases_lt, ltb-true, lt-ltb, and_from, and_parts}
 use Rattle.std.proofs.lemmas.Cmp.{nat_list_cmp_total, tied_itself}
-use Rattle.std.proofs.lemmas.List.{drop_more, drop_all, length-drop, get_or_push, get_or_append_left, length_push}
+use Rattle.std.proofs.lemmas.List.{drop_more, drop_all, length-drop, get_or_push, get_or_append_left}
 use Rattle.std.proofs.lemmas.List.Elements.{All-contains, All-cons, All-head, All-nil, All-tail}
 use Rattle.std.proofs.lemmas.Option.{same_Some, get_or_from_slice_get, slice_get_within}
 use Rattle.cca_base.specs.declared.limits.TheConstants.{MAX_COST}
@@ -14,6 +14,7 @@ use Rattle.cca_base.specs.PlantModel.{PlantModel}
 use Rattle.cca_base.specs.Relations.{numbers_below}
 use Rattle.cca_base.specs.Successors.{ChangeCosts}
 use Rattle.cca_base.proofs.Commands.{same_move}
+use Rattle.cca_base.proofs.PathLaws.{length-numbers}
 use Rattle.cca_base.specs.LeastCosts.{failing}
 use Rattle.trajectory_estimator.specs.Asked.{Asked}
 use Rattle.trajectory_estimator.specs.Limits.{can_be, may_stand}
@@ -23,10 +24,6 @@ use Rattle.window_laws.specs.Columns.{IsLeastPath, IsOwn, IsPathFrom, IsWithin, 
 use Rattle.window_laws.specs.Trajectories.{Entry, IsUpTo}
 
 -- ---- the numbers below a bound
-
-length-numbers : (n : ℕ) → length (numbers_below n) ≡ n
-length-numbers zero = refl
-length-numbers (suc n) = omega (arith, length_push (numbers_below n) n, length-numbers n)
 
 at-numbers : (n i : ℕ) → i < n → get_or (numbers_below n) i 0 ≡ i
 at-numbers zero i h = absurd (omega arith)

@@ -1,5 +1,5 @@
 -- At which tick two lists of states differ first.
-use Rattle.std.proofs.Common.{◌≡◌, ◌⊎◌, ◌<◌, ◌+◌, ℕ, Bool, true, false, not, nat_eq, List, length, get_or, Some, inl, inr, refl, sym, ap, ◌∙◌, arith}
+use Rattle.std.proofs.Common.{◌≡◌, ◌⊎◌, ◌<◌, ◌+◌, ℕ, nat_eq, List, length, get_or, Some, inl, inr, refl, sym, ap, ◌∙◌, arith}
 use Rattle.std.specs.List.{slice_get}
 use Rattle.std.specs.Bool.{Decides}
 use Rattle.std.specs.Cmp.{unsigned_Decides}
@@ -8,6 +8,7 @@ use Rattle.std.proofs.lemmas.Slice.Eq.{slice_eq-Decides}
 use Rattle.std.proofs.lemmas.List.{length-map}
 use Rattle.std.proofs.lemmas.Option.{same_Some, slice_get-get_or, slice_get-map, slice_get_within}
 use Rattle.std.specs.Option.{option_map}
+use Rattle.list_laws.proofs.Orders.{below_next}
 use Rattle.cca_base.specs.declared.state.State.{State}
 use Rattle.trajectory_estimator.specs.Asked.{modes_of}
 
@@ -19,12 +20,9 @@ modes_at states at d within = slice_get-map (λ (s : State). s.modes) states at 
 abbrev pub AlikeTo : List State → List State → ℕ → Type 0
 AlikeTo old new bound = (j : ℕ) (u v : List ℕ) → j < bound → slice_get (modes_of old) j ≡ Some u → slice_get (modes_of new) j ≡ Some v → u ≡ v
 
-behind : (j at : ℕ) → j < at + 1 → (j < at) ⊎ (j ≡ at)
-behind j at h = grind arith
-
 -- one place further
 pub alike_further : (old new : List State) (at : ℕ) (s t : List ℕ) → AlikeTo old new at → slice_get (modes_of old) at ≡ Some s → slice_get (modes_of new) at ≡ Some t → s ≡ t → AlikeTo old new (at + 1)
-alike_further old new at s t alike here there same j u v h e f = elim (behind j at h) [
+alike_further old new at s t alike here there same j u v h e f = elim (below_next j at h) [
   | inl less ↦ alike j u v less e f
   | inr own ↦ same_Some u s (sym e ∙ ap (slice_get (modes_of old)) own ∙ here) ∙ same ∙ same_Some t v (sym there ∙ ap (slice_get (modes_of new)) (sym own) ∙ f)
 ]
@@ -41,7 +39,3 @@ alike_all old new at (inr short) alike j u v e f =
 
 pub modes_decide : (xs ys : List ℕ) → Decides (pointwise nat_eq xs ys) (xs ≡ ys)
 modes_decide xs ys = slice_eq-Decides unsigned_Decides xs ys (pointwise nat_eq xs ys) refl
-
-pub not_false : (b : Bool) → not b ≡ false → b ≡ true
-not_false true e = refl
-not_false false e = absurd (cc)

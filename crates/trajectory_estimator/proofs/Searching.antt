@@ -10,9 +10,8 @@ use Rattle.std.proofs.lemmas.List.Elements.{All-nil, All-cons, All-head, All-tai
 use Rattle.std.proofs.lemmas.List.Sorted.{All-permutation, Contains-permutation, sum_by_popped}
 use Rattle.std.proofs.lemmas.List.Sums.{AllPass-from_list_all, list_all-from_AllPass}
 use Rattle.list_laws.proofs.Elements.{all_right}
-use Rattle.list_laws.proofs.Orders.{nat_cmp-same}
+use Rattle.list_laws.proofs.Orders.{nat_cmp-same, less_cmp}
 use Rattle.window_laws.proofs.Paths.{path_cases}
-use Rattle.window_laws.proofs.Stepping.{less_cmp}
 use Rattle.cca_base.proofs.Members.{contains_cases, contains_here, contains_none}
 use Rattle.cca_base.specs.Model.{WellFormed}
 use Rattle.cca_base.specs.State.{IsState}

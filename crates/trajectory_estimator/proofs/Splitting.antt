@@ -1,7 +1,7 @@
 -- Boxes in the place of one.
 use Rattle.std.proofs.Common.{◌≡◌, ◌≢◌, ◌⊎◌, ◌<◌, ◌+◌, ◌&&◌, ℕ, Bool, true, false, not, List, [], ◌∷◌, ◌++◌, length, All, inl, inr, refl, sym, ap, subst, ◌∙◌, arith}
 use Rattle.std.specs.List.Sorted.{IsPermutation}
-use Rattle.std.proofs.lemmas.Bool.{cases_Bool}
+use Rattle.std.proofs.lemmas.Bool.{cases_Bool, and_from}
 use Rattle.std.proofs.lemmas.List.Elements.{All-nil, All-cons, All-append, All-contains}
 use Rattle.std.proofs.lemmas.List.Folds.{list_all-append}
 use Rattle.std.proofs.lemmas.List.Sorted.{All-permutation, Contains-permutation, sum_by_pushed}
@@ -22,7 +22,7 @@ pub negated_limit : (q : Asked) (l : Limit) → IsLimit q l → IsLimit q (negat
 negated_limit q (Mode at c mode is) h = h
 negated_limit q (Gate at c is) h = h
 
-pub negated_subject : (l : Limit) → subject (negated l) ≡ subject l
+negated_subject : (l : Limit) → subject (negated l) ≡ subject l
 negated_subject (Mode at c mode is) = refl
 negated_subject (Gate at c is) = refl
 
@@ -34,12 +34,8 @@ both_of : (a b : Bool) → (a && b) ≡ true → (a ≡ true) × (b ≡ true)
 both_of true b h = (refl, h)
 both_of false b h = absurd (cc)
 
-both_hold : (a b : Bool) → a ≡ true → b ≡ true → (a && b) ≡ true
-both_hold true b h k = k
-both_hold false b h k = absurd (cc)
-
 -- what meets more limits meets the first of them
-pub fewer_limits : (limits more : List Limit) (gates : List Bool) (states : List (List ℕ)) → box_of (limits ++ more) gates states ≡ true → box_of limits gates states ≡ true
+fewer_limits : (limits more : List Limit) (gates : List Bool) (states : List (List ℕ)) → box_of (limits ++ more) gates states ≡ true → box_of limits gates states ≡ true
 fewer_limits limits more gates states h =
     (both_of (box_of limits gates states) (box_of more gates states) (sym (list_all-append (λ l. meets l gates states) limits more) ∙ h)).0
 
@@ -77,9 +73,9 @@ either_limit : (limits : List Limit) (next : Limit) (gates : List Bool) (states 
     → (box_of (limits ++ negated next ∷ []) gates states ≡ true) ⊎ (box_of (limits ++ next ∷ []) gates states ≡ true)
 either_limit limits next gates states h =
     elim (cases_Bool (meets next gates states)) [
-      | inl holds ↦ inr (box_more limits next gates states ∙ both_hold (box_of limits gates states) (meets next gates states) h holds)
+      | inl holds ↦ inr (box_more limits next gates states ∙ and_from (box_of limits gates states) (meets next gates states) h holds)
       | inr fails ↦ inl (box_more limits (negated next) gates states
-          ∙ both_hold (box_of limits gates states) (meets (negated next) gates states) h (negated_meets next gates states ∙ ap not fails))
+          ∙ and_from (box_of limits gates states) (meets (negated next) gates states) h (negated_meets next gates states ∙ ap not fails))
     ]
 
 -- a piece is added

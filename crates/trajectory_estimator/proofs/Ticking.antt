@@ -28,7 +28,7 @@ pub gone_is : (records : List Record) (count gone : ℕ) (x : TrackerState) → 
 gone_is records count gone x e f g = omega (arith, f, g, ap length e, length-map records entry_of)
 
 -- the states of the last ticks that stay
-pub last_left : (last : List State) (gone : ℕ) (x : TrackerState) → x.last ≡ modes_of last → gone ≡ going x → modes_of (take (length last - gone) (drop gone last)) ≡ drop (going x) x.last
+last_left : (last : List State) (gone : ℕ) (x : TrackerState) → x.last ≡ modes_of last → gone ≡ going x → modes_of (take (length last - gone) (drop gone last)) ≡ drop (going x) x.last
 last_left last gone x e f =
     ap modes_of (take_all (length last - gone) (drop gone last) (omega (arith, length-drop gone last)))
     ∙ sym (drop-map (λ (s : State). s.modes) gone last) ∙ ap (λ n. drop n (modes_of last)) f ∙ ap (drop (going x)) (sym e)

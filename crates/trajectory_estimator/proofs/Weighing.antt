@@ -6,6 +6,7 @@ use Rattle.std.proofs.Math.Seq.{take-append_seam, drop-append_seam}
 use Rattle.std.proofs.lemmas.List.{length-map}
 use Rattle.std.proofs.lemmas.List.Elements.{All-head, All-tail, All-contains}
 use Rattle.std.proofs.lemmas.List.Folds.{list_all-append}
+use Rattle.std.proofs.Math.Bool.{and-true}
 use Rattle.cca_base.proofs.Members.{all_from}
 use Rattle.cca_base.specs.declared.model.Component.{Component}
 use Rattle.cca_base.specs.Model.{mode_counts}
@@ -32,13 +33,9 @@ pub negated_meets : (l : Limit) (gates : List Bool) (states : List (List ℕ)) �
 negated_meets (Mode at c mode is) gates states = beq_not (slice_index (slice_index_or states at []) c == mode) is
 negated_meets (Gate at c is) gates states = beq_not (slice_index_or gates at false) is
 
-and_true : (b : Bool) → (b && true) ≡ b
-and_true true = refl
-and_true false = refl
-
 pub box_more : (limits : List Limit) (l : Limit) (gates : List Bool) (states : List (List ℕ)) → box_of (limits ++ l ∷ []) gates states ≡ (box_of limits gates states && meets l gates states)
 box_more limits l gates states =
-    list_all-append (λ z. meets z gates states) limits (l ∷ []) ∙ ap (λ b. box_of limits gates states && b) (and_true (meets l gates states))
+    list_all-append (λ z. meets z gates states) limits (l ∷ []) ∙ ap (λ b. box_of limits gates states && b) (and-true (meets l gates states))
 
 -- what a box has is counted by whether it meets one more limit
 pub weights_add : (q : Asked) (limits : List Limit) (l : Limit) → weight q (limits ++ negated l ∷ []) + weight q (limits ++ l ∷ []) ≡ weight q limits
@@ -74,7 +71,7 @@ rows_back wide (s ∷ states) each =
     ∙ ap (λ l. s ∷ states_in wide (length states) l) behind ∙ ap (λ l. s ∷ l) (rows_back wide states (All-tail (λ (t : List ℕ). length t ≡ wide) s states each))
 
 -- what passes, as numbers
-pub passes_back : (q : Asked) (test : List Bool → List (List ℕ) → Bool) (gates : List Bool) (states : List (List ℕ)) → length gates ≡ length q.records → length states ≡ length q.records
+passes_back : (q : Asked) (test : List Bool → List (List ℕ) → Bool) (gates : List Bool) (states : List (List ℕ)) → length gates ≡ length q.records → length states ≡ length q.records
     → All (λ s. length s ≡ length q.model.components) states → passes q test (numbers_of gates states) ≡ test gates states
 passes_back q test gates states full long wide =
     let bits : List ℕ = map (λ g. cond g 1 0) gates in

@@ -1,13 +1,12 @@
 -- What limits leave to one component, record by record.
 use Rattle.std.proofs.Common.{◌≡◌, ◌⊎◌, ◌<◌, ◌++◌, ◌∷◌, [], ◌==◌, ◌||◌, ℕ, zero, suc, Bool, true, false, not, List, length, map, get_or, slice_index, slice_index_or, inl, inr, refl, sym, ap, ◌∙◌, arith}
 use Rattle.std.specs.Bool.{beq}
-use Rattle.std.specs.List.{list_all}
 use Rattle.std.proofs.Math.ListN.{get_or-append}
 use Rattle.std.proofs.Math.Seq.{get_or-append_seam}
-use Rattle.std.proofs.lemmas.Bool.Decides.{nat_tests}
-use Rattle.std.proofs.lemmas.List.Elements.{All-weaker}
-use Rattle.std.proofs.lemmas.List.Sums.{AllPass-from_list_all, list_all-from_AllPass}
-use Rattle.std.proofs.lemmas.List.{length-append, length-map, get_or-map}
+use Rattle.std.proofs.lemmas.List.{length-map, get_or-map}
+use Rattle.std.proofs.lemmas.Bool.{eqb-true}
+use Rattle.list_laws.proofs.Passing.{all_pass_too}
+use Rattle.cca_base.proofs.PathLaws.{length-numbers}
 use Rattle.cca_base.specs.Relations.{numbers_below}
 use Rattle.trajectory_estimator.specs.Limits.{meets, box_of, allows_mode, allows_gate, may_stand, can_be, may_stands, cans_be}
 use Rattle.trajectory_estimator.specs.declared.limit.Limit.{Limit}
@@ -16,10 +15,6 @@ use Rattle.trajectory_estimator.proofs.WithColumn.{at_column}
 use Rattle.window_laws.specs.Columns.{IsWithin, column}
 
 -- ---- tests of each number below a bound
-
-pub length-numbers : (n : ℕ) → length (numbers_below n) ≡ n
-length-numbers zero = refl
-length-numbers (suc n) = omega (arith, length-append (numbers_below n) (n ∷ []), length-numbers n)
 
 behind : (at n : ℕ) → at < suc n → (at < n) ⊎ (at ≡ n)
 behind at n h = grind arith
@@ -112,12 +107,6 @@ then_it true true d h e f = h
 then_it true false d h e f = absurd (cc)
 then_it false b d h e f = absurd (cc)
 
-equal_by : (a b : ℕ) → (a == b) ≡ true → a ≡ b
-equal_by a b h = grind (arith, nat_tests, h)
-
-all_maps : {X : Type 0} (f g : X → Bool) → ((x : X) → f x ≡ true → g x ≡ true) → (xs : List X) → list_all f xs ≡ true → list_all g xs ≡ true
-all_maps f g step xs h = list_all-from_AllPass g xs (All-weaker (λ x. f x ≡ true) (λ x. g x ≡ true) (λ x. step x) xs (AllPass-from_list_all f xs h))
-
 -- what meets a limit is left by it
 meets_mode : (l : Limit) (at c : ℕ) (gates : List Bool) (states : List (List ℕ)) → meets l gates states ≡ true → allows_mode l at c (slice_index (column c states) at) ≡ true
 meets_mode (Mode own component mode is) at c gates states h =
@@ -125,7 +114,7 @@ meets_mode (Mode own component mode is) at c gates states h =
     (λ e f.
     let value : ℕ = slice_index (column c states) at in
     let there : slice_index (slice_index_or states own []) component ≡ value =
-    ap (λ n. slice_index (slice_index_or states n []) component) (equal_by own at e) ∙ ap (slice_index (slice_index_or states at [])) (equal_by component c f) ∙ at_column c at states in
+    ap (λ n. slice_index (slice_index_or states n []) component) (eqb-true own at e) ∙ ap (slice_index (slice_index_or states at [])) (eqb-true component c f) ∙ at_column c at states in
     ap (λ b. beq b is) (same_eq mode value) ∙ ap (λ v. beq (v == mode) is) (sym there) ∙ h)
 meets_mode (Gate own component is) at c gates states h = refl
 
@@ -133,7 +122,7 @@ meets_gate : (l : Limit) (at : ℕ) (gates : List Bool) (states : List (List ℕ
 meets_gate (Mode own component mode is) at gates states h = refl
 meets_gate (Gate own component is) at gates states h =
     implied (own == at) true (beq is (slice_index_or gates at false))
-    (λ e f. same_beq is (slice_index_or gates at false) ∙ ap (λ n. beq (slice_index_or gates n false) is) (sym (equal_by own at e)) ∙ h)
+    (λ e f. same_beq is (slice_index_or gates at false) ∙ ap (λ n. beq (slice_index_or gates n false) is) (sym (eqb-true own at e)) ∙ h)
 
 -- what is in a box is left by its limits
 pub box_within : (limits : List Limit) (c n : ℕ) (gates : List Bool) (states : List (List ℕ)) → length states ≡ n → length gates ≡ n → box_of limits gates states ≡ true
@@ -146,7 +135,7 @@ box_within limits c n gates states long full h =
       gates_full = full ∙ sym count;
       cans_full = length-map (numbers_below n) (can_be limits) ∙ length-numbers n ∙ sym count;
       modes_pass = λ at may lt. ap (λ f. f (slice_index (column c states) at)) (test_at (may_stand limits c) n at may (omega (arith, lt, count)))
-          ∙ all_maps (λ l. meets l gates states) (λ l. allows_mode l at c (slice_index (column c states) at)) (λ l. meets_mode l at c gates states) limits h;
+          ∙ all_pass_too (λ l. meets l gates states) (λ l. allows_mode l at c (slice_index (column c states) at)) (λ l. meets_mode l at c gates states) limits h;
       gates_pass = λ at can lt. ap (λ f. f (slice_index_or gates at false)) (test_at (can_be limits) n at can (omega (arith, lt, count)))
-          ∙ all_maps (λ l. meets l gates states) (λ l. allows_gate l at (slice_index_or gates at false)) (λ l. meets_gate l at gates states) limits h;
+          ∙ all_pass_too (λ l. meets l gates states) (λ l. allows_gate l at (slice_index_or gates at false)) (λ l. meets_gate l at gates states) limits h;
     })

@@ -60,7 +60,7 @@ run_at m v s ks t h = leads_at (Step m) (Step (at_version v m)) (step_at m v) s 
 pub mending_at : (m : PlantModel) (v : ℕ) (s t : List ℕ) → Mending m s t → Mending (at_version v m) s t
 mending_at m v s t h = record { full = h.full; each = h.each }
 
-pub allowed_at : (m : PlantModel) (v : ℕ) (s : List ℕ) (k : ℕ) (t : List ℕ) → Allowed m s k t → Allowed (at_version v m) s k t
+allowed_at : (m : PlantModel) (v : ℕ) (s : List ℕ) (k : ℕ) (t : List ℕ) → Allowed m s k t → Allowed (at_version v m) s k t
 allowed_at m v s k t h = record {
   step = step_at m v s k t h.step;
   back = elim h.back [
@@ -102,7 +102,7 @@ pub nominal_at : (m : PlantModel) (v : ℕ) (s : List ℕ) (k : Option ℕ) (s2 
 nominal_at m v s k s2 (inl moved) = inl (moved.0, commanded_at m v s k moved.0 moved.1, moved.2)
 nominal_at m v s k s2 (inr stays) = inr ((λ move h. stays.0 move (commanded_at (at_version v m) m.version s k move h)), stays.1)
 
-pub costs_at : (m : PlantModel) (v : ℕ) (s : List ℕ) (k : Option ℕ) (s2 : List ℕ) (cost : ℕ) → Costs m s k s2 cost → Costs (at_version v m) s k s2 cost
+costs_at : (m : PlantModel) (v : ℕ) (s : List ℕ) (k : Option ℕ) (s2 : List ℕ) (cost : ℕ) → Costs m s k s2 cost → Costs (at_version v m) s k s2 cost
 costs_at m v s k s2 cost h = record {
   state = state_at m v s2 h.state;
   nominal = h.nominal;

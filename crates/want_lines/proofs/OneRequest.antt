@@ -2,6 +2,7 @@
 use Rattle.std.proofs.Common.{◌≡◌, ℕ, List, [], Option, Some, Result, refl, sym, ap, subst, ◌∙◌}
 use Rattle.std.specs.Fmt.{decimal}
 use Rattle.std.proofs.lemmas.Option.{same_Some}
+use Rattle.list_laws.proofs.Elements.{same_tail}
 use Rattle.cca_base.specs.declared.cube.Pair.{Pair}
 use Rattle.cca_base.specs.PlantModel.{PlantModel}
 use Rattle.formula_syntax.specs.Answers.{formula_or_code}
@@ -18,8 +19,8 @@ use Rattle.want_lines.specs.Words.{weight_at}
 use Rattle.want_lines.specs.declared.request.Request.{Request}
 use Rattle.want_lines.specs.declared.request.Request.TheVariants as request
 use Rattle.want_lines.proofs.LineGrammar.{weight_spelled, reads_weight}
-use Rattle.script_reader.proofs.FormulaTexts.{same_answer}
-use Rattle.want_lines.proofs.RequestsOfWords.{apart, asks, at_word, tail_is, want_word, wanted, weight_word}
+use Rattle.formula_syntax.proofs.FormulaTexts.{same_answer}
+use Rattle.want_lines.proofs.RequestsOfWords.{apart, asks, at_word, want_word, wanted, weight_word}
 
 pair_is : (p q : NamedPair) (a b : List ℕ) → ◌≡◌ {A = Option (NamedPair × List ℕ)} (Some (p, a)) (Some (q, b)) → (p ≡ q) × (a ≡ b)
 pair_is p q a b e = let same = same_Some (p, a) (q, b) e in (ap (λ (x : NamedPair × List ℕ). x.0) same, ap (λ (x : NamedPair × List ℕ). x.1) same)
@@ -46,16 +47,16 @@ module _ (m : PlantModel) where
   -- items that are spelled alike ask for one thing
   spelled_alike : (i j : Item) (a b : Result Request ℕ) → line_spelled i ≡ line_spelled j → IsSpelled i → IsSpelled j → AsksFor i a → AsksFor j b → a ≡ b
   spelled_alike (Weight p n) (Weight q k) a b e h h' x y =
-      let tail = tail_is _ _ (weight_spelled p (decimal n)) (weight_spelled q (decimal k)) e in
+      let tail = same_tail _ _ (weight_spelled p (decimal n)) (weight_spelled q (decimal k)) e in
       let both = pair_is p q (decimal n) (decimal k) (sym (reads_weight p (decimal n) h.0.0) ∙ ap weight_at tail ∙ reads_weight q (decimal k) h'.0.0) in
       let number = same_number n k h.1 h'.1 both.1 in
       asks_once (Weight q k) a b (subst (λ (z : NamedPair). AsksFor (Weight z k) a) both.0 (subst (λ (z : ℕ). AsksFor (Weight p z) a) number x)) y
   spelled_alike (At ps) (At qs) a b e h h' x y =
-      let tail = tail_is _ _ _ _ e in
+      let tail = same_tail _ _ _ _ e in
       let same = same_Some ps qs (sym (reads_only_pairs ps h.0 h.1) ∙ ap only_pairs tail ∙ reads_only_pairs qs h'.0 h'.1) in
       asks_once (At qs) a b (subst (λ (z : List NamedPair). AsksFor (At z) a) same x) y
   spelled_alike (Want s) (Want t) a b e h h' x y =
-      let same = same_answer m s t (tail_is _ _ (spelling s) (spelling t) e) in
+      let same = same_answer m s t (same_tail _ _ (spelling s) (spelling t) e) in
       asks_once (Want s) a (wanted (formula_or_code m s)) x (asks m s) ∙ ap wanted same ∙ asks_once (Want t) (wanted (formula_or_code m t)) b (asks m t) y
   spelled_alike (Weight p n) (At qs) a b e h h' x y = apart weight_word at_word _ _ refl refl e
   spelled_alike (Weight p n) (Want t) a b e h h' x y = apart weight_word want_word _ _ refl refl e

@@ -1,7 +1,7 @@
 -- What a line asks for fits the model.
-use Rattle.std.proofs.Common.{Contains, ◌≡◌, ◌<◌, ◌≤◌, ℕ, Bool, true, false, List, Option, Some, None, Result, Ok, Err, inl, inr, refl, subst, sym, arith}
+use Rattle.std.proofs.Common.{Contains, ◌<◌, ◌≤◌, ℕ, List, Option, Some, None, Result, Ok, Err, inl, inr, refl, subst, sym, arith}
 use Rattle.std.specs.Prelude.{IfOk, IfSome}
-use Rattle.std.proofs.lemmas.Bool.{cases_order}
+use Rattle.std.proofs.lemmas.Bool.{cases_order, false_from_ne_true}
 use Rattle.cca_base.specs.declared.codes.TheConstants.{NAME_UNKNOWN, LIMIT, REPEATED_PAIR}
 use Rattle.cca_base.specs.declared.cube.Pair.{Pair}
 use Rattle.cca_base.specs.declared.events.Stop.{Stop}
@@ -19,12 +19,7 @@ use Rattle.script_reader.specs.SaidLines.{Answers}
 use Rattle.want_lines.specs.Items.{Item, Weight, At, Want}
 use Rattle.want_lines.specs.Requests.{FitsModel, IsRequestOf, IsTaken}
 use Rattle.want_lines.specs.declared.request.Request.{Request}
-use Rattle.script_reader.proofs.FormulaTexts.{formula_of}
-
--- a test is false where its being true is absurd
-is_false : (b : Bool) → (b ≡ true → ⊥) → b ≡ false
-is_false true h = absurd (h refl)
-is_false false h = refl
+use Rattle.formula_syntax.proofs.FormulaTexts.{formula_of}
 
 within : (n : ℕ) → (MAX_COST < n → ⊥) → n ≤ MAX_COST
 within n h = elim (cases_order n MAX_COST) [
@@ -37,12 +32,12 @@ module _ (m : PlantModel) where
   item_fits (Weight p n) r ((q, e, is), none) =
       subst (FitsModel m) (sym is) (mode_is m p q e, within n (λ more. none LIMIT (inr (inl (refl, more)))))
   item_fits (At ps) r ((qs, e, is), none) =
-      let once = is_false (has_item_twice qs) (λ t. none REPEATED_PAIR (inr (inr (refl, twice_named (component_of m) (mode_pair m) (mode_names m) ps qs e t)))) in
+      let once = false_from_ne_true (has_item_twice qs) (λ t. none REPEATED_PAIR (inr (inr (refl, twice_named (component_of m) (mode_pair m) (mode_names m) ps qs e t)))) in
       let mode : (q : Pair) → Contains qs q → HasMode m q.item q.value = λ q among. let from = comes_from (mode_pair m) ps qs q e among in mode_is m from.0 q from.2 in
       subst (FitsModel m) (sym is) (once_each qs once, all_from (λ (q : Pair). HasMode m q.item q.value) qs mode)
   item_fits (Want text) r (is, none) =
-      let known = is_false (names_unknown m text) (λ u. none NAME_UNKNOWN (inl (refl, u))) in
-      let shallow = is_false (is_deep text) (λ d. none LIMIT (inr (inl (refl, d)))) in
+      let known = false_from_ne_true (names_unknown m text) (λ u. none NAME_UNKNOWN (inl (refl, u))) in
+      let shallow = false_from_ne_true (is_deep text) (λ d. none LIMIT (inr (inl (refl, d)))) in
       subst (FitsModel m) (sym is) (formula_of m text known shallow)
 
   request_fits : (line : List ℕ) (o : Option Request) → IsRequestOf m line (Ok o) → IfSome o (FitsModel m)

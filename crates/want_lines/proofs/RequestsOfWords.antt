@@ -2,6 +2,7 @@
 use Rattle.std.proofs.Common.{if◌then◌else◌, ◌≡◌, ◌≢◌, ◌<◌, ◌≤◌, ◌^◌, ℕ, Bool, true, false, List, ◌∷◌, codes, Option, Some, None, Result, Ok, Err, inl, inr, refl, sym, ap, subst, ◌∙◌}
 use Rattle.std.specs.Fmt.{decimal}
 use Rattle.std.proofs.lemmas.Option.{same_Some}
+use Rattle.list_laws.proofs.Elements.{same_head, same_tail}
 use Rattle.cca_base.specs.declared.codes.TheConstants.{MALFORMED, NAME_UNKNOWN, LIMIT, REPEATED_PAIR}
 use Rattle.cca_base.specs.declared.cube.Pair.{Pair}
 use Rattle.cca_base.specs.declared.events.Stop.{Stop}
@@ -27,18 +28,12 @@ use Rattle.want_lines.specs.declared.request.Request.TheVariants as request
 use Rattle.want_lines.proofs.LineGrammar.{weight_spelled, reads_weight, weight_read}
 use Rattle.want_lines.proofs.TableOfCodes.{unknown_least, limit_least, none_applies, at_unknown, at_twice, at_taken, weight_unknown, weight_great, weight_taken}
 
-pub tail_is : (a b : Lexeme) (ls rest : List Lexeme) → a ∷ ls ≡ b ∷ rest → ls ≡ rest
-tail_is a b ls rest e = cc
-
-head_is : (a b : Lexeme) (ls rest : List Lexeme) → a ∷ ls ≡ b ∷ rest → a ≡ b
-head_is a b ls rest e = cc
-
 no : {P : Type 0} → true ≡ false → P
 no e = absurd cc
 
 -- lexemes with two first words
 pub apart : {P : Type 0} (a b : Lexeme) (ls rest : List Lexeme) → is_lexeme a a ≡ true → is_lexeme a b ≡ false → a ∷ ls ≡ b ∷ rest → P
-apart a b ls rest same differ e = no (sym same ∙ ap (is_lexeme a) (head_is a b ls rest e) ∙ differ)
+apart a b ls rest same differ e = no (sym same ∙ ap (is_lexeme a) (same_head a b ls rest e) ∙ differ)
 
 abbrev pub weight_word : Lexeme
 weight_word = word (codes "weight")
@@ -54,7 +49,7 @@ want_word = word (codes "want")
 -- an item behind the word weight is a weight, and its words are read so
 weight_only : (ls : List Lexeme) (i : Item) → AreSpelling grammar (weight_word ∷ ls) i → (p : NamedPair) × (n : ℕ) × (n < 2 ^ 128) × (weight_at ls ≡ Some (p, decimal n))
 weight_only ls (Weight p n) (e, h) =
-    let same = tail_is weight_word weight_word ls (weight_spelled p (decimal n)) e in
+    let same = same_tail weight_word weight_word ls (weight_spelled p (decimal n)) e in
     (p, n, h.1, ap weight_at same ∙ reads_weight p (decimal n) h.0.0)
 weight_only ls (At ps) (e, h) = apart weight_word at_word ls _ refl refl e
 weight_only ls (Want f) (e, h) = apart weight_word want_word ls _ refl refl e
@@ -89,7 +84,7 @@ module _ (m : PlantModel) (ls : List Lexeme) where
 at_only : (ls : List Lexeme) (i : Item) → AreSpelling grammar (at_word ∷ ls) i → (ps : List NamedPair) × (only_pairs ls ≡ Some ps)
 at_only ls (Weight p n) (e, h) = apart at_word weight_word ls _ refl refl e
 at_only ls (At ps) (e, h) =
-    let same = tail_is at_word at_word ls _ e in
+    let same = same_tail at_word at_word ls _ e in
     (ps, ap only_pairs same ∙ reads_only_pairs ps h.0 h.1)
 at_only ls (Want f) (e, h) = apart at_word want_word ls _ refl refl e
 
@@ -149,7 +144,7 @@ module _ (m : PlantModel) where
         subst (λ (r : Result Formula ℕ). IsRequestOfWords m (want_word ∷ ls) (wanted r)) (sym (h.of_text text e)) (of_text ls text (wanted (formula_or_code m text)) spelled (asks text))
     | inr (none, e) ↦
         subst (λ (r : Result Formula ℕ). IsRequestOfWords m (want_word ∷ ls) (wanted r)) (sym e)
-        (inl (refl, λ i s. let w = want_only ls i s in none w.0 (tail_is want_word want_word ls _ w.1)))
+        (inl (refl, λ i s. let w = want_only ls i s in none w.0 (same_tail want_word want_word ls _ w.1)))
   ]
 
   -- the same of what a call answered

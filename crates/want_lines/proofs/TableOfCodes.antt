@@ -1,5 +1,6 @@
 -- What is wrong with an item, by the rows of the table of codes.
 use Rattle.std.proofs.Common.{◌≡◌, ◌<◌, ◌≤◌, ℕ, true, false, List, Some, None, inl, inr, refl, sym, ◌∙◌, arith}
+use Rattle.list_laws.proofs.Tests.{some_none}
 use Rattle.cca_base.specs.declared.codes.TheConstants.{NAME_UNKNOWN, LIMIT, REPEATED_PAIR}
 use Rattle.cca_base.specs.declared.cube.Pair.{Pair}
 use Rattle.cca_base.specs.declared.limits.TheConstants.{MAX_COST}
@@ -16,9 +17,6 @@ use Rattle.want_lines.specs.declared.request.Request.TheVariants as request
 no : {P : Type 0} → false ≡ true → P
 no e = absurd cc
 
-some_none : {A P : Type 0} (x : A) → Some x ≡ None → P
-some_none x e = absurd cc
-
 module _ (m : PlantModel) where
   -- the rows of the table, one by one
   by_row : {P : Type 0} (i : Item) (code : ℕ) → Applies m i code → (code ≡ NAME_UNKNOWN → NamesUnknown m i → P) → (code ≡ LIMIT → PassesLimit i → P) → (code ≡ REPEATED_PAIR → NamesTwice i → P) → P
@@ -32,7 +30,7 @@ module _ (m : PlantModel) where
   pub limit_least : (i : Item) → (NamesUnknown m i → ⊥) → PassesLimit i → IsLeastCode m i LIMIT
   limit_least i known h = (inr (inl (refl, h)), λ less lt a. by_row i less a (λ c x. known x) (λ c x. omega (arith, c, lt)) (λ c x. omega (arith, c, lt)))
 
-  pub twice_least : (i : Item) → (NamesUnknown m i → ⊥) → (PassesLimit i → ⊥) → NamesTwice i → IsLeastCode m i REPEATED_PAIR
+  twice_least : (i : Item) → (NamesUnknown m i → ⊥) → (PassesLimit i → ⊥) → NamesTwice i → IsLeastCode m i REPEATED_PAIR
   twice_least i known within h = (inr (inr (refl, h)), λ less lt a. by_row i less a (λ c x. known x) (λ c x. within x) (λ c x. omega (arith, c, lt)))
 
   pub none_applies : (i : Item) → (NamesUnknown m i → ⊥) → (PassesLimit i → ⊥) → (NamesTwice i → ⊥) → (code : ℕ) → Applies m i code → ⊥

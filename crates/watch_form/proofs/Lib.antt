@@ -1,4 +1,3 @@
-pub mod FewCommands
 pub mod OneCalls
 pub mod WatchAgrees
 pub mod WatchEnds

@@ -16,7 +16,7 @@ use Rattle.watch_lines.specs.WatchEvents.{IsWatchEventOf}
 use Rattle.watch_lines.specs.declared.watch_event.WatchEvent.{WatchEvent}
 use Rattle.watch_lines.specs.declared.watch_event.WatchEvent.TheVariants.{Sent, Observe, Reset, Tick}
 use Rattle.window_laws.specs.Ticks as windows
-use Rattle.window_laws.specs.Ticks.{Answer, Numbered, TrackerState, Ticks, Tracks, start}
+use Rattle.window_laws.specs.Ticks.{Numbered, TrackerState, Ticks, Tracks, start}
 use Rattle.window_laws.specs.Trajectories.{Entry}
 use Rattle.watch_form.specs.Answered.{answer_line, answers_text}
 use Rattle.watch_form.specs.Calls.{Calls, IsSaid, FollowsBy, ReadsCalls, nothing_pending}

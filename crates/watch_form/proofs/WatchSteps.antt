@@ -1,5 +1,5 @@
 -- What a line behind a model leads to, by what was read of it.
-use Rattle.std.proofs.Common.{◌≡◌, ◌<◌, ◌+◌, ℕ, false, List, [], Option, Some, None, Result, Ok, Err, ap, subst, ◌∙◌, arith}
+use Rattle.std.proofs.Common.{◌≡◌, ℕ, false, List, [], Option, Some, None, Result, Ok, Err, ap, subst, ◌∙◌}
 use Rattle.std.specs.Prelude.{IfOk}
 use Rattle.std.specs.Option.{is_some}
 use Rattle.std.proofs.lemmas.Option.{same_Some}
@@ -8,7 +8,7 @@ use Rattle.cca_base.specs.PlantModel.{PlantModel}
 use Rattle.cca_base.specs.Refusals.{bare, stop_code}
 use Rattle.cca_base.specs.declared.events.Stop.{Stop}
 use Rattle.cca_base.specs.declared.events.Stop.TheVariants as stops
-use Rattle.line_machine.specs.Next.{Next, GoesOn, next_of}
+use Rattle.line_machine.specs.Next.{next_of}
 use Rattle.line_machine.specs.declared.machine.End.{End}
 use Rattle.line_machine.specs.declared.machine.End.TheVariants.{Refused}
 use Rattle.line_machine.specs.declared.machine.Said.{Said}
@@ -16,11 +16,10 @@ use Rattle.trace_text.specs.Json.{refusal_text}
 use Rattle.script_reader.specs.SaidLines.{Answers}
 use Rattle.watch_lines.specs.WatchEvents.{IsWatchEventOf}
 use Rattle.watch_lines.specs.declared.watch_event.WatchEvent.{WatchEvent}
-use Rattle.watch_lines.specs.declared.watch_event.WatchEvent.TheVariants.{Sent, Observe, Reset, Tick}
-use Rattle.window_laws.specs.Ticks.{Answer, Found, Unexplained, Holding, Ticks, TrackerState}
+use Rattle.window_laws.specs.Ticks.{TrackerState}
 use Rattle.window_laws.specs.Trajectories.{Entry}
 use Rattle.watch_form.specs.Calls.{nothing_pending}
-use Rattle.watch_form.specs.WatchMachine.{WatchState, ServesEvent, ServesBy, WatchSteps, tracking}
+use Rattle.watch_form.specs.WatchMachine.{WatchState, ServesEvent, WatchSteps, tracking}
 
 module _ (x : WatchState) (n : ℕ) (line : List ℕ) where
   -- the line says so
@@ -52,29 +51,3 @@ module _ (x : WatchState) (n : ℕ) (line : List ℕ) where
 -- the same tracker with nothing pending
 pub tracking_is : (x : WatchState) (b : CompiledModel) (s : TrackerState) (p : Entry) → b ≡ x.compiled → p ≡ nothing_pending → record { compiled = b; state = s; pending = p } ≡ tracking x s
 tracking_is x b s p compiled none = λ i. record { compiled = compiled i; state = s; pending = none i }
-
--- ---- ticks are counted
-
-ticks_rise : (m : PlantModel) (x y : TrackerState) (entry : Entry) (answer : Answer) → Ticks m x entry y answer → y.ticks ≡ x.ticks + 1
-ticks_rise m x y entry (Found states cost revised) h = ap (λ (z : TrackerState). z.ticks) h.after
-ticks_rise m x y entry Unexplained h = ap (λ (z : TrackerState). z.ticks) h.2
-ticks_rise m x y entry Holding h = ap (λ (z : TrackerState). z.ticks) h.1
-
-state_is : (x y : WatchState) → ◌≡◌ {A = Next WatchState} (GoesOn x) (GoesOn y) → x.state.ticks ≡ y.state.ticks
-state_is x y h = let same : x ≡ y = cc in ap (λ (z : WatchState). z.state.ticks) same
-
-event_counts : (e : WatchEvent) (x y : WatchState) (text : List ℕ) → ServesEvent e x (GoesOn y) text → y.state.ticks < x.state.ticks + 2
-event_counts (Sent command) x y text h = omega (arith, state_is y _ h.0)
-event_counts (Observe pairs) x y text h = omega (arith, state_is y _ h.0)
-event_counts Reset x y text h = omega (arith, state_is y _ h.0)
-event_counts Tick x y text (z, answer, (s, ticks, to), next, words) =
-    omega (arith, state_is y z next, ap (λ (w : WatchState). w.state.ticks) to, ticks_rise x.compiled.model x.state s x.pending answer ticks)
-
-serves_counts : (said : Result (Option WatchEvent) ℕ) (x y : WatchState) (n : ℕ) (text : List ℕ) → ServesBy said x n (GoesOn y) text → y.state.ticks < x.state.ticks + 2
-serves_counts (Err code) x y n text h = absurd cc
-serves_counts (Ok None) x y n text h = omega (arith, state_is y x h.0)
-serves_counts (Ok (Some event)) x y n text h = event_counts event x y text h
-
--- a line makes one tick at most
-pub steps_count : (x y : WatchState) (n : ℕ) (line text : List ℕ) → WatchSteps x n line (GoesOn y) text → y.state.ticks < x.state.ticks + 2
-steps_count x y n line text (said, is, h) = serves_counts said x y n text h

@@ -70,7 +70,7 @@ module _ (m : PlantModel) (pending : List Pair) (sent : Bool) where
   -- ---- words
 
   -- words from which no item is read are malformed
-  pub unformed : (ls : List Lexeme) → item_in ls ≡ None → IsEventOfWords m pending sent ls (Err MALFORMED)
+  unformed : (ls : List Lexeme) → item_in ls ≡ None → IsEventOfWords m pending sent ls (Err MALFORMED)
   unformed ls none = inl (refl, λ i s. let both : None ≡ Some i = sym none ∙ item_read ls i s in absurd cc)
 
   -- words from which an item is read say what it says

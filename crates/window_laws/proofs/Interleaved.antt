@@ -2,9 +2,7 @@
 use Rattle.std.proofs.Common.{◌≡◌, ◌⊎◌, inl, inr, ℕ, zero, suc, ◌+◌, ◌<◌, ◌≤◌, Bool, true, false, List, [], ◌∷◌, length, sum, drop, get_or, slice_get, slice_index, Option, Some, All, refl, sym, ap, ◌∙◌, arith}
 use Rattle.std.specs.Ordering.{nat_cmp, ordering_then, ordering_reverse}
 use Rattle.std.specs.Cmp.Lexicographic.{slice_cmp}
-use Rattle.std.specs.declared.cmp.Ordering.{Ordering}
 use Rattle.std.specs.declared.cmp.Ordering.TheVariants.{Less, Equal, Greater}
-use Rattle.std.proofs.lemmas.Bool.Decides.{nat_tests}
 use Rattle.std.proofs.lemmas.Bool.{cases_eq}
 use Rattle.std.proofs.lemmas.Cmp.{nat_list_cmp_total, tied_itself}
 use Rattle.std.proofs.lemmas.Grind.{get_or-set_at}
@@ -13,6 +11,7 @@ use Rattle.std.proofs.lemmas.List.Elements.{All-head, All-tail, All-nil, All-con
 use Rattle.std.proofs.lemmas.List.Sums.{sum_by-cons}
 use Rattle.std.proofs.lemmas.Map.Lookups.{exact_bytes, exact_unsigned}
 use Rattle.std.proofs.lemmas.Option.{same_Some, get_or_from_slice_get}
+use Rattle.list_laws.proofs.Orders.{then_cases, cmp_less}
 use Rattle.cca_base.specs.declared.model.Move.{Move}
 use Rattle.cca_base.specs.PlantModel.{PlantModel}
 use Rattle.cca_base.specs.Model.{WellFormed, CommandsFit}
@@ -29,18 +28,10 @@ use Rattle.window_laws.proofs.Paths.{upto_trans, upto_cost, upto_first, length-t
 abbrev NotLater : List ℕ → List ℕ → Type 0
 NotLater xs ys = (xs ≡ ys) ⊎ (slice_cmp nat_cmp xs ys ≡ Less)
 
-pub less_nat : (x y : ℕ) → nat_cmp x y ≡ Less → x < y
-less_nat x y e = grind (arith, nat_tests)
-
-pub then_cases : (a b : Ordering) → ordering_then a b ≡ Less → (a ≡ Less) ⊎ ((a ≡ Equal) × (b ≡ Less))
-then_cases Less b e = inl refl
-then_cases Equal b e = inr (refl, e)
-then_cases Greater b e = absurd (cc)
-
 later_cases : (x y : ℕ) (xs ys : List ℕ) → NotLater (x ∷ xs) (y ∷ ys) → (x < y) ⊎ ((x ≡ y) × NotLater xs ys)
 later_cases x y xs ys (inl e) = inr (ap (λ l. get_or l 0 0) e, inl (ap (drop 1) e))
 later_cases x y xs ys (inr h) = elim (then_cases (nat_cmp x y) (slice_cmp nat_cmp xs ys) h) [
-  | inl less ↦ inl (less_nat x y less)
+  | inl less ↦ inl (cmp_less x y less)
   | inr both ↦ inr (exact_unsigned x y both.0, inr both.1)
 ]
 
@@ -50,7 +41,7 @@ less_place [] [] e h = absurd (cc)
 less_place [] (y ∷ b) e h = absurd (omega arith)
 less_place (x ∷ a) [] e h = absurd (omega arith)
 less_place (x ∷ a) (y ∷ b) e h = elim (then_cases (nat_cmp x y) (slice_cmp nat_cmp a b) h) [
-  | inl less ↦ (0, omega arith, less_nat x y less)
+  | inl less ↦ (0, omega arith, cmp_less x y less)
   | inr both ↦ (let (c, within, lt) = less_place a b (omega arith) both.1 in (suc c, omega arith, lt))
 ]
 
@@ -63,7 +54,7 @@ state_cases s t =
     ] refl
 
 -- where each column comes no later, the states come no later
-pub not_later : (n : ℕ) (a b : List (List ℕ)) → length a ≡ length b → All (λ s. length s ≡ n) a → All (λ s. length s ≡ n) b
+not_later : (n : ℕ) (a b : List (List ℕ)) → length a ≡ length b → All (λ s. length s ≡ n) a → All (λ s. length s ≡ n) b
     → ((c : ℕ) → c < n → NotLater (column c a) (column c b)) → (a ≡ b) ⊎ IsEarlierPath a b
 not_later n [] [] e h k f = inl refl
 not_later n [] (t ∷ b) e h k f = absurd (omega arith)

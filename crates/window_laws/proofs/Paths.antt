@@ -19,7 +19,7 @@ use Rattle.window_laws.specs.Trajectories.{Entry, Trajectory, path_cmp, IsEarlie
 pub path_total : IsTotalOrder (slice_cmp (slice_cmp nat_cmp))
 path_total = lists_total nat_list_cmp_total
 
-pub same_path : (a b : List (List ℕ)) → path_cmp a b ≡ Equal → a ≡ b
+same_path : (a b : List (List ℕ)) → path_cmp a b ≡ Equal → a ≡ b
 same_path [] [] e = refl
 same_path [] (t ∷ b) e = absurd (cc)
 same_path (s ∷ a) [] e = absurd (cc)

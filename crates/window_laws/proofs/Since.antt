@@ -28,7 +28,7 @@ tracks_split m x z (Tick entry ∷ calls) more answers (w, answer, rest, ticks, 
     (y, a ∷ first, others, (w, answer, first, ticks, one, refl), two, e ∙ ap (λ l. a ∷ l) parts)
 
 -- calls have a last start
-pub since_start : (calls : List TrackerCall) → (entries : List Entry) × AreSince calls entries
+since_start : (calls : List TrackerCall) → (entries : List Entry) × AreSince calls entries
 since_start [] = ([], ([], inl refl, refl))
 since_start (Reset ∷ calls) = (let (entries, (before, starts, parts)) = since_start calls in
     (entries, (Reset ∷ before, behind before starts, ap (λ l. Reset ∷ l) parts)))
@@ -54,7 +54,7 @@ at_start m ticks before x others (inr (front, e)) t =
 
 -- ---- the window of the last tick
 
-pub tracks_keep : (m : PlantModel) (x y : TrackerState) (calls : List TrackerCall) (answers : List Numbered) → IsState m (start_modes m) → KeepsBest m x → Tracks m x calls y answers → KeepsBest m y
+tracks_keep : (m : PlantModel) (x y : TrackerState) (calls : List TrackerCall) (answers : List Numbered) → IsState m (start_modes m) → KeepsBest m x → Tracks m x calls y answers → KeepsBest m y
 tracks_keep m x y [] answers at keeps (e, f) = subst (KeepsBest m) (sym e) keeps
 tracks_keep m x y (Reset ∷ calls) answers at keeps t = tracks_keep m (start m x.ticks) y calls answers at (start_keeps m x.ticks at) t
 tracks_keep m x y (Tick entry ∷ calls) answers at keeps (z, answer, others, ticks, rest, e) = tracks_keep m z y calls others at (ticks_keep m x z entry answer keeps ticks) rest
@@ -108,7 +108,7 @@ module _ (m : PlantModel) (ticks : ℕ) (is : IsState m (start_modes m)) (entrie
       subst (BeginsLast earlier) (sym (cond-false (nat_lt (length x.records) window) x.anchor (get_or x.last 0 x.anchor) shut))
       (begins earlier x.last x.anchor long (last_found m (start m ticks) x first rest earlier (subst (λ l. Tracks m (start m ticks) (map Tick l) x earlier) (sym same) tracks) found.awake))
 
-  pub latest_best : (anchor : List ℕ) × (records : List Entry) × AreLatest (entries ++ entry ∷ []) records × IsState m anchor × IsAnchorOf m (entries ++ entry ∷ []) earlier anchor × Best m anchor records states cost
+  latest_best : (anchor : List ℕ) × (records : List Entry) × AreLatest (entries ++ entry ∷ []) records × IsState m anchor × IsAnchorOf m (entries ++ entry ∷ []) earlier anchor × Best m anchor records states cost
   latest_best =
       let awake : y.holding ≡ false = ap (λ (s : TrackerState). s.holding) found.after in
       let ((gone, parts), count, first) = keeps_latest m ticks (entries ++ entry ∷ []) y (earlier ++ record { tick = x.ticks + 1; answer = Found states cost revised } ∷ []) with_last awake in

@@ -2,10 +2,8 @@
 use Rattle.std.proofs.Common.{◌≡◌, ◌⊎◌, inl, inr, ℕ, ◌+◌, ◌<◌, ◌≤◌, Bool, List, [], ◌∷◌, Option, Some, None, refl, sym, ap, subst, ◌∙◌, arith}
 use Rattle.std.specs.Ordering.{nat_cmp, ordering_then}
 use Rattle.std.specs.Cmp.Lexicographic.{slice_cmp}
-use Rattle.std.specs.declared.cmp.Ordering.TheVariants.{Less}
-use Rattle.std.proofs.lemmas.Bool.Decides.{nat_tests}
 use Rattle.std.proofs.lemmas.Option.{same_Some}
-use Rattle.list_laws.proofs.Orders.{nat_cmp-same}
+use Rattle.list_laws.proofs.Orders.{nat_cmp-same, less_cmp}
 use Rattle.cca_base.specs.PlantModel.{PlantModel}
 use Rattle.window_laws.specs.Trajectories.{Entry, IsUpTo}
 use Rattle.window_laws.specs.Columns.{Path, Priced, IsWithin, IsLeastPath, IsPathFrom, IsStepTo}
@@ -13,9 +11,6 @@ use Rattle.window_laws.specs.Columns.{Path, Priced, IsWithin, IsLeastPath, IsPat
 -- modes and their cost come no later than others
 abbrev NoLater : ℕ → List ℕ → ℕ → List ℕ → Type 0
 NoLater = IsUpTo (slice_cmp nat_cmp)
-
-pub less_cmp : (x y : ℕ) → x < y → nat_cmp x y ≡ Less
-less_cmp x y h = grind (arith, nat_tests)
 
 -- behind steps to one mode at one cost
 behind_same : (x a b k l : ℕ) (xs ys : List ℕ) → a ≡ b → NoLater k xs l ys → NoLater (a + k) (x ∷ xs) (b + l) (x ∷ ys)

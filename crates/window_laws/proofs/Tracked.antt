@@ -1,8 +1,9 @@
 -- Ticks.
-use Rattle.std.proofs.Common.{◌≡◌, ◌⊎◌, inl, inr, ℕ, ◌+◌, ◌-◌, ◌<◌, ◌≤◌, true, false, nat_lt, List, [], ◌∷◌, length, drop, get_or, Option, Some, None, refl, sym, ap, subst, ◌∙◌, arith}
+use Rattle.std.proofs.Common.{◌≡◌, inl, inr, ℕ, ◌+◌, ◌-◌, ◌<◌, ◌≤◌, true, false, nat_lt, List, [], ◌∷◌, length, drop, get_or, Option, Some, None, refl, sym, ap, subst, ◌∙◌, arith}
 use Rattle.std.proofs.lemmas.List.{length-append, length-drop}
 use Rattle.std.proofs.lemmas.Bool.Decides.{nat_tests}
 use Rattle.std.proofs.lemmas.Bool.{cases_Bool, cond-true, cond-false}
+use Rattle.list_laws.proofs.Orders.{three_ways}
 use Rattle.cca_base.specs.PlantModel.{PlantModel}
 use Rattle.cca_base.specs.State.{IsState}
 use Rattle.window_laws.specs.Trajectories.{Entry, Trajectory}
@@ -49,15 +50,12 @@ ticks_keep m x y entry Holding keeps (holds, after) =
 
 -- ---- a tick has one outcome
 
-shorter : (i j : ℕ) → (i < j) ⊎ ((i ≡ j) ⊎ (j < i))
-shorter i j = grind arith
-
 one_revised : (tick : ℕ) (old new : List (List ℕ)) (a b : Option ℕ) → IsRevised tick old new a → IsRevised tick old new b → a ≡ b
 one_revised tick old new None None h k = refl
 one_revised tick old new None (Some b) h (i, s, t, e, at, there, other, first) = absurd (other (h i s t at there))
 one_revised tick old new (Some a) None (i, s, t, e, at, there, other, first) k = absurd (other (k i s t at there))
 one_revised tick old new (Some a) (Some b) (i, s, t, e, at, there, other, first) (j, u, v, f, also, here, apart, before) =
-    elim (shorter i j) [
+    elim (three_ways i j) [
       | inl lt ↦ absurd (other (before i s t lt at there))
       | inr (inl same) ↦ ap Some (e ∙ ap (λ n. tick + n) same ∙ sym f)
       | inr (inr gt) ↦ absurd (apart (first j u v gt also here))

@@ -25,7 +25,7 @@ use Rattle.wish_laws.specs.Lightest.{StandsWhereItMay}
 -- ---- a settled state stands where it may
 
 module _ (m : PlantModel) (order base : List ℕ) (member : Test) (s : List ℕ) (g : Setting m order base member s) where
-  pub settled_stands : (t : List ℕ) → Settled m s t → StandsWhereItMay m member s t
+  settled_stands : (t : List ℕ) → Settled m s t → StandsWhereItMay m member s t
   settled_stands t its =
       let after : Setting m order base member t = stays_covered_law m order base member s g t its.commands its.plan in
       record {
@@ -38,7 +38,7 @@ module _ (m : PlantModel) (order base : List ℕ) (member : Test) (s : List ℕ)
       }
 
   -- and where an allowed plan ends there, a state that stands where it may is settled
-  pub stands_settled : (t ks : List ℕ) → AllowedPlan m s ks t → StandsWhereItMay m member s t → Settled m s t
+  stands_settled : (t ks : List ℕ) → AllowedPlan m s ks t → StandsWhereItMay m member s t → Settled m s t
   stands_settled t ks plan its = record {
     commands = ks;
     plan = plan;

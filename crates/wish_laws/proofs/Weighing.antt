@@ -2,12 +2,11 @@
 use Rattle.std.proofs.Common.{◌≡◌, ◌⊎◌, ◌<◌, ◌≤◌, ℕ, suc, List, [], ◌∷◌, length, get_or, slice_get, slice_index, Some, refl, sym, ap, subst, ◌∙◌, inl, inr, arith}
 use Rattle.std.specs.Ordering.{nat_cmp, ordering_then}
 use Rattle.std.specs.Cmp.Lexicographic.{slice_cmp}
-use Rattle.std.specs.declared.cmp.Ordering.TheVariants.{Less}
-use Rattle.std.proofs.lemmas.Bool.Decides.{nat_tests}
-use Rattle.std.proofs.lemmas.Cmp.{nat_list_cmp_total, tied_itself}
+use Rattle.std.proofs.lemmas.Cmp.{nat_list_cmp_total}
 use Rattle.std.proofs.lemmas.List.Elements.{All-contains}
 use Rattle.std.proofs.lemmas.Option.{slice_get_within, get_or_from_slice_get}
-use Rattle.list_laws.proofs.Orders.{nat_cmp-same}
+use Rattle.list_laws.proofs.Orders.{nat_cmp-same, less_cmp}
+use Rattle.cca_base.proofs.StateLaws.{none_earlier}
 use Rattle.cca_base.specs.declared.cube.Pair.{Pair}
 use Rattle.cca_base.specs.declared.formula.Formula.{Formula}
 use Rattle.cca_base.specs.PlantModel.{PlantModel}
@@ -22,15 +21,12 @@ use Rattle.guard_compiler.specs.Wishes.{IsImplicant}
 use Rattle.wish_laws.specs.Settled.{Settled, weight_of, IsTarget, NoneHolds}
 use Rattle.wish_laws.specs.Lightest.{MayStand, StandsWhereItMay, IsBarred, IsLighter, IsLighterMode, IsLightestOf}
 use Rattle.wish_laws.proofs.Settling.{settled_by_classes}
-use Rattle.wish_laws.proofs.Wished.{holds_by_implicant}
-
-less_nat : (x y : ℕ) → x < y → nat_cmp x y ≡ Less
-less_nat x y h = grind (arith, nat_tests)
+use Rattle.guard_compiler.proofs.ImplicantsInStates.{holds_by_implicant}
 
 -- ---- mode by mode
 
 -- states of the weights' length, each mode lighter: the whole is lighter
-pub lighter_by_modes : (weights : List (List ℕ)) (t u : List ℕ) → length t ≡ length weights → length u ≡ length weights
+lighter_by_modes : (weights : List (List ℕ)) (t u : List ℕ) → length t ≡ length weights → length u ≡ length weights
     → ((c : ℕ) → c < length weights → IsLighterMode (get_or weights c []) (slice_index t c) (slice_index u c)) → IsLighter weights t u
 lighter_by_modes [] [] [] e f h = inr (refl, inl refl)
 lighter_by_modes [] [] (y ∷ u) e f h = absurd (omega arith)
@@ -52,7 +48,7 @@ lighter_by_modes (row ∷ weights) (x ∷ t) (y ∷ u) e f h =
           (
               let cases : (x < y) ⊎ (x ≡ y) = (let le = same.1 in grind arith) in
               elim cases [
-                | inl lt ↦ inr (ap (λ o. ordering_then o (slice_cmp nat_cmp t u)) (less_nat x y lt))
+                | inl lt ↦ inr (ap (λ o. ordering_then o (slice_cmp nat_cmp t u)) (less_cmp x y lt))
                 | inr alike ↦ elim both.1 [
                   | inl equal ↦ inl (cc)
                   | inr earlier ↦ inr (ap (λ o. ordering_then o (slice_cmp nat_cmp t u)) (nat_cmp-same x y alike) ∙ earlier)
@@ -79,9 +75,6 @@ lightest_of_cube m member weights s cube t long its u stands extends =
 
 -- ---- implicant by implicant
 
-not_itself : (a : List ℕ) → IsEarlier a a → ⊥
-not_itself a h = let e = tied_itself nat_list_cmp_total a in absurd (cc)
-
 pub lighter_trans : (weights : List (List ℕ)) (t u v : List ℕ) → IsLighter weights t u → IsLighter weights u v → IsLighter weights t v
 lighter_trans weights t u v (inl h) (inl k) = inl (omega arith)
 lighter_trans weights t u v (inl h) (inr k) = inl (omega (arith, k.0))
@@ -96,8 +89,8 @@ lighter_weight weights t u (inr h) = omega (arith, h.0)
 
 lighter_first : (weights : List (List ℕ)) (t u : List ℕ) → IsLighter weights t u → weight_of weights u ≡ weight_of weights t → IsEarlier u t → ⊥
 lighter_first weights t u (inl h) e k = omega (arith, h, e)
-lighter_first weights t u (inr (f, inl same)) e k = not_itself u (subst (IsEarlier u) same k)
-lighter_first weights t u (inr (f, inr less)) e k = not_itself t (nat_list_cmp_total.trans t u t less k)
+lighter_first weights t u (inr (f, inl same)) e k = none_earlier u (subst (IsEarlier u) same k)
+lighter_first weights t u (inr (f, inr less)) e k = none_earlier t (nat_list_cmp_total.trans t u t less k)
 
 module _ (b : CompiledModel) (base : List ℕ) (member : Test) (cells : Cells) (compiled : IsCompiled b) (policy : IsPolicy b base member cells) (s : List ℕ)
     (g : Setting b.model b.order base member s) where

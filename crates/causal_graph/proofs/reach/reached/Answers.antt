@@ -3,9 +3,9 @@ use Rattle.std.proofs.lemmas.Option.{get_or_from_slice_get}
 use Rattle.std.proofs.lemmas.List.{length-replicate}
 use Rattle.causal_graph.specs.Search.{AreNarrow, Marks, Spreads}
 use Rattle.cca_base.specs.Flags.{IsSet}
-use Rattle.causal_graph.proofs.RemainingNeeds.{none_set}
 use Rattle.causal_graph.proofs.ReachedRows.{reaching_first, reaching_more, reached_all}
 use Rattle.list_laws.proofs.Elements.{written_back}
+use Rattle.cca_base.proofs.FlagLaws.{none_set}
 use Rattle.causal_graph.proofs.reach.reached.Goals as goal
 
 pub rounds-init : goal.rounds-init

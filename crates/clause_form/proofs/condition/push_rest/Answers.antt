@@ -2,11 +2,12 @@ use Rattle.std.proofs.Common.{◌≡◌, ◌<◌, ◌∙◌, ◌&&◌, ◌||◌,
 use Rattle.std.specs.List.{list_any}
 use Rattle.std.proofs.lemmas.List.Folds.{list_all-append}
 use Rattle.std.proofs.lemmas.List.Elements.{All-push, All-filter}
+use Rattle.list_laws.proofs.Tests.{and_with}
 use mathlib.Core.Bool.{and-true}
 use Rattle.clause_form.specs.declared.clause.Clause.{Clause}
 use Rattle.clause_form.specs.declared.clause.Literal.{Literal}
 use Rattle.clause_form.specs.Clauses.{AreBelow, AreOthers, all_met, is_met, meets}
-use Rattle.clause_form.proofs.ConditionedClauses.{met_with, is_made_true, is_other, and_with, others_left}
+use Rattle.clause_form.proofs.ConditionedClauses.{met_with, is_made_true, is_other, others_left}
 use Rattle.clause_form.proofs.condition.push_rest.Goals as goal
 
 pub returns-then-is_made_true-clause-met : goal.returns-then-is_made_true-clause-met

@@ -4,7 +4,7 @@ use Rattle.cca_base.specs.declared.cube.Pair.{Pair}
 use Rattle.cca_base.specs.Model.{HasMode}
 use Rattle.cca_base.specs.State.{Follows, Holds}
 use Rattle.cca_base.proofs.StatePairs.{pairs_have_modes}
-use Rattle.control_program.proofs.Questions.{formula_within, follows_holds, holds_follows}
+use Rattle.cca_base.proofs.HeldFormulas.{formula_within, follows_holds, holds_follows}
 use Rattle.control_program.proofs.asking.holds.Goals as goal
 
 pub follows-requires-clause-modes : goal.follows-requires-clause-modes

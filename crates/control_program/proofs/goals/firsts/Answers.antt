@@ -2,7 +2,7 @@ use Rattle.std.proofs.Common.{◌≡◌, ◌∷◌, [], ◌++◌, List, ◌+◌,
 use Rattle.std.proofs.lemmas.List.{take_more}
 use Rattle.cca_base.specs.declared.cube.Pair.{Pair}
 use Rattle.control_laws.specs.Turns.{firsts}
-use Rattle.control_program.proofs.FirstPairs.{named, push_named, push_new}
+use Rattle.control_laws.proofs.PushedPairs.{named, push_named, push_new}
 use Rattle.control_program.proofs.goals.firsts.Goals.{then-not-is_named+in_ok-push, else-not-is_named}
 use Rattle.control_program.proofs.goals.firsts.Goals as goal
 

@@ -1,9 +1,10 @@
 use Rattle.std.proofs.Common.{◌≡◌, ◌∙◌, ℕ, List, Bool, Option, true, false, length, ap, sym, subst, length-set, replicate, MatchOption}
 use Rattle.std.proofs.Common.{Some, None}
 use Rattle.std.proofs.lemmas.List.{length-replicate}
+use Rattle.cca_base.proofs.FlagLaws.{none_set}
 use Rattle.clause_form.specs.Clauses.{AllBelow}
 use Rattle.elimination.specs.Projection.{AreAllDone, IsLeft, IsProjectedSoFar}
-use Rattle.elimination.proofs.Projecting.{none_projected, none_marked, one_more, above_still, gone_still, all_below}
+use Rattle.elimination.proofs.Projecting.{none_projected, one_more, above_still, gone_still, all_below}
 use Rattle.elimination.proofs.projection.project_each.Goals as goal
 
 is_left : (c : goal.After-marks-in-Some-2-1) → IsLeft c.args.clauses.now.sizes c.args.keep c.subjects.marks.items c.from.result
@@ -22,8 +23,8 @@ subjects-init c =
     let given : c.in_ok-all.all.items ≡ c.args.clauses.now.clauses = c.in_ok-all.ensures ∙ c.as_slice.ensures in
     record {
       full = ap length made ∙ length-replicate n false;
-      above = λ x h. absurd (none_marked n x (rw made at h));
-      gone = λ x h. absurd (none_marked n x (rw made at h));
+      above = λ x h. absurd (none_set n x (rw made at h));
+      gone = λ x h. absurd (none_set n x (rw made at h));
       exact = subst (IsProjectedSoFar c.args.clauses.now.sizes c.in_ok-marks.marks.items c.args.clauses.now.clauses) (sym given) (rw made (none_projected c.args.clauses.now.sizes n c.args.clauses.now.clauses));
       below = subst (AllBelow n) (sym given) c.requires;
     }

@@ -1,7 +1,7 @@
 use Rattle.std.proofs.Common.{◌≡◌, ◌<◌, ◌≤◌, ◌∙◌, List, length, slice_get, Some, sym, ap, subst, arith}
 use Rattle.std.proofs.lemmas.Option.{get_or_from_slice_get}
 use Rattle.cca_base.specs.Model.{is_broken}
-use Rattle.goal_interpreter.proofs.SoundGoals.{goal_is, order_place, pair_more, pair_skip}
+use Rattle.wish_laws.proofs.SoundGoals.{goal_is, order_place, pair_more, pair_skip}
 use Rattle.goal_interpreter.proofs.goal.goal_of.Goals.{then-not-broken+in_ok-push, else-not-broken}
 use Rattle.goal_interpreter.proofs.goal.goal_of.Goals as goal
 

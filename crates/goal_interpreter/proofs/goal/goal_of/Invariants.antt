@@ -1,6 +1,6 @@
 use Rattle.std.proofs.Common.{◌≡◌, take}
 use Rattle.wish_laws.proofs.Settling.{pairs_in}
-use Rattle.goal_interpreter.proofs.SoundGoals.{is_sound}
+use Rattle.wish_laws.proofs.SoundGoals.{is_sound}
 use Rattle.goal_interpreter.proofs.goal.goal_of.Given as goal
 
 abbrev pub invariant-loop-i : goal.invariant-loop-i

@@ -1,7 +1,8 @@
 use Rattle.std.proofs.Common.{◌≡◌, ◌+◌, ◌++◌, ◌∷◌, [], ◌∙◌, ℕ, List, take, slice_get, Some, sym, ap, subst}
+use Rattle.list_laws.proofs.GoneThrough.{take_next}
 use Rattle.policy_tables.specs.Tables.{TableParts}
 use Rattle.plan_runner.specs.WaysBack.{AreBackPairs}
-use Rattle.plan_runner.proofs.GoingBack.{take_next, back_skip, back_push, order_place}
+use Rattle.plan_runner.proofs.GoingBack.{back_skip, back_push, order_place}
 use Rattle.plan_runner.proofs.goal_back.back_goal.Goals.{in-Some+in_ok-push, in_default}
 use Rattle.plan_runner.proofs.goal_back.back_goal.Goals as goal
 

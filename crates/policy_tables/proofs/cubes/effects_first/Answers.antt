@@ -6,7 +6,7 @@ use Rattle.cca_base.specs.Accepted.{CompiledModel}
 use Rattle.cca_base.specs.Cube.{IsCube, Lacks}
 use Rattle.cca_base.specs.Orders.{IsSorted}
 use Rattle.policy_tables.proofs.Filled.{lacks_next}
-use Rattle.policy_tables.proofs.ShortCubes.{short_sorted}
+use Rattle.cca_base.proofs.ShortCubes.{short_sorted}
 use Rattle.policy_tables.proofs.cubes.effects_first.Goals as goal
 
 pub push-requires : goal.push-requires

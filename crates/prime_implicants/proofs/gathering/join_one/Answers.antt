@@ -1,14 +1,15 @@
 use Rattle.std.proofs.Common.{rules, ◌≡◌, ◌∙◌, ap, sym, ◌&&◌, true, length, subst}
 use Rattle.std.specs.List.{list_all}
+use Rattle.list_laws.proofs.Tests.{and_with}
 use Rattle.prime_implicants.specs.DenseClauses.{all_unfalsified, row_unfalsified, is_wide, union_rows, is_always}
-use Rattle.prime_implicants.proofs.DenseClauseLaws.{unless_always, row_unfalsified-always, union_unfalsified, wide-union, widths}
+use Rattle.prime_implicants.proofs.DenseClauseLaws.{row_unfalsified-always, union_unfalsified, wide-union, widths}
 use Rattle.prime_implicants.proofs.gathering.join_one.Goals as goal
 
 pub returns-then-is_always-clause-unfalsified : goal.returns-then-is_always-clause-unfalsified
 returns-then-is_always-clause-unfalsified c = λ q w.
     let r : c.in_ok-both.both ≡ union_rows c.args.a.now c.args.b.now = search rules in
     let always : is_always c.args.sizes.now (union_rows c.args.a.now c.args.b.now) ≡ true = cc in
-    unless_always _ _ (sym (union_unfalsified _ q _ _ c.requires.a c.requires.b) ∙ row_unfalsified-always c.args.sizes.now q _ w always)
+    and_with _ _ (sym (union_unfalsified _ q _ _ c.requires.a c.requires.b) ∙ row_unfalsified-always c.args.sizes.now q _ w always)
 
 pub insert_minimal-requires : goal.insert_minimal-requires
 insert_minimal-requires c =

@@ -1,6 +1,6 @@
 use Rattle.std.proofs.Common.{arith, map}
 use Rattle.trace_text.proofs.CommandWords.{no_command, naming_goes_on}
-use Rattle.text_base.proofs.WordsByPlace.{word_at}
+use Rattle.list_laws.proofs.WordsByPlace.{word_at}
 use Rattle.trace_text.proofs.commands.commands_by.Goals as goal
 
 pub returns-in-None : goal.returns-in-None

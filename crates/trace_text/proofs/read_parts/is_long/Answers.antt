@@ -1,4 +1,4 @@
-use Rattle.text_base.proofs.WordsByPlace.{only_word}
+use Rattle.list_laws.proofs.WordsByPlace.{only_word}
 use Rattle.trace_text.proofs.read_parts.is_long.Goals as goal
 
 pub returns-in-len1 : goal.returns-in-len1

@@ -1,4 +1,4 @@
-use Rattle.text_base.proofs.WordsByPlace.{no_bytes, second_word}
+use Rattle.list_laws.proofs.WordsByPlace.{no_bytes, second_word}
 use Rattle.trace_text.proofs.read_parts.is_spaced_long.Goals as goal
 
 pub returns-then-is_empty : goal.returns-then-is_empty

@@ -2,7 +2,7 @@ use Rattle.std.proofs.Common.{map, sym, arith}
 use Rattle.std.proofs.lemmas.List.{length-map}
 use Rattle.trace_text.specs.Names.{rows_of}
 use Rattle.trace_text.proofs.ChosenRows.{no_choices, reading_goes_on, reading_ends}
-use Rattle.text_base.proofs.WordsByPlace.{word_at}
+use Rattle.list_laws.proofs.WordsByPlace.{word_at}
 use Rattle.trace_text.proofs.read_parts.read_each.Goals as goal
 
 pub returns-in-None : goal.returns-in-None

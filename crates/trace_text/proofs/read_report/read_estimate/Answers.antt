@@ -1,7 +1,7 @@
 use Rattle.std.proofs.Common.{◌≡◌, ◌∙◌, ap, arith, length, map}
 use Rattle.std.proofs.lemmas.List.{length-map}
 use Rattle.trace_text.proofs.ReadReports.{too_few_words, no_reply, no_state}
-use Rattle.text_base.proofs.WordsByPlace.{words_dropped, words_taken}
+use Rattle.list_laws.proofs.WordsByPlace.{words_dropped, words_taken}
 use Rattle.trace_text.proofs.read_report.read_estimate.Goals as goal
 
 pub returns-then-words-components : goal.returns-then-words-components

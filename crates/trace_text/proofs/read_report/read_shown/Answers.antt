@@ -1,5 +1,5 @@
 use Rattle.std.proofs.Common.{Bor, List, ℕ, []}
-use Rattle.text_base.proofs.WordsByPlace.{one_word}
+use Rattle.list_laws.proofs.WordsByPlace.{one_word}
 use Rattle.trace_text.proofs.read_report.read_shown.Goals as goal
 
 pub returns-in-len1 : goal.returns-in-len1

@@ -1,4 +1,3 @@
-use Rattle.std.proofs.Common.{}
 use Rattle.cca_base.specs.Model.{RepairChain, IsInChain}
 use Rattle.cca_base.proofs.model.Model.is_in_chain.Given as goal
 

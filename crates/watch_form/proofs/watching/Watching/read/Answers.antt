@@ -5,7 +5,7 @@ use Rattle.cca_base.specs.PlantModel.{PlantModel}
 use Rattle.script_reader.specs.SaidLines.{Answers}
 use Rattle.watch_lines.specs.WatchEvents.{IsWatchEventOf}
 use Rattle.watch_form.specs.WatchMachine.{WatchState}
-use Rattle.watch_form.proofs.FewCommands.{few_commands}
+use Rattle.cca_base.proofs.CommandPlaces.{few_commands}
 use Rattle.watch_form.proofs.watching.Watching.read.Goals as goal
 
 pub read_watch_line-requires-clause-few : goal.read_watch_line-requires-clause-few

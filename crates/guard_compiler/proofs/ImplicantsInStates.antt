@@ -1,30 +1,19 @@
 -- A state holds a wish where an implicant stands in it.
-use Rattle.std.proofs.Common.{◌≡◌, ◌<◌, ℕ, List, length, slice_get, slice_index, Some, sym, subst, ◌∙◌, arith}
-use Rattle.std.proofs.lemmas.List.{ext_get_or}
-use Rattle.std.proofs.lemmas.List.Elements.{All-contains}
-use Rattle.std.proofs.lemmas.Option.{slice_get-get_or, slice_get_within, get_or_from_slice_get}
+use Rattle.std.proofs.Common.{◌≡◌, ◌<◌, ℕ, List, length, slice_get, Some, sym, subst, ◌∙◌, arith}
+use Rattle.std.proofs.lemmas.Option.{slice_get_within, get_or_from_slice_get}
 use Rattle.cca_base.specs.declared.cube.Pair.{Pair}
 use Rattle.cca_base.specs.declared.formula.Formula.{Formula}
 use Rattle.cca_base.specs.PlantModel.{PlantModel}
 use Rattle.cca_base.specs.Model.{HasMode}
 use Rattle.cca_base.specs.Repairs.{pairs_of}
 use Rattle.cca_base.specs.State.{IsState, Extends, Holds}
-use Rattle.cca_base.proofs.Members.{all_from, in_pairs, stands_in}
+use Rattle.cca_base.proofs.Members.{all_from, stands_in}
+use Rattle.cca_base.proofs.StateLaws.{same_state}
 use Rattle.cca_laws.proofs.Minimal.{pairs_rise}
 use Rattle.guard_compiler.specs.Wishes.{IsImplicant}
 use Rattle.guard_compiler.proofs.WishParts.{minimal_part}
 
 module _ (m : PlantModel) (f : Formula) where
-  -- a state that extends all pairs of another is that state
-  same_state : (t u : List ℕ) → IsState m t → IsState m u → Extends u (pairs_of t) → u ≡ t
-  same_state t u is_t is_u extends =
-      ext_get_or 0 u t (is_u.full ∙ sym is_t.full) (λ c within.
-      let inside : c < length t = omega (arith, within, is_u.full, is_t.full) in
-      let p : Pair = record { item = c; value = slice_index t c } in
-      let at : slice_get t c ≡ Some (slice_index t c) = slice_get-get_or t c 0 inside in
-      let there : slice_get u c ≡ Some (slice_index t c) = All-contains (λ (q : Pair). slice_get u q.item ≡ Some q.value) (pairs_of t) p extends (in_pairs t p at) in
-      get_or_from_slice_get u c (slice_index t c) 0 there)
-
   pub holds_by_implicant : (t : List ℕ) → IsState m t → (Holds m t f → (cube : List Pair) × IsImplicant m f cube × Extends t cube) × ((cube : List Pair) × IsImplicant m f cube × Extends t cube → Holds m t f)
   holds_by_implicant t state = (
     (λ holds.
@@ -34,7 +23,7 @@ module _ (m : PlantModel) (f : Formula) where
           modes = λ p among. (let at = stands_in t p among in
               let inside : p.item < length t = slice_get_within t p.item p.value at in
               subst (HasMode m p.item) (get_or_from_slice_get t p.item p.value 0 at) (state.modes p.item (omega (arith, inside, state.full))));
-          follows = λ u is_u extends. subst (λ l. Holds m l f) (sym (same_state t u state is_u extends)) holds;
+          follows = λ u is_u extends. subst (λ l. Holds m l f) (sym (same_state t u (is_u.full ∙ sym state.full) extends)) holds;
         }) in
         (found.0, found.1, all_from (λ p. slice_get t p.item ≡ Some p.value) found.0 (λ p among. stands_in t p (found.2 p among)))),
     (λ cube. cube.1.follows t state cube.2),

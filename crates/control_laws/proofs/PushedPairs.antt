@@ -47,7 +47,7 @@ behind x p goal false false h k =
     differs m n e = grind (arith, nat_tests, e)
 
 -- what one more asked pair adds
-pub firsts-push : (asked : List Pair) (p : Pair) → firsts (asked ++ p ∷ []) ≡ cond (named p.item (firsts asked)) (firsts asked) (firsts asked ++ p ∷ [])
+firsts-push : (asked : List Pair) (p : Pair) → firsts (asked ++ p ∷ []) ≡ cond (named p.item (firsts asked)) (firsts asked) (firsts asked ++ p ∷ [])
 firsts-push [] p = refl
 firsts-push (x ∷ asked) p =
     let rest = filter (λ q. not (q.item == x.item)) (firsts asked) in

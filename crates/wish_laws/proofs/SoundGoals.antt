@@ -1,8 +1,9 @@
 -- The goal of a target: its pairs whose modes are not broken.
 use Rattle.std.proofs.Common.{◌≡◌, ◌<◌, ◌+◌, ◌≤◌, ◌∙◌, ℕ, true, false, not, List, [], ◌∷◌, ◌++◌, length, take, slice_get, slice_index, Some, Contains, sym, ap, subst}
 use Rattle.std.proofs.lemmas.Bool.{not-true, not_from_false, not_from_true}
-use Rattle.std.proofs.lemmas.List.{take_all, take_more}
+use Rattle.std.proofs.lemmas.List.{take_all}
 use Rattle.std.proofs.lemmas.Option.{slice_get_within, get_or_from_slice_get}
+use Rattle.list_laws.proofs.GoneThrough.{take_next}
 use Rattle.cca_base.specs.declared.cube.Pair.{Pair}
 use Rattle.cca_base.specs.Accepted.{CompiledModel}
 use Rattle.cca_base.specs.PlantModel.{PlantModel}
@@ -18,9 +19,6 @@ use Rattle.wish_laws.proofs.Settling.{pairs_in, pairs_in-from, pairs_in-has, pai
 abbrev pub is_sound : PlantModel → Test
 is_sound m c mode = not (is_broken m.moves c mode)
 
-taken : (xs : List ℕ) (i x : ℕ) → slice_get xs i ≡ Some x → take (i + 1) xs ≡ take i xs ++ x ∷ []
-taken xs i x at = take_more xs i x (slice_get_within xs i x at) ∙ ap (λ z. take i xs ++ z ∷ []) (get_or_from_slice_get xs i x x at)
-
 module _ (b : CompiledModel) (ordered : IsEffectsFirst b.model b.order) (t : List ℕ) where
   order : IsOrder b.model b.order
   order = order_from b.model b.order ordered
@@ -32,7 +30,7 @@ module _ (b : CompiledModel) (ordered : IsEffectsFirst b.model b.order) (t : Lis
   pub pair_more : (i c mode : ℕ) (pairs : List Pair) → slice_get b.order i ≡ Some c → slice_index t c ≡ mode → is_broken b.model.moves c mode ≡ false
       → pairs ≡ pairs_in (is_sound b.model) t (take i b.order) → pairs ++ record { item = c; value = mode } ∷ [] ≡ pairs_in (is_sound b.model) t (take (i + 1) b.order)
   pair_more i c mode pairs at here sound e =
-      let longer = taken b.order i c at in
+      let longer = take_next b.order i c at in
       ap (λ l. l ++ record { item = c; value = mode } ∷ []) e
       ∙ ap (λ x. pairs_in (is_sound b.model) t (take i b.order) ++ record { item = c; value = x } ∷ []) (sym here)
       ∙ sym (ap (pairs_in (is_sound b.model) t) longer
@@ -41,7 +39,7 @@ module _ (b : CompiledModel) (ordered : IsEffectsFirst b.model b.order) (t : Lis
   pub pair_skip : (i c mode : ℕ) (pairs : List Pair) → slice_get b.order i ≡ Some c → slice_index t c ≡ mode → is_broken b.model.moves c mode ≡ true
       → pairs ≡ pairs_in (is_sound b.model) t (take i b.order) → pairs ≡ pairs_in (is_sound b.model) t (take (i + 1) b.order)
   pair_skip i c mode pairs at here broken e =
-      e ∙ sym (ap (pairs_in (is_sound b.model) t) (taken b.order i c at)
+      e ∙ sym (ap (pairs_in (is_sound b.model) t) (take_next b.order i c at)
       ∙ pairs_in-same (is_sound b.model) t (take i b.order) c (subst (λ x. is_sound b.model c x ≡ false) (sym here) (not_from_true (is_broken b.model.moves c mode) broken)))
 
   -- all of them are the goal

@@ -1,4 +1,4 @@
--- A model has no more commands than moves, where each command is used.
+-- The command of a move is no greater than the move's place, so a model has no more commands than moves where each is used.
 use Rattle.std.proofs.Common.{◌≡◌, ◌==◌, ◌<◌, ◌≤◌, ◌^◌, ℕ, zero, suc, Some, slice_get, length, inl, inr, ap, ◌∙◌, arith}
 use Rattle.std.proofs.lemmas.Bool.{cases_lt, eqb-true}
 use Rattle.std.proofs.lemmas.List.Folds.{Any-from_list_any}
@@ -10,7 +10,7 @@ use Rattle.cca_base.specs.PlantModel.{PlantModel}
 
 module _ (m : PlantModel) (first_use : AreInOrderOfFirstUse m.moves) where
   -- the command of a move is no greater than the move's place, by a bound of that
-  by_place : (bound i : ℕ) (x : Move) → i < bound → slice_get m.moves i ≡ Some x → x.command ≤ i
+  pub by_place : (bound i : ℕ) (x : Move) → i < bound → slice_get m.moves i ≡ Some x → x.command ≤ i
   by_place zero i x lt e = absurd (omega (arith, lt))
   by_place (suc bound) i x lt e = elim (cases_lt i x.command) [
     | inl later ↦
