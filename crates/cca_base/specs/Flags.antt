@@ -5,7 +5,7 @@ use Rattle.std.specs.Prelude.{◌≡◌, ℕ, Bool, true, false, not, List, slic
 abbrev pub is_set : List Bool → ℕ → Bool
 is_set flags u = slice_index_or flags u false
 
--- the same as a fact
+-- the flag at this place is set
 abbrev pub IsSet : List Bool → ℕ → Type 0
 IsSet flags u = is_set flags u ≡ true
 

@@ -45,7 +45,7 @@ pub record IsIndex (components : List Component) (commands : List (List ℕ)) (m
 
 -- ---- how an index changes
 
--- the same rows
+-- two indexes have the same rows
 pub record SameRows (x y : MoveIndex) : Type 0 where
   pub by_command : y.by_command.items ≡ x.by_command.items
   pub by_component : y.by_component.items ≡ x.by_component.items

@@ -8,17 +8,17 @@ use Rattle.check_form.specs.CheckTrace.{CheckEnd, AllYes, FirstNo, FirstRefusal,
 use Rattle.model_form.specs.ModelTexts.{ModelText, EndsModel}
 use Rattle.model_form.specs.ModelTexts as models
 
--- by how the script ends
+-- how a check ends, by how the script ends
 abbrev pub EndsByScript : PlantModel → ScriptText → CheckEnd → Type 0
 EndsByScript m (Traced events n ls) end = JudgesTrace m events n ls end
 EndsByScript m (RefusedScript line r) end = end ≡ FirstRefusal m line r
 
--- by what becomes of the model, whose script stands behind n lines
+-- how a check ends, by what becomes of the model, whose script stands behind n lines
 abbrev pub EndsByAcceptance : Acceptance → PlantModel → ℕ → List (List ℕ) → CheckEnd → Type 0
 EndsByAcceptance (AcceptedAs b) m n ls end = (t : ScriptText) × ReadsScript m no_events n ls t × EndsByScript m t end
 EndsByAcceptance (RefusedFor r) m n ls end = end ≡ FirstRefusal m n r
 
--- by how the model ends
+-- how a check ends, by how the model ends
 abbrev pub EndsByModel : ModelText → CheckEnd → Type 0
 EndsByModel (models.WholeModel m n ls) end = (v : Acceptance) × IsAcceptanceOf m v × EndsByAcceptance v m n ls end
 EndsByModel (models.RefusedModel m line r) end = end ≡ FirstRefusal m line r

@@ -20,7 +20,7 @@ use Rattle.check_form.specs.Verdicts.{no_line, checked_line}
 abbrev pub check_form : FormGhosts OfLines CheckState
 check_form = form_of_lines check_first
 
--- the machine
+-- the machine of the form `check`
 abbrev pub check_machine : Ghosts (FormState OfLines CheckState)
 check_machine = form_machine check_form checking_machine
 

@@ -18,7 +18,7 @@ pub record ScriptSoFar : Type 0 where
   pub pending : List Pair
   pub mirrored : ℕ
 
--- before its first line
+-- what was read of a script before its first line: nothing
 abbrev pub no_events : ScriptSoFar
 no_events = record { events = []; pending = []; mirrored = 0 }
 

@@ -96,7 +96,7 @@ abbrev pub end_behind : Option (List Event) → TraceSoFar → CheckEnd
 end_behind None x = AllYes x.state.ticks
 end_behind (Some events) x = no_to x LINE
 
--- by what a line leads to
+-- how a trace ends, by what a line leads to
 abbrev pub AfterLine : TraceOutcome → TraceSoFar → (TraceSoFar → Type 0) → CheckEnd → Type 0
 AfterLine (Follows t) x goes_on end = goes_on t
 AfterLine (Fails reason) x goes_on end = end ≡ no_to x reason

@@ -46,7 +46,7 @@ abbrev pub with_report : ℕ → TickReport → TickLines
 with_report ticks r =
     if r.tick == ticks + 1 then (if has_world r.shown then More (Reported r) else Whole (record { report = r; world = None; route = None })) else NotNext
 
--- a world behind it
+-- a tick's lines with a world behind the report
 abbrev pub with_world : TickReport → worlds.World → TickLines
 with_world r w = if has_route r.shown then More (Explained r w) else Whole (record { report = r; world = Some w; route = None })
 
@@ -89,7 +89,7 @@ next_lines ticks (Planned r w p) l = behind_plan r w p l
 abbrev pub printed_of : PrintedTick → Printed
 printed_of t = record { report = t.report; world = t.world; route = t.route }
 
--- what code answers
+-- what the code keeps of a tick's lines
 abbrev pub tick_lines : code.TickLines → TickLines
 tick_lines codes.NotNext = NotNext
 tick_lines (codes.More lines) = More lines

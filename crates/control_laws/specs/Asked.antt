@@ -17,7 +17,7 @@ unfoldable mutual
   all_pairs_left rests.none = []
   all_pairs_left (rests.more x xs) = pairs_left x ++ all_pairs_left xs
 
--- the same where nothing may be left
+-- the pairs that may be asked for yet, where nothing may be left
 abbrev pub pairs_of_left : Option rest → List Pair
 pairs_of_left None = []
 pairs_of_left (Some x) = pairs_left x

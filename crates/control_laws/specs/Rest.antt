@@ -18,12 +18,12 @@ mutual
     Choose : Formula → Rest → Rest → Rest
     Repeat : ℕ → Rest → Rest → Rest
 
-  -- several of them
+  -- what is left of several parts
   pub data Rests : Type 0 where
     none : Rests
     more : Rest → Rests → Rests
 
--- the same as one value
+-- a list of rests as one value
 abbrev pub rests : List Rest → Rests
 rests [] = none
 rests (x ∷ xs) = more x (rests xs)

@@ -13,7 +13,7 @@ unfoldable mutual
   formulas_left (rest.Choose f a b) = f ∷ formulas_left a ++ formulas_left b
   formulas_left (rest.Repeat n body x) = formulas_left body ++ formulas_left x
 
-  -- the same of several
+  -- the formulas of several rests that may be asked yet
   pub all_formulas_left : rests → List Formula
   all_formulas_left rests.none = []
   all_formulas_left (rests.more x xs) = formulas_left x ++ all_formulas_left xs

@@ -43,7 +43,7 @@ abbrev pub put_in : Part → List Part → List Block → Place
 put_in part parts [] = record { parts = parts ++ part ∷ []; open_blocks = [] }
 put_in part parts (b ∷ bs) = record { parts = parts; open_blocks = record { kind = b.kind; parts = b.parts ++ part ∷ [] } ∷ bs }
 
--- the same, of a place
+-- a part put behind the others at a place
 abbrev pub put : Part → Place → Place
 put part place = put_in part place.parts place.open_blocks
 
@@ -99,7 +99,7 @@ after r (line.Repeat n) = inside (line.Repeat n) r
 after r line.Otherwise = inside line.Otherwise r
 after r line.Done = inside line.Done r
 
--- the same, where a line may have no tokens
+-- what is read behind a line, which may have no tokens
 abbrev pub led : Reading → Option Line → Reading
 led r None = r
 led r (Some l) = after r l

@@ -57,7 +57,7 @@ abbrev mutual
   text_before (Either f xs ys) rest = line.Choose f ∷ texts_before xs (line.Otherwise ∷ texts_before ys (line.Done ∷ rest))
   text_before (Repeat n xs) rest = line.Repeat n ∷ texts_before xs (line.Done ∷ rest)
 
-  -- the same of several parts
+  -- the lines of several parts, with these lines behind them
   pub texts_before : Texts → List Line → List Line
   texts_before none rest = rest
   texts_before (more x xs) rest = text_before x (texts_before xs rest)
@@ -73,7 +73,7 @@ abbrev mutual
   depth (Either f xs ys) = max (deepest xs) (deepest ys) + 1
   depth (Repeat n xs) = deepest xs + 1
 
-  -- the same in the deepest of several parts
+  -- how many blocks stand inside one another in the deepest of several parts
   pub deepest : Texts → ℕ
   deepest none = 0
   deepest (more x xs) = max (depth x) (deepest xs)

@@ -28,8 +28,8 @@ IsMigrationOf input a = IsAnswer false SaysMigrated input a.end a.text
 abbrev pub MigrationsAreTold : Type 0
 MigrationsAreTold = AreTold migrate_machine (form_first (record {})) false SaysMigrated
 
--- nothing of the input is refused, and the text is a document with its events, of its model in version 2, whose script has no line without
--- tokens; what a run prints for one is what it prints for the other; and from the text `migrate` makes the text itself
+-- nothing of the input is refused, and the text is a document with its events, of its model in version 2, whose script has no line without tokens. What a run prints for
+-- one is what it prints for the other. And from the text `migrate` makes the text itself
 pub record IsMigrated (input text : List ℕ) : Type 0 where
   pub document : Document
   pub read : IsDocument input document

@@ -52,6 +52,6 @@ script_machine = machine_of_lines (λ x. x.model) MigrateSteps (λ x n. ⊤)
 abbrev pub migrate_form : FormGhosts Migrate ScriptSoFar
 migrate_form = record { is_json = λ f. false; begins = λ f. Begins }
 
--- the machine
+-- the machine of the form `migrate`
 abbrev pub migrate_machine : Ghosts (FormState Migrate ScriptSoFar)
 migrate_machine = form_machine migrate_form script_machine

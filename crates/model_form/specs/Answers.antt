@@ -21,7 +21,7 @@ pub record Answer : Type 0 where
   pub text : List ℕ
   pub end : End
 
--- the same of an end and a text
+-- the answer with this end and this text
 abbrev pub answer : End → List ℕ → Answer
 answer e text = record { text = text; end = e }
 
@@ -35,17 +35,17 @@ refused_answer json m line r = answer Refused (refusal_text json m line r)
 abbrev pub Saying : Type 1
 Saying = CompiledModel → ℕ → List (List ℕ) → End → List ℕ → Type 0
 
--- by what becomes of the model
+-- what is printed, by what becomes of the model
 abbrev pub AnswersByAcceptance : Bool → Saying → Acceptance → PlantModel → ℕ → List (List ℕ) → End → List ℕ → Type 0
 AnswersByAcceptance json Says (AcceptedAs b) m n ls e text = Says b n ls e text
 AnswersByAcceptance json Says (RefusedFor r) m n ls e text = (e ≡ Refused) × (text ≡ refusal_text json m n r)
 
--- by how the model ends
+-- what is printed, by how the model ends
 abbrev pub AnswersByEnd : Bool → Saying → ModelText → End → List ℕ → Type 0
 AnswersByEnd json Says (WholeModel m n ls) e text = (v : Acceptance) × IsAcceptanceOf m v × AnswersByAcceptance json Says v m n ls e text
 AnswersByEnd json Says (RefusedModel m line r) e text = (e ≡ Refused) × (text ≡ refusal_text json m line r)
 
--- for a whole input
+-- what is printed for a whole input, and how the program ends
 abbrev pub IsAnswer : Bool → Saying → List ℕ → End → List ℕ → Type 0
 IsAnswer json Says input e text = (end : ModelText) × EndsModel input end × AnswersByEnd json Says end e text
 

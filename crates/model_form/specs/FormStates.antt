@@ -13,7 +13,7 @@ pub data FormState (F : Type 0) (B : Type 0) : Type 0 where
 abbrev pub nothing_read : ModelSoFar
 nothing_read = record { model = empty_model 1; begun = false }
 
--- before the first line
+-- a form before the first line of its model
 abbrev pub form_first : {F B : Type 0} → F → FormState F B
 form_first form = InModel form nothing_read
 

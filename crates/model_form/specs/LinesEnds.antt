@@ -15,7 +15,7 @@ pub data LinesEnd : Type 0 where
   AllRead : LinesEnd
   RefusedAt : (line code : ℕ) → LinesEnd
 
--- what is printed for that, and how the program ends
+-- what is printed for the end of the lines, and how the program ends
 abbrev pub ending : PlantModel → LinesEnd → Answer
 ending m AllRead = answer Ended []
 ending m (RefusedAt line code) = refused_answer false m line (bare code)
@@ -75,6 +75,6 @@ module _ (EndsSo : Ending) where
   abbrev pub IsReadWhole : List ℕ → Type 0
   IsReadWhole = HasEnd (EndsLines AllRead)
 
-  -- the model of the input is refused, or a line behind it
+  -- the model of the input is refused, or a line behind it, or the line that is missing where the input ends too early
   abbrev pub HasRefusedLine : List ℕ → Type 0
   HasRefusedLine = HasEnd RefusesSomewhere

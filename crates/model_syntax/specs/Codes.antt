@@ -158,7 +158,7 @@ move_code_from m repair (Some ends) command text = least ((NAME_UNKNOWN, names_u
     ∷ (LIMIT, is_deep text || (is_long command || nat_le MAX_MOVES (length m.moves)))
     ∷ move_faults m (new_move m repair ends command (whole_formula m text)))
 
--- the same by the words of its ends
+-- the code of a move by the words of its ends
 unfoldable pub move_code : PlantModel → Bool → Ends → List ℕ → Whole → Option ℕ
 move_code m repair ends command text = move_code_from m repair (ends_of m ends) command text
 
@@ -175,7 +175,7 @@ abbrev pub failure_code_from : PlantModel → Option (ℕ × ℕ × ℕ) → ℕ
 failure_code_from m None cost = Some NAME_UNKNOWN
 failure_code_from m (Some ends) cost = least ((LIMIT, not (is_cost cost) || nat_le MAX_FAILURES (length m.failures)) ∷ [])
 
--- the same by the words of its ends
+-- the code of a failure by the words of its ends
 unfoldable pub failure_code : PlantModel → Ends → ℕ → Option ℕ
 failure_code m ends cost = failure_code_from m (ends_of m ends) cost
 

@@ -1,6 +1,5 @@
 -- What changes of components cost, where they have a cost.
-use Rattle.std.specs.Prelude.{◌≡◌, ◌<◌, ◌≤◌, ℕ, List, length, slice_index, sum, min, Contains, Option, Some, None}
-use Rattle.cca_base.specs.declared.model.Failure.{Failure}
+use Rattle.std.specs.Prelude.{◌≡◌, ◌<◌, ℕ, List, length, slice_index, sum, Option, Some, None}
 use Rattle.cca_base.specs.PlantModel.{PlantModel}
 use Rattle.cca_base.specs.Successors.{ChangeCosts}
 

@@ -29,7 +29,7 @@ pub record Printed : Type 0 where
   pub world : Option World
   pub route : Option Route
 
--- the same, as it is handed in
+-- what is printed of a tick, as it is handed in
 abbrev pub printed : TickReport → Option (Bor World) → Option (Bor Route) → Printed
 printed report world route = record { report = report; world = option_copied world; route = option_copied route }
 

@@ -18,8 +18,9 @@ use Rattle.program_form.specs.Printed.{all_told, reports_of}
 use Rattle.program_form.specs.PutIn.{PutIn, Told, at_start}
 use Rattle.program_form.specs.Sequences.{Sequence, SaysSequence}
 
--- the program may be run; with the events that it puts in, the lines' events may come one after the other; what is told are the reports of the trace of all these; of its ticks each estimate is a least-cost consistent successor,
--- each reply is good for the goal of its turn and is the picked one, right estimates stay right, and a goal that turns keep asking for is served within its stated number; the program is said to have ended behind the tick before which it did
+-- the program may be run. With the events that it puts in, the lines' events may come one after the other. What is told are the reports of the trace of all these. Of its
+-- ticks each estimate is a least-cost consistent successor, each reply is good for the goal of its turn and is the picked one, right estimates stay right, and a goal
+-- that turns keep asking for is served within its stated number. The program is said to have ended behind the tick before which it did
 pub record IsFixedRun (b : CompiledModel) (part : Part) (events : List Event) (told : List Told) : Type 0 where
   pub compiled : IsCompiled b
   pub may_run : MayRun b.model part
@@ -32,7 +33,7 @@ pub record IsFixedRun (b : CompiledModel) (part : Part) (events : List Event) (t
   pub within : WithinHeld b trace.ticks
   pub stays_right : StaysRight b trace.ticks
 
--- the same, where the program was read whole; else nothing is told
+-- what is told is the fixed run of the program, where it was read whole; else nothing is told
 abbrev pub IsRunOf : CompiledModel → Option Part → List Event → List Told → Type 0
 IsRunOf b None events told = told ≡ []
 IsRunOf b (Some part) events told = IsFixedRun b part events told

@@ -24,7 +24,7 @@ done_line false tick = []
 abbrev pub told_text : PlantModel → Told → List ℕ
 told_text m t = report_line m t.report ++ done_line t.ended t.report.tick
 
--- the same of ticks, one behind the other
+-- the lines of ticks, one behind the other
 abbrev pub all_told : PlantModel → List Told → List ℕ
 all_told m ticks = flat_map (told_text m) ticks
 

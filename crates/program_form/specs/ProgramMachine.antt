@@ -118,14 +118,14 @@ ClosesIn (Runs c) m n e text = (e ≡ Ended) × (text ≡ [])
 abbrev pub ProgramCloses : ProgramState → ℕ → End → List ℕ → Type 0
 ProgramCloses x n e text = ClosesIn x.stage x.compiled.model n e text
 
--- a program that is read isn't whole yet
-abbrev pub IsOpen : Stage → Type 0
-IsOpen (Reads y) = y.whole ≡ None
-IsOpen (Runs c) = Unit {0}
+-- a program that is still read isn't whole yet
+abbrev pub IsProperStage : Stage → Type 0
+IsProperStage (Reads y) = y.whole ≡ None
+IsProperStage (Runs c) = Unit {0}
 
 -- fewer ticks were made than this line's number, and a whole program runs
 abbrev pub ProgramAwaits : ProgramState → ℕ → Type 0
-ProgramAwaits x n = (x.state.ticks < n) × IsOpen x.stage
+ProgramAwaits x n = (x.state.ticks < n) × IsProperStage x.stage
 
 -- the machine of the lines
 abbrev pub lines_machine : Ghosts ProgramState
@@ -141,6 +141,6 @@ lines_machine = record {
 abbrev pub program_form : FormGhosts OfLines ProgramState
 program_form = form_of_lines program_first
 
--- the machine
+-- the machine of the form `program`
 abbrev pub program_machine : Ghosts (FormState OfLines ProgramState)
 program_machine = form_machine program_form lines_machine

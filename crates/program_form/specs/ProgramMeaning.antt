@@ -21,6 +21,6 @@ program_meaning = reading_lines program_first lines_machine SaysRun EndsSequence
 abbrev pub ProgramsAreTold : Type 0
 ProgramsAreTold = AreTold program_machine (form_first (record {})) false SaysRun
 
--- and that run is the fixed trace of the lines' events with those that the program puts in
+-- what is told of a run is the fixed trace of the lines' events with those that the program puts in
 abbrev pub ProgramsAreTraced : Type 0
 ProgramsAreTraced = (input : List ℕ) (a : Answer) → IsAnswer false SaysRun input a.end a.text → IsProgramTrace input a

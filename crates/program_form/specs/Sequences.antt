@@ -30,7 +30,7 @@ with_event e r = record { program = r.program; events = e ∷ r.events; ending =
 unfoldable pub event_line : PlantModel → List Pair → ℕ → List ℕ → Result (Option Event) ℕ
 event_line m pending mirrored line = by_tokens (event_here m pending mirrored) (tokens_of line)
 
--- the same, but its number and its length come first
+-- what a line behind a program says; its number and its length come first
 abbrev pub line_says : PlantModel → List Pair → ℕ → ℕ → List ℕ → Result (Option Event) ℕ
 line_says m pending mirrored n l = unless_long (line_code n l) (event_line m pending mirrored l)
 

@@ -1,5 +1,5 @@
 -- What the lines behind a model say, without a reader: a program as it is written, and behind it events that set no goal.
-use Rattle.std.specs.Prelude.{◌≡◌, ◌↔◌, ◌+◌, ℕ, List, [], ◌∷◌, ◌++◌, length, Option, Some, None, IsTrue}
+use Rattle.std.specs.Prelude.{◌≡◌, ◌↔◌, ◌+◌, ℕ, List, [], ◌∷◌, ◌++◌, length, Some, None, IsTrue}
 use Rattle.std.specs.List.{AllByRecursion}
 use Rattle.cca_base.specs.PlantModel.{PlantModel}
 use Rattle.control_syntax.specs.Written.{AreLines, IsProgram}

@@ -22,7 +22,7 @@ pub record Document : Type 0 where
   pub events : List Event
   pub ending : DocumentEnd
 
--- a line is refused
+-- what a refused line leaves: no event behind it, and the refusal
 abbrev pub refused_at : PlantModel → ℕ → Refusal → Document
 refused_at m line refusal = record { model = m; events = []; ending = RefusedAt line refusal }
 

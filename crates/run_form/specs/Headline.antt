@@ -17,7 +17,9 @@ use Rattle.run_form.specs.Printed.{printed}
 use Rattle.run_form.specs.TickTexts.{TicksText}
 use Rattle.run_form.specs.declared.notation.Notation.{Notation}
 
--- the input's model is compiled and its events may come one after the other; the printed reports are the trace of these events; of its ticks each estimate is a least-cost consistent successor, each reply is good and is the picked one, right estimates stay right, and goals are served within their stated numbers; the text is that of these ticks
+-- the input's model is compiled and its events may come one after the other. The printed reports are the trace of these events. Of its ticks each estimate is a
+-- least-cost consistent successor, each reply is good and is the picked one, right estimates stay right, and goals are served within their stated numbers. The text is
+-- that of these ticks
 pub record IsFixedTrace (notation : Notation) (r : Document) (a : Answer) : Type 0 where
   pub compiled : CompiledModel
   pub is : IsCompiled compiled

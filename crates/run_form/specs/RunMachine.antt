@@ -12,10 +12,10 @@ use Rattle.run_form.specs.declared.run.RunAs.{RunAs}
 abbrev pub run_form : FormGhosts RunAs ScriptState
 run_form = record { is_json = λ f. is_json f.notation; begins = λ f. Begins f.notation }
 
--- the machine
+-- the machine of the form `run`
 abbrev pub run_machine : Ghosts (FormState RunAs ScriptState)
 run_machine = form_machine run_form script_machine
 
--- its first state
+-- where the machine of a run stands before the first line
 abbrev pub run_first : Notation → FormState RunAs ScriptState
 run_first notation = form_first (record { notation = notation })

@@ -36,7 +36,7 @@ event_of m pending mirrored (Mirror name) = named_event event.Mirror (mirror_cod
 event_of m pending mirrored Reset = Ok event.Reset
 event_of m pending mirrored Tick = Ok event.Tick
 
--- the same where goals are set and cleared by no line
+-- the event of an item, where goals are set and cleared by no line
 abbrev pub event_here : PlantModel → List Pair → ℕ → Item → Result Event ℕ
 event_here m pending mirrored (Goal pairs) = Err MALFORMED
 event_here m pending mirrored Clear = Err MALFORMED
@@ -46,7 +46,7 @@ event_here m pending mirrored (Mirror name) = event_of m pending mirrored (Mirro
 event_here m pending mirrored Reset = event_of m pending mirrored Reset
 event_here m pending mirrored Tick = event_of m pending mirrored Tick
 
--- by whether lines set and clear goals
+-- the event of an item, by whether lines set and clear goals
 abbrev pub event_by : Bool → PlantModel → List Pair → ℕ → Item → Result Event ℕ
 event_by true = event_of
 event_by false = event_here

@@ -16,7 +16,7 @@ use Rattle.show_form.specs.declared.show.Show.{Show}
 abbrev pub show_form : FormGhosts Show NoLines
 show_form = record { is_json = λ s. false; begins = λ s. Shows }
 
--- the machine
+-- the machine of the form `show`
 abbrev pub show_machine : Ghosts (FormState Show NoLines)
 show_machine = form_machine show_form no_lines
 

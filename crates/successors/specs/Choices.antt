@@ -1,5 +1,5 @@
 -- Rows of choices, and what each component may become.
-use Rattle.std.specs.Prelude.{◌≡◌, ◌↔◌, ℕ, ◌<◌, ◌≤◌, List, [], ◌∷◌, ◌++◌, length, All, Contains, Option, Some, None, Bool, ◌==◌, if◌then◌else◌, slice_set, slice_index, slice_index_or}
+use Rattle.std.specs.Prelude.{◌≡◌, ◌↔◌, ℕ, ◌<◌, List, [], ◌∷◌, ◌++◌, length, All, Contains, Option, Some, None, Bool, ◌==◌, if◌then◌else◌, slice_set, slice_index, slice_index_or}
 use Rattle.cca_base.specs.declared.cube.Pair.{Pair}
 use Rattle.cca_base.specs.declared.model.Failure.{Failure}
 use Rattle.cca_base.specs.PlantModel.{PlantModel}

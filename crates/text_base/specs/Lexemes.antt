@@ -15,7 +15,7 @@ Lexeme = Kind × List ℕ
 abbrev pub lexeme : Tok → Lexeme
 lexeme t = (t.kind, t.text)
 
--- the same of a token of the code
+-- the lexeme of a token of the code
 abbrev pub lexeme_of : Token → Lexeme
 lexeme_of t = (t.kind, t.text.now)
 

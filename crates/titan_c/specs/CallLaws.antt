@@ -30,8 +30,8 @@ pub record CallsLeadOn : Type 0 where
       → HandedOver old new out out' n status → HoldsAfter notation calls old → HoldsAfter notation (Take (take n out') ∷ calls) new
 
 -- the theorem in the words of C: where a status says that the session ended, or that a line was refused, and nothing waits any more, what was written is what `titan run`
--- prints of the lines that were handed over, each with its LF; no other statuses come of calls that went well: a line never says that the session ended, nor the end of the lines
--- that it goes on; and where less was written than fits, nothing waits
+-- prints of the lines that were handed over, each with its LF. No other statuses come of calls that went well: a line never says that the session ended, nor the end of
+-- the lines that it goes on. And where less was written than fits, nothing waits
 pub record CallsPrintRuns : Type 0 where
   pub ended : (notation : Notation) (calls : List Call) (z : RunSession) → HoldsAfter notation calls (Some z) → status_of z.stage ≡ ENDED → z.pending ≡ [] → IsRunOfLines notation (lines_of calls) (answer Ended (taken_of calls))
   pub refused : (notation : Notation) (calls : List Call) (z : RunSession) → HoldsAfter notation calls (Some z) → status_of z.stage ≡ REFUSED → z.pending ≡ [] → IsRunOfLines notation (lines_of calls) (answer Refused (taken_of calls))

@@ -13,7 +13,7 @@ use Rattle.watch_form.specs.WatchMeaning.{watch_meaning}
 use Rattle.titan_top.specs.declared.words.Form.{Form}
 use Rattle.titan_top.specs.declared.words.Form.TheVariants.{Run, Show, Trial, Check, Migrate, Want, Watch, Program}
 
--- a trial is a run of the document of its number
+-- what each form means; a trial is a run of the document of its number
 abbrev pub meaning_of : Form → FormMeaning
 meaning_of (Run notation) = run_meaning notation None
 meaning_of Show = show_meaning

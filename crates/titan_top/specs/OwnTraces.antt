@@ -19,7 +19,8 @@ pub record IsTraceLine (line : List ℕ) : Type 0 where
   pub clean : HasNoLf line
   pub short : length line ≤ MAX_LINE
 
--- a document whose last line ends and of which nothing is refused, a line `trace`, and the text that a run with proofs prints of the document; there are not too many lines, and none shows a plan or a way back as too long
+-- a document whose last line ends and of which nothing is refused, a line `trace`, and the text that a run with proofs prints of the document. There are not too many
+-- lines, and none shows a plan or a way back as too long
 pub record HasOwnTrace (input : List ℕ) : Type 0 where
   pub front : List ℕ
   pub trace : List ℕ

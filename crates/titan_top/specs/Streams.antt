@@ -44,7 +44,7 @@ pub record StreamedOver (document : List ℕ) {S : Type 0} (m : Ghosts S) (first
   pub driven : Streamed m first (Some document) rest out out' result
   pub stays : left' ≡ left
 
--- the same, by whether a document was made
+-- a machine was driven with this answer, over the source or over the document that was made
 abbrev pub StreamedBy : Option (List ℕ) → {S : Type 0} → Ghosts S → S → (left left' out out' : Option (List ℕ)) → Result End Cut → Type 0
 StreamedBy None m first left left' out out' result = Streamed m first left left' out out' result
 StreamedBy (Some document) m first left left' out out' result = StreamedOver document m first left left' out out' result
@@ -66,11 +66,12 @@ pub record IsDrivenOver (document : List ℕ) {S : Type 0} (m : Ghosts S) (first
   pub ends : EndsFor m first document result
   pub unasked : calls' ≡ calls
 
--- the same, by whether a document was made
+-- all that is known of a machine that was driven, over the source or over the document that was made
 abbrev pub IsDrivenBy : Option (List ℕ) → {S : Type 0} → Ghosts S → S → (left left' out out' : Option (List ℕ)) → (calls calls' : Option (List Call)) → Result End Cut → Type 0
 IsDrivenBy None m first left left' out out' calls calls' result = IsDriven m first left left' out out' calls calls' result
 IsDrivenBy (Some document) m first left left' out out' calls calls' result = IsDrivenOver document m first left left' out out' calls calls' result
 
--- all that is known of a form's machine that was driven: what was taken and written, and that the source was asked in turn: at each call all that the bytes so far decide had been written, and it was no end; a form that makes a document doesn't ask it
+-- all that is known of a form's machine that was driven: what was taken and written, and that the source was asked in turn. At each call all that the bytes so far decide
+-- had been written, and it was no end. A form that makes a document doesn't ask it
 abbrev pub IsDrivenAs : Form → (left left' out out' : Option (List ℕ)) → (calls calls' : Option (List Call)) → Result End Cut → Type 0
 IsDrivenAs form left left' out out' calls calls' result = IsDrivenBy (meaning_of form).made (meaning_of form).machine (meaning_of form).first left left' out out' calls calls' result

@@ -23,12 +23,12 @@ abbrev pub faults_after : {T E : Type 0} → ℕ → Result T E → ℕ
 faults_after before (Ok _) = before
 faults_after before (Err _) = counted before
 
--- a told space is at least n
+-- a space that is known is at least n
 abbrev pub HasRoom : Option ℕ → ℕ → Type 0
 HasRoom None n = ⊤
 HasRoom (Some space) n = n ≤ space
 
--- a told space after n bytes went out
+-- a space that is known, after n bytes went out
 abbrev pub less_space : Option ℕ → ℕ → Option ℕ
 less_space space n = option_map (λ s. s - n) space
 

@@ -68,6 +68,6 @@ wish_machine = machine_of_lines (λ x. x.compiled.model) WantSteps (λ x n. ⊤)
 abbrev pub want_form : FormGhosts OfLines WishState
 want_form = form_of_lines wish_first
 
--- the machine
+-- the machine of the form `want`
 abbrev pub want_machine : Ghosts (FormState OfLines WishState)
 want_machine = form_machine want_form wish_machine

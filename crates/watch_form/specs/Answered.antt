@@ -19,7 +19,7 @@ line_by m tick (Found states cost revised) = window_line m tick (length states) 
 line_by m tick Unexplained = report_line m (record { tick = tick; shown = shown.Unexplained })
 line_by m tick Holding = report_line m (record { tick = tick; shown = shown.Holding })
 
--- the same of a numbered answer
+-- the line of a numbered answer
 abbrev pub answer_line : PlantModel → Numbered → List ℕ
 answer_line m a = line_by m a.tick a.answer
 

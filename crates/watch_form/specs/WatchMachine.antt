@@ -81,6 +81,6 @@ watching_machine = machine_of_lines (λ x. x.compiled.model) WatchSteps WatchAwa
 abbrev pub watch_form : FormGhosts OfLines WatchState
 watch_form = form_of_lines watch_first
 
--- the machine
+-- the machine of the form `watch`
 abbrev pub watch_machine : Ghosts (FormState OfLines WatchState)
 watch_machine = form_machine watch_form watching_machine
