@@ -15,7 +15,7 @@ use Rattle.cca_laws.specs.ValveExamples.{valve_model, flow_rule}
 use Rattle.cca_laws.specs.MirrorExamples.{some_flow}
 use Rattle.cca_laws.specs.MoreExamples.{right_moment}
 use Rattle.cca_laws.specs.CauseExamples.{open_wanted}
-use Rattle.cca_laws.specs.ExcuseExamples.{wrong_with_goal, wrong_second, driver_moment, driver_started, dear_moment, wrong_when_cleared, second_moment, stuck_moment, NewGoalIsNoExcuse, GoalBetweenIsNoExcuse, ClearIsNoExcuse, RightIsFree, LastEstimateIsWrong, PlantIsSeen}
+use Rattle.cca_laws.specs.ExcuseExamples.{wrong_with_goal, wrong_behind_reset, wrong_second, driver_moment, driver_started, dear_moment, wrong_when_cleared, second_moment, stuck_moment, NewGoalIsNoExcuse, GoalBehindResetIsNoExcuse, GoalBetweenIsNoExcuse, ClearIsNoExcuse, RightIsFree, LastEstimateIsWrong, PlantIsSeen}
 
 nothing_rises : IsRising []
 nothing_rises i j d lt h = absurd (omega arith)
@@ -48,6 +48,12 @@ new_goal_is_no_excuse ways order bounds h =
     not_stuck 0
     (h 0 wrong_with_goal refl (inl (inl (refl, one_at LeavesPlantAlone (event.Goal _) tt)))
     ([], 0 ∷ [], observed wrong_with_goal.before refl nothing_rises, start_world, agrees_with_none (0 ∷ []))).0
+
+pub goal_behind_reset_is_no_excuse : GoalBehindResetIsNoExcuse
+goal_behind_reset_is_no_excuse ways order bounds h =
+    not_stuck 0
+    (h 0 wrong_behind_reset refl (inl (inr ([], event.Goal _ ∷ [], refl, one_at LeavesPlantAlone (event.Goal _) tt)))
+    ([], 0 ∷ [], observed wrong_behind_reset.before refl nothing_rises, start_world, agrees_with_none (0 ∷ []))).0
 
 pub goal_between_is_no_excuse : GoalBetweenIsNoExcuse
 goal_between_is_no_excuse ways order bounds h =

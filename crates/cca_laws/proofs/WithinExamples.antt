@@ -7,7 +7,7 @@ use Rattle.cca_base.specs.Runs.{TickRecord, IsStretch, IsRight, LeavesPlantAndGo
 use Rattle.cca_laws.proofs.Tiny.{one_at, two_at, three_at, four_at}
 use Rattle.cca_laws.proofs.ServeExamples.{may_begin}
 use Rattle.cca_laws.specs.RightExamples.{no_flow}
-use Rattle.cca_laws.specs.WithinExamples.{driver_wanted, sent_moment, again_moment, ObservingEndsNoStretch, z_wanted, toward_z, with_a_detour, OneBoundIsStated}
+use Rattle.cca_laws.specs.WithinExamples.{driver_wanted, sent_moment, again_moment, ObservingEndsNoStretch, mirrored_moment, MirroringEndsNoStretch, z_wanted, toward_z, with_a_detour, OneBoundIsStated}
 
 abbrev driven : List TickRecord
 driven = sent_moment ∷ again_moment ∷ []
@@ -24,6 +24,19 @@ driven_is_stretch = record {
 
 pub observing_ends_no_stretch : ObservingEndsNoStretch
 observing_ends_no_stretch ways order h = absurd (omega (arith, (h driver_wanted 0 1 driven_is_stretch).few))
+
+mirrored_is_stretch : IsStretch (sent_moment ∷ mirrored_moment ∷ []) driver_wanted 0 1
+mirrored_is_stretch = record {
+  rising = omega arith;
+  within = omega arith;
+  goals = two_at (λ (t : TickRecord). t.before.goal ≡ Some driver_wanted) sent_moment mirrored_moment refl refl;
+  quiet = one_at (λ (t : TickRecord). All LeavesPlantAndGoalAlone t.since) mirrored_moment (one_at LeavesPlantAndGoalAlone (event.Mirror 0) tt);
+  right = two_at IsRight sent_moment mirrored_moment refl refl;
+  reachable = may_begin sent_moment (mirrored_moment ∷ []) refl;
+}
+
+pub mirroring_ends_no_stretch : MirroringEndsNoStretch
+mirroring_ends_no_stretch ways order h = absurd (omega (arith, (h driver_wanted 0 1 mirrored_is_stretch).few))
 
 abbrev at_start : TickRecord
 at_start = toward_z (0 ∷ 0 ∷ []) (Send 0)

@@ -30,6 +30,14 @@ wrong_with_goal = record {
 abbrev pub NewGoalIsNoExcuse : Type 0
 NewGoalIsNoExcuse = BreaksPromise (wrong_with_goal ∷ [])
 
+-- the same tick behind a reset and then the goal
+abbrev pub wrong_behind_reset : TickRecord
+wrong_behind_reset = record wrong_with_goal { since = event.Reset ∷ event.Goal open_wanted ∷ [] }
+
+-- nor does a new goal behind a reset
+abbrev pub GoalBehindResetIsNoExcuse : Type 0
+GoalBehindResetIsNoExcuse = BreaksPromise (wrong_behind_reset ∷ [])
+
 -- the same tick as the second one
 abbrev pub wrong_second : TickRecord
 wrong_second = record wrong_with_goal {
@@ -37,7 +45,7 @@ wrong_second = record wrong_with_goal {
   report = record { tick = 2; shown = Estimated 4 (record { modes = 0 ∷ 2 ∷ [] }) (Send 0) };
 }
 
--- nor does it excuse a wrong tick after a right one
+-- nor does the goal excuse a wrong tick after a right one
 abbrev pub GoalBetweenIsNoExcuse : Type 0
 GoalBetweenIsNoExcuse = BreaksPromise (right_moment ∷ wrong_second ∷ [])
 

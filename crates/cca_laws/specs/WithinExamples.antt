@@ -41,6 +41,19 @@ ObservingEndsNoStretch = (ways : List (List (List Pair))) (order : List ℕ)
     → Within (record { model = valve_model; ways = ways; order = order; bounds = 1 ∷ 4 ∷ [] }) (sent_moment ∷ again_moment ∷ [])
     → ⊥
 
+-- before the second tick the flow is mirrored instead
+abbrev pub mirrored_moment : TickRecord
+mirrored_moment = record again_moment {
+  since = event.Mirror 0 ∷ [];
+  before = record (driver_started driver_wanted) { mirrored = 1 };
+}
+
+-- neither does mirroring end a stretch
+abbrev pub MirroringEndsNoStretch : Type 0
+MirroringEndsNoStretch = (ways : List (List (List Pair))) (order : List ℕ)
+    → Within (record { model = valve_model; ways = ways; order = order; bounds = 1 ∷ 4 ∷ [] }) (sent_moment ∷ mirrored_moment ∷ [])
+    → ⊥
+
 -- ---- the stated number
 
 -- the goal that c is z

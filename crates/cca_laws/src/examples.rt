@@ -15,8 +15,8 @@ ghost use Rattle.cca_laws.specs.FirstExamples.{LesserWorldIsFirst, GreaterWorldI
 ghost use Rattle.cca_laws.specs.CauseExamples.{DriverServesValve, ValveServesNoDriver};
 ghost use Rattle.cca_laws.specs.MendExamples.{MendingIsCompiled, GoingIsAllowed, BackGoalIsMended, RouteComesBack};
 ghost use Rattle.cca_laws.specs.ChainExamples.{UnitIsWellFormed, OnlyInSecond, NextIsLatched, MendedIsOk, OkHasNoMended, ChainOfHung, MendingsOfHung, MendingsOfLatched, MendingsOfOk, LatchedIsNotSound, TwoCommandsMend, NoChainGoesRound, NoRepairStays, OneNextMode, OnlyRepairsEnter, OnlyRepairsLeave};
-ghost use Rattle.cca_laws.specs.ExcuseExamples.{NewGoalIsNoExcuse, GoalBetweenIsNoExcuse, ClearIsNoExcuse, RightIsFree, LastEstimateIsWrong, PlantIsSeen};
-ghost use Rattle.cca_laws.specs.WithinExamples.{ObservingEndsNoStretch, OneBoundIsStated};
+ghost use Rattle.cca_laws.specs.ExcuseExamples.{GoalBehindResetIsNoExcuse, NewGoalIsNoExcuse, GoalBetweenIsNoExcuse, ClearIsNoExcuse, RightIsFree, LastEstimateIsWrong, PlantIsSeen};
+ghost use Rattle.cca_laws.specs.WithinExamples.{MirroringEndsNoStretch, ObservingEndsNoStretch, OneBoundIsStated};
 ghost use Rattle.cca_laws.specs.ChosenExamples.{FirstIsNamed, FirstMoveIsChosen, FirstCubeIsChosen};
 ghost use Rattle.cca_laws.specs.RightExamples.{WrongIsNotRight, FaultsExcuse, ResetsEndExcuses, ResetKeepsTicks};
 
@@ -81,6 +81,7 @@ pub fn right()
 /// What is no excuse for a wrong estimate, and what it is to be right.
 pub fn excuses()
     ensures new_goal { NewGoalIsNoExcuse }
+    ensures behind_reset { GoalBehindResetIsNoExcuse }
     ensures goal { GoalBetweenIsNoExcuse }
     ensures clear { ClearIsNoExcuse }
     ensures free { RightIsFree }
@@ -118,6 +119,7 @@ pub fn serves()
 /// How far stretches go, and how many commands are stated.
 pub fn within()
     ensures observing { ObservingEndsNoStretch }
+    ensures mirroring { MirroringEndsNoStretch }
     ensures one_bound { OneBoundIsStated }
 {}
 
