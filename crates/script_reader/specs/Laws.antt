@@ -91,3 +91,13 @@ IsNamed m (Mirror name) e = (v : ℕ) × (variable_of m name ≡ Some v) × (e �
 IsNamed m Clear e = e ≡ event.Clear
 IsNamed m Reset e = e ≡ event.Reset
 IsNamed m Tick e = e ≡ event.Tick
+
+-- the item sets or clears a goal
+abbrev pub SetsGoal : Item → Type 0
+SetsGoal (Goal pairs) = Unit {0}
+SetsGoal Clear = Unit {0}
+SetsGoal (Observe pairs) = ⊥
+SetsGoal (Fault pair) = ⊥
+SetsGoal (Mirror name) = ⊥
+SetsGoal Reset = ⊥
+SetsGoal Tick = ⊥

@@ -16,5 +16,5 @@ pub use event_codes::{has_item_twice, observe_code};
 pub use event_line::{read_event, read_event_by, read_named_event};
 pub use formula_syntax::NamedModel;
 pub use item::{Item, item_of, only_pairs};
-pub use laws::{least_codes_are_answered, lines_are_spelled, lines_say_items};
+pub use laws::{goals_are_left_out, least_codes_are_answered, lines_are_spelled, lines_say_items};
 pub use named::{Naming, each_pair, stands_for};
