@@ -1,5 +1,5 @@
 -- What the calls of a session show, in the words of `titan run`.
-use Rattle.std.proofs.Common.{◌≡◌, ℕ, inl, List, ◌∷◌, ◌++◌}
+use Rattle.std.proofs.Common.{◌≡◌, ℕ, inl, List, ◌∷◌, ◌++◌, refl, sym, subst}
 use Rattle.line_machine.specs.Lines.{joined_lines}
 use Rattle.line_machine.specs.Next.{GoesOn}
 use Rattle.line_machine.specs.Runs.{IsText}
@@ -13,10 +13,11 @@ use Rattle.run_form.specs.declared.notation.Notation.{Notation}
 use Rattle.run_form.proofs.RunEnds.{run_fixed, run_sure_refused, run_never_rejected}
 use Rattle.run_form.proofs.RunsTold.{runs_are_told}
 use Rattle.run_form.proofs.SureRuns.{runs_are_traced}
-use Rattle.titan_session.specs.RunSessions.{RunSession, AreCalls, said_by}
+use Rattle.titan_session.specs.RunSessions.{RunState, RunSession, AreCalls, said_by}
 use Rattle.titan_session.specs.SessionLaws.{IsRunOfLines, SessionsAreRuns}
-use Rattle.titan_session.specs.Sessions.{Call, Line, lines_of}
-use Rattle.titan_session.specs.declared.session.Stage.TheVariants.{Over}
+use Rattle.titan_session.specs.Sessions.{Call, IsGoing, Line, lines_of}
+use Rattle.titan_session.specs.declared.session.Stage.{Stage}
+use Rattle.titan_session.specs.declared.session.Stage.TheVariants.{Going, Over, Lost}
 use Rattle.titan_session.proofs.CallsAreRuns.{whole, so_far, stopped, not_lost}
 
 -- the whole text of the machine for an input is what a run prints of it, and nothing else is
@@ -35,6 +36,11 @@ run_of notation lines e said text =
 over : (notation : Notation) (calls : List Call) (z : RunSession) (e : End) → AreCalls notation calls z → z.stage ≡ Over e → IsText run_machine (run_first notation) (joined_lines (lines_of calls)) e (said_by calls z)
 over notation calls z e led is = whole run_machine (run_first notation) calls z e led is
 
+is_going : (s : Stage RunState) → IsGoing s → (x : RunState) × (s ≡ Going x)
+is_going (Going x) h = (x, refl)
+is_going (Over e) h = absurd h
+is_going Lost h = absurd h
+
 pub sessions_are_runs : SessionsAreRuns
 sessions_are_runs = record {
   whole = λ notation calls z e led is. run_of notation (lines_of calls) e (said_by calls z) (over notation calls z e led is);
@@ -46,4 +52,6 @@ sessions_are_runs = record {
   by_line = λ notation calls y z line e led d is. run_sure_refused (run_first notation) (joined_lines (lines_of (Line line ∷ calls))) e _ (stopped run_machine (run_first notation) calls y z line e led d is);
   not_rejected = λ notation calls z led is. run_never_rejected (run_first notation) (joined_lines (lines_of calls)) (said_by calls z) (inl (over notation calls z Rejected led is));
   not_lost = λ notation calls z led is. not_lost run_machine (run_first notation) calls z led is;
+  going = λ z. (is_going z.stage, λ h. subst (λ (s : Stage RunState). IsGoing s) (sym h.1) tt);
+  lost = λ notation calls z s led is. (refl, so_far run_machine (run_first notation) calls z s led is);
 }
