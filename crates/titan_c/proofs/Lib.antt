@@ -1,3 +1,4 @@
 pub mod CallsLeadOn
 pub mod CallsPrintRuns
+pub mod CallsAnswer
 pub mod Held

@@ -1,15 +1,17 @@
 -- How the calls of C follow each other: they are calls of a session, and what they wrote is what a run prints.
-use Rattle.std.specs.Prelude.{◌≡◌, ◌⊎◌, ◌<◌, ℕ, List, [], ◌∷◌, length, take, Option, Some}
+use Rattle.std.specs.Prelude.{◌≡◌, ◌⊎◌, ◌↔◌, ◌<◌, ◌≤◌, ℕ, List, [], ◌∷◌, length, take, drop, Option, Some}
+use Rattle.line_machine.specs.Lines.{HasNoLf}
 use Rattle.line_machine.specs.declared.machine.End.TheVariants.{Ended, Refused}
 use Rattle.model_form.specs.Answers.{answer}
 use Rattle.run_form.specs.RunLaws.{IsLineByLine}
 use Rattle.run_form.specs.declared.notation.Notation.{Notation}
+use Rattle.run_form.specs.declared.notation.Notation.TheVariants.{Words, Json, Proof}
 use Rattle.titan_session.specs.RunSessions.{RunSession, AreCalls}
 use Rattle.titan_session.specs.SessionLaws.{IsRunOfLines}
 use Rattle.titan_session.specs.Sessions.{Call, IsGoing, Line, Finish, Take, lines_of, taken_of}
-use Rattle.titan_c.specs.Calls.{HandsOver, Prints, OpenedBy, WasGivenLine, WasEnded, HandedOver}
+use Rattle.titan_c.specs.Calls.{HandsOver, HoldsGoing, IsWrongLine, Prints, OpenedBy, WasGivenLine, WasEnded, HandedOver}
 use Rattle.titan_c.specs.Statuses.{status_of}
-use Rattle.titan_c.specs.declared.status.TheConstants.{GOES_ON, ENDED, REFUSED}
+use Rattle.titan_c.specs.declared.status.TheConstants.{GOES_ON, ENDED, REFUSED, WRONG_CALL, NO_MEMORY}
 
 -- these calls, the latest first, lead to the session that is held
 abbrev pub HoldsAfter : Notation → List Call → Option RunSession → Type 0
@@ -44,3 +46,37 @@ pub record CallsPrintRuns : Type 0 where
       → HoldsAfter notation calls old → HandedOver old new out out' n status → IsPlace status
   pub goes_on : (z : RunSession) → status_of z.stage ≡ GOES_ON → IsGoing z.stage
   pub nothing_waits : (x y : RunSession) (out out' : List ℕ) (n : ℕ) → HandsOver x y out out' n → n < length out → y.pending ≡ []
+
+-- ---- what a call answers
+
+-- of what is held behind a call the status says where it stands; no more was written than fits, behind that all is as before, and where less was written nothing waits
+pub record IsAnswerOf (held : Option RunSession) (out out' : List ℕ) (n status : ℕ) : Type 0 where
+  pub session : RunSession
+  pub is_held : held ≡ Some session
+  pub stands : status ≡ status_of session.stage
+  pub fits : n ≤ length out
+  pub rest : drop n out' ≡ drop n out
+  pub all : n < length out → session.pending ≡ []
+
+-- what is held is a session that goes on, by its status
+abbrev pub GoesOnBehind : Option RunSession → Type 0
+GoesOnBehind held = (z : RunSession) × (held ≡ Some z) × (status_of z.stage ≡ GOES_ON)
+
+-- each call that went well answers of what is held behind it; a line or the end of the lines may come exactly where the status is that a session goes on, and a line only without LF
+pub record CallsAnswer : Type 0 where
+  pub line : (old new : Option RunSession) (line out out' : List ℕ) (n status : ℕ) → WasGivenLine old new line out out' n status → IsAnswerOf new out out' n status
+  pub end : (old new : Option RunSession) (out out' : List ℕ) (n status : ℕ) → WasEnded old new out out' n status → IsAnswerOf new out out' n status
+  pub take : (old new : Option RunSession) (out out' : List ℕ) (n status : ℕ) → HandedOver old new out out' n status → IsAnswerOf new out out' n status
+  pub may_end : (held : Option RunSession) → HoldsGoing held ↔ GoesOnBehind held
+  pub may_line : (held : Option RunSession) (line : List ℕ) → (IsWrongLine held line → ⊥) ↔ (HasNoLf line × GoesOnBehind held)
+
+-- the numbers that C knows: those of statuses, and of what a session prints
+pub record NumbersOfC : Type 0 where
+  pub goes_on : GOES_ON ≡ 0
+  pub ended : ENDED ≡ 1
+  pub refused : REFUSED ≡ 2
+  pub wrong_call : WRONG_CALL ≡ 4
+  pub no_memory : NO_MEMORY ≡ 5
+  pub words : (notation : Notation) → Prints 0 notation ↔ (notation ≡ Words)
+  pub json : (notation : Notation) → Prints 1 notation ↔ (notation ≡ Json)
+  pub proofs : (notation : Notation) → Prints 2 notation ↔ (notation ≡ Proof)
