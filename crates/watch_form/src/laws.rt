@@ -1,6 +1,6 @@
 //! What `watch` prints are the answers of a tracker.
 
-ghost use Rattle.watch_form.specs.WatchExamples.{BothPending, LinesOfValve, NothingFirst};
+ghost use Rattle.watch_form.specs.WatchExamples.{BothPending, LinesOfValve, NothingFirst, PendingIsOfOneTick};
 ghost use Rattle.watch_form.specs.WatchLaws.{CostsAreLeast, WatchIsTold};
 
 /// What the machine prints for an input is the text of the answers of a tracker, and the other way round.
@@ -20,4 +20,5 @@ pub fn watch_examples()
     ensures lines { LinesOfValve }
     ensures nothing { NothingFirst }
     ensures both { BothPending }
+    ensures one_tick { PendingIsOfOneTick }
 {}
