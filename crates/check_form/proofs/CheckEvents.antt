@@ -41,10 +41,6 @@ changed_known m x (event.Fault p) y e = (ap (λ (s : ExecutiveState). s.pending)
 changed_known m x (event.Mirror v) y e = (ap (λ (s : ExecutiveState). s.pending) e, ap (λ (s : ExecutiveState). s.mirrored) e)
 changed_known m x event.Reset y e = (ap (λ (s : ExecutiveState). s.pending) e, ap (λ (s : ExecutiveState). s.mirrored) e)
 
--- the next event may come
-pub next_may_come : (m : PlantModel) (x y : ExecutiveState) (events rest : List Event) (e : Event) → Advances m x events y (e ∷ rest) → MayCome m y.pending y.mirrored e
-next_may_come m x y events rest e h = h.come.2.0
-
 -- one event more is made
 pub advances_next : (m : PlantModel) (x y z : ExecutiveState) (events rest : List Event) (e : Event) → Advances m x events y (e ∷ rest) → Changes m AsGiven y e z → FitsModel m z → Advances m x events z rest
 advances_next m x y z events rest e h changes fits =

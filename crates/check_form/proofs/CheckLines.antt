@@ -74,10 +74,6 @@ module _ (m : PlantModel) (x : TraceSoFar) (l : List ℕ) (events : List Event) 
     pub more_next : (more : TickSoFar) → More more ≡ next_lines ticks lines value → LeadsBehind (Some events) m x l (Follows (record { state = x.state; behind = Some events; lines = more }))
     more_next more e = by_next (More more) (Follows (record { state = x.state; behind = Some events; lines = more })) e refl
 
-    pub whole_next : (t : PrintedTick) (y : TraceSoFar) (r : Result Said AllocError) → Whole (printed_of t) ≡ next_lines ticks lines value → IfOk r (λ z. SaysOf (ByLines (Whole (printed_of t)) m x events) x y z) → IfOk r (λ z. SaysOf (LeadsBehind (Some events) m x l) x y z)
-    whole_next t y (Ok z) e (o, by, h) = (o, by_next (Whole (printed_of t)) o e by, h)
-    whole_next t y (Err z) e h = tt
-
 -- where a tick comes
 pub line_says : (m : PlantModel) (s : ExecutiveState) (lines : TickSoFar) (behind : Option (List Event)) (y : TraceSoFar) (l : List ℕ) (events : List Event) (r : Result Said AllocError) → behind ≡ Some events
     → IfOk r (λ z. SaysOf (TraceLeads m (record { state = s; behind = Some events; lines = lines }) l) (record { state = s; behind = Some events; lines = lines }) y z)

@@ -5,7 +5,7 @@ use Rattle.std.specs.Cmp.Lexicographic.{slice_cmp}
 use Rattle.std.specs.declared.cmp.Ordering.TheVariants.{Less, Equal, Greater}
 use Rattle.std.proofs.lemmas.Cmp.{nat_list_cmp_total}
 use Rattle.std.proofs.lemmas.Map.Lookups.{exact_bytes}
-use Rattle.std.proofs.lemmas.List.Elements.{All-nil, All-push, Contains-append_left, Contains-append_right}
+use Rattle.std.proofs.lemmas.List.Elements.{All-push, Contains-append_left, Contains-append_right}
 use Rattle.cca_base.specs.declared.cube.Pair.{Pair}
 use Rattle.cca_base.specs.PlantModel.{PlantModel}
 use Rattle.cca_base.specs.Estimates.{IsEarlier}
@@ -47,9 +47,6 @@ module _ (m : PlantModel) (member : Test) (weights : List (List ℕ)) (s : List 
 
   up_to_itself : (x : Weighed) (cube : List Pair) → IsLightest m member weights s cube (Some x) → IsUpTo m member weights s x.state.modes cube
   up_to_itself x cube its = inr (x.state.modes, its.0, inr (refl, inl refl))
-
-  pub none_among : IsLightestAmong m member weights s [] None
-  none_among = All-nil (IsBarred member s)
 
   all_more : (P Q : List Pair → Type 0) → ((cube : List Pair) → P cube → Q cube) → (cubes : List (List Pair)) → All P cubes → All Q cubes
   all_more P Q then cubes h k d l = then _ (h k d l)

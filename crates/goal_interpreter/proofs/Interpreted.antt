@@ -1,18 +1,15 @@
 -- The chosen state is the target, and its goal can be planned for.
-use Rattle.std.proofs.Common.{◌≡◌, ◌≤◌, ℕ, true, false, List, length, Option, None, Some, All, sym, ap, subst, ◌∙◌, arith}
-use Rattle.std.proofs.lemmas.List.{length-map}
+use Rattle.std.proofs.Common.{◌≡◌, ◌≤◌, ℕ, false, List, length, Option, None, Some, All, sym, ap, subst, ◌∙◌, arith}
 use Rattle.std.proofs.lemmas.List.Elements.{All-contains}
 use Rattle.std.proofs.lemmas.Option.{slice_get-get_or}
 use Rattle.cca_base.specs.declared.cube.Pair.{Pair}
 use Rattle.cca_base.specs.declared.formula.Formula.{Formula}
 use Rattle.cca_base.specs.PlantModel.{PlantModel}
 use Rattle.cca_base.specs.Accepted.{CompiledModel}
-use Rattle.cca_base.specs.Formula.{is_within}
-use Rattle.cca_base.specs.Model.{HasMode, IsFormula, is_broken, mode_counts, value_counts}
+use Rattle.cca_base.specs.Model.{HasMode, is_broken}
 use Rattle.cca_base.specs.State.{IsState}
 use Rattle.cca_base.specs.Steps.{Reach}
 use Rattle.cca_base.proofs.Members.{all_from}
-use Rattle.cca_base.proofs.Within.{fits_within}
 use Rattle.reach_laws.specs.Classes.{Test}
 use Rattle.prime_implicants.specs.Primes.{IfEvery}
 use Rattle.prime_implicants.specs.declared.answer.Primes.{Primes}
@@ -30,12 +27,6 @@ use Rattle.goal_interpreter.specs.declared.candidate.Weighed.{Weighed}
 use Rattle.goal_interpreter.specs.Choosing.{IsLightestAmong, IsUpTo}
 use Rattle.goal_interpreter.specs.Weights.{AreWeights}
 use Rattle.goal_interpreter.proofs.WeightLaws.{rows_full}
-
--- a formula of the model speaks of its components and variables
-pub wish_within : (m : PlantModel) (f : Formula) → IsFormula m f → is_within (length m.components) (length m.variables) f ≡ true
-wish_within m f its =
-    subst (λ n. is_within n (length m.variables) f ≡ true) (length-map m.components (λ c. length c.modes))
-    (subst (λ n. is_within (length (mode_counts m)) n f ≡ true) (length-map m.variables (λ v. length v.values)) (fits_within (mode_counts m) (value_counts m) f its.fits))
 
 -- the modes of all implicants are the model's
 pub modes_in : (m : PlantModel) (f : Formula) (cubes : List (List Pair)) → AreImplicants m f cubes → All (All (λ p. HasMode m p.item p.value)) cubes

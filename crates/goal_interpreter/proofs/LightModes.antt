@@ -98,9 +98,6 @@ module _ (m : PlantModel) (member : Test) (weights : List (List ℕ)) (s : List 
         ];
       }
 
-  pub none_free : AreFreeModes m member weights s []
-  none_free c within = absurd (omega arith)
-
   pub one_more_free : (modes : List ℕ) (x : ℕ) → AreFreeModes m member weights s modes → IsFreeMode m member weights s (length modes) x → AreFreeModes m member weights s (modes ++ x ∷ [])
   one_more_free modes x its next c within = elim (below_next c (length modes) (omega (arith, within, length_push modes x))) [
     | inl less ↦ subst (IsFreeMode m member weights s c) (sym (get_or_append_left modes (x ∷ []) 0 c less)) (its c less)

@@ -61,20 +61,6 @@ module _ (t : TableParts) (is : IsTables t) where
     still_stuck ks last whole d stuck =
         (0, sym (reach.empty_stays b t.classes.base (member_of t) s (setting t is s cov) goal ks last inside whole d (stuck_empty t is s cov d stuck)))
 
-    pub ended : (ks last : List ℕ) (shown : PlanEnd) → Whole b goal s ks last → length ks ≤ MAX_PLAN → IsWholeWayBack t last s shown
-        → IsRoute b s goal (record { plan = Plan ks; back = shown })
-    ended ks last shown whole short back = record {
-      compiled = is.classes.compiled;
-      plan = ks;
-      there = last;
-      whole = whole;
-      back = back.plan.commands;
-      last = back.plan.last;
-      way_back = record { goal = back.goal; is_goal = back.is_goal; whole = back.plan.plan.whole };
-      shows_plan = (refl, short);
-      shows_back = back.plan.shows;
-    }
-
     pub ended_back : (ks last : List ℕ) (shown : PlanEnd) → Whole b goal s ks last → length ks ≤ MAX_PLAN → IsWholeWayBack t last s shown
         → IsThereAndBack t s goal (record { plan = Plan ks; back = shown })
     ended_back ks last shown whole short back = record {

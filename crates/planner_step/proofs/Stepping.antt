@@ -1,6 +1,5 @@
 -- What the cell of a wanted pair leads to.
 use Rattle.std.proofs.Common.{◌≡◌, ◌≢◌, ◌<◌, ℕ, List, length, slice_get, slice_index, Some, All, refl, sym, ap, ◌∙◌, inl, inr}
-use Rattle.std.proofs.lemmas.Bool.{both_ways}
 use Rattle.list_laws.proofs.Places.{value_at}
 use Rattle.cca_base.specs.declared.cube.Pair.{Pair}
 use Rattle.cca_base.specs.Accepted.{CompiledModel}
@@ -52,13 +51,6 @@ module _ (t : TableParts) (is : IsTables t) (s : List ℕ) (cov : CoversState t.
           missing = first.missing;
         };
       }
-
-    -- neither of the other cells stands there
-    pub none_stays : IsCell b (member_of t) p.item mode p.value cell.Stay → ⊥
-    none_stays right = not_there right
-
-    pub none_never : IsCell b (member_of t) p.item mode p.value cell.Never → ⊥
-    none_never right = both_ways (member_of t p.item p.value) right.1 wanted.inside
 
   -- what is needed stands later
   pub nearer_end : (p q : Pair) → IsWantedPair t s p → GoesOn t s p q → later b.order q.item < later b.order p.item

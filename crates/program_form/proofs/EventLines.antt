@@ -132,11 +132,6 @@ module _ (b : CompiledModel) (compiled : IsCompiled b) (part : Part) where
     abbrev PrintsOn : End → List ℕ → Type 0
     PrintsOn e rest = (y : ExecutiveState) (k : Control) → Completes lines_machine (GoesOn (running b y k)) (n + 1) ls e rest → Prints y k (n + 1) ls e rest
 
-    -- the line's own words, where its number and its length say nothing
-    own_words : (o : Option ℕ) (w : Result (Option Event) ℕ) → o ≡ line_code (n + 1) l → o ≡ None → w ≡ event_line b.model x.pending x.mirrored l
-        → w ≡ unless_long (line_code (n + 1) l) (event_line b.model x.pending x.mirrored l)
-    own_words o w f none h = h ∙ (λ i. unless_long ((sym none ∙ f) i) (event_line b.model x.pending x.mirrored l))
-
     refused_prints : (code : ℕ) (e : End) (rest : List ℕ) (u : Next ProgramState) (a : List ℕ) → Err code ≡ unless_long (line_code (n + 1) l) (event_line b.model x.pending x.mirrored l)
         → (u ≡ Stops Refused) × (a ≡ line_text code) → Completes lines_machine u (n + 1) ls e rest → Prints x c n (l ∷ ls) e (a ++ rest)
     refused_prints code e rest u a says is d =

@@ -4,6 +4,7 @@ use Rattle.std.specs.Prelude.{option_to_list}
 use Rattle.std.specs.Fmt.{digits}
 use Rattle.std.proofs.lemmas.List.Elements.{filter-append}
 use Rattle.std.proofs.lemmas.List.Sums.{sum_by-cons}
+use Rattle.list_laws.proofs.Elements.{same_head, same_tail}
 use Rattle.cca_base.specs.declared.cube.Pair.{Pair}
 use Rattle.cca_base.specs.declared.events.Event.{Event}
 use Rattle.cca_base.specs.declared.events.Event.TheVariants as event
@@ -54,19 +55,12 @@ between m Unexplained estimate y z put second full rest more ended (is, stays) e
 between m Holding estimate y z put second full rest more ended (is, stays) e whole later none =
     (two_ticks put second None full rest more whole later none is, e ∙ ap (ends y) stays ∙ still y.left)
 
--- the first of what is told, and the others
-first_told : (a c : Told) (xs ys : List Told) → a ∷ xs ≡ c ∷ ys → a ≡ c
-first_told a c xs ys h = cc
-
-others_told : (a c : Told) (xs ys : List Told) → a ∷ xs ≡ c ∷ ys → xs ≡ ys
-others_told a c xs ys h = cc
-
 pub turns_by_report : TurnsByReport
 turns_by_report m x full a b (put, y, None, rest, others, puts, own, on, whole, list) = absurd (own tt)
 turns_by_report m x full a b (put, y, Some t, rest, others, puts, own, (second, z, None, more, last, turns, said, end, later, tail), whole, list) = absurd (said tt)
 turns_by_report m x full a b (put, y, Some t, rest, others, puts, own, (second, z, Some u, more, last, turns, said, end, later, tail), whole, list) =
-    let one : a ≡ t = first_told a t (b ∷ []) others list in
-    let two : b ≡ u = first_told b u [] last (others_told a t (b ∷ []) others list ∙ tail) in
+    let one : a ≡ t = same_head a t (b ∷ []) others list in
+    let two : b ≡ u = same_head b u [] last (same_tail a t (b ∷ []) others list ∙ tail) in
     let ends_so : b.ended ≡ ends y z = ap (λ (s : Told). s.ended) two ∙ said.1 in (
       put,
       y,
@@ -123,7 +117,7 @@ ended_as (Some l) (Some r) = (λ h. absurd (let never : false ≡ true = h in cc
 pub ends_in_its_turn : EndsInItsTurn
 ends_in_its_turn m x events full t told (put, y, None, rest, others, puts, own, on, whole, list) = absurd (own tt)
 ends_in_its_turn m x events full t told (put, y, Some u, rest, others, puts, own, on, whole, list) =
-    let so : t.ended ≡ ends x.control y = ap (λ (s : Told). s.ended) (first_told t u told others list) ∙ own.1 in
+    let so : t.ended ≡ ends x.control y = ap (λ (s : Told). s.ended) (same_head t u told others list) ∙ own.1 in
     (put, y, rest, puts, whole, subst (λ (e : Bool). IsTrue e ↔ ((x.control.left ≡ None → ⊥) × (y.left ≡ None))) (sym so) (ended_as x.control.left y.left))
 
 -- a tick with the program's end counts

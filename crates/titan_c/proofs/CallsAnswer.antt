@@ -90,11 +90,7 @@ with_proofs notation (inr (inr (e, is))) = is
 
 pub numbers_of_c : NumbersOfC
 numbers_of_c = record {
-  goes_on = refl;
-  ended = refl;
-  refused = refl;
-  wrong_call = refl;
-  no_memory = refl;
+  statuses = refl;
   words = λ notation. (in_words notation, λ is. inl (refl, is));
   json = λ notation. (as_json notation, λ is. inr (inl (refl, is)));
   proofs = λ notation. (with_proofs notation, λ is. inr (inr (refl, is)));

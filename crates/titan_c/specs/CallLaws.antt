@@ -11,7 +11,7 @@ use Rattle.titan_session.specs.SessionLaws.{IsRunOfLines}
 use Rattle.titan_session.specs.Sessions.{Call, IsGoing, Line, Finish, Take, lines_of, taken_of}
 use Rattle.titan_c.specs.Calls.{HandsOver, HoldsGoing, IsWrongLine, Prints, OpenedBy, WasGivenLine, WasEnded, HandedOver}
 use Rattle.titan_c.specs.Statuses.{status_of}
-use Rattle.titan_c.specs.declared.status.TheConstants.{GOES_ON, ENDED, REFUSED, WRONG_CALL, NO_MEMORY}
+use Rattle.titan_c.specs.declared.status.TheConstants.{GOES_ON, ENDED, REFUSED, REJECTED, WRONG_CALL, NO_MEMORY}
 
 -- these calls, the latest first, lead to the session that is held
 abbrev pub HoldsAfter : Notation → List Call → Option RunSession → Type 0
@@ -72,11 +72,7 @@ pub record CallsAnswer : Type 0 where
 
 -- the numbers that C knows: those of statuses, and of what a session prints
 pub record NumbersOfC : Type 0 where
-  pub goes_on : GOES_ON ≡ 0
-  pub ended : ENDED ≡ 1
-  pub refused : REFUSED ≡ 2
-  pub wrong_call : WRONG_CALL ≡ 4
-  pub no_memory : NO_MEMORY ≡ 5
+  pub statuses : GOES_ON ∷ ENDED ∷ REFUSED ∷ REJECTED ∷ WRONG_CALL ∷ NO_MEMORY ∷ [] ≡ 0 ∷ 1 ∷ 2 ∷ 3 ∷ 4 ∷ 5 ∷ []
   pub words : (notation : Notation) → Prints 0 notation ↔ (notation ≡ Words)
   pub json : (notation : Notation) → Prints 1 notation ↔ (notation ≡ Json)
   pub proofs : (notation : Notation) → Prints 2 notation ↔ (notation ≡ Proof)

@@ -4,13 +4,14 @@ use Rattle.cca_base.specs.Formula.{is_within}
 use Rattle.cca_base.specs.Model.{HasMode}
 use Rattle.cca_base.specs.PlantModel.{PlantModel}
 use Rattle.cca_base.specs.State.{IsState}
+use Rattle.cca_base.proofs.HeldFormulas.{formula_within}
 use Rattle.guard_compiler.specs.Wishes.{AreImplicants}
 use Rattle.planner_step.specs.Planning.{member_of}
 use Rattle.reversibility.specs.ClassParts.{ClassParts}
 use Rattle.wish_laws.specs.Settled.{IsGoalOf, IsTarget}
 use Rattle.goal_interpreter.specs.declared.target.TheConstants.{MAX_IMPLICANTS}
 use Rattle.goal_interpreter.specs.Choosing.{IsLightestAmong}
-use Rattle.goal_interpreter.proofs.Interpreted.{among_from, ends_in, few_from, goal_for_plans, implicants_from, modes_in, none_holds, reached, target_is, wish_within}
+use Rattle.goal_interpreter.proofs.Interpreted.{among_from, ends_in, few_from, goal_for_plans, implicants_from, modes_in, none_holds, reached, target_is}
 use Rattle.goal_interpreter.proofs.wish.interpret_by.Goals as goal
 
 -- a model that is read of other classes is that of the tables
@@ -22,7 +23,7 @@ wish_implicants-requires-clause-formula c =
     let t = c.args.tables.now in
     subst (λ (m : PlantModel). is_within (length m.components) (length m.variables) c.args.formula.now ≡ true)
     (sym (same_model c.model.result.now c.compiled-compiled.result.now c.classes-classes.result.now t.classes c.model.ensures.value c.compiled-compiled.ensures.value c.classes-classes.ensures.value))
-    (wish_within t.classes.compiled.model c.args.formula.now c.requires.formula)
+    (formula_within t.classes.compiled.model c.args.formula.now c.requires.formula)
 
 pub choose-requires-clause-cubes : goal.choose-requires-clause-cubes
 choose-requires-clause-cubes c =
