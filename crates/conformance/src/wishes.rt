@@ -132,77 +132,74 @@ fn has_many(alloc: Global, place: Place<'_>, wish: &str, weights: Table<'_>) -> 
     }
 }
 
-/// A place, a wish, the weights of modes, and the target, or None where no settled state holds the wish.
-type Row<'a> = (Place<'a>, &'a str, Table<'a>, Option<Wanted<'a>>);
-
-fn is_answered(alloc: Global, row: Row<'_>) -> bool {
-    match row.3 {
-        Some(wanted) => finds(alloc, row.0, row.1, row.2, wanted),
-        None => is_nowhere(alloc, row.0, row.1, row.2),
-    }
-}
-
-/// Whether each wish has its answer.
-fn are_answered(alloc: Global, rows: &[Row<'_>]) -> bool {
-    for row in rows {
-        if !is_answered(alloc, *row) {
-            return false;
-        }
-    }
-    true
-}
-
 /// The sticking valve at its start.
 const CLOSED: (&str, &[u8]) = (STICKING_VALVE, &[0, 0]);
 
 /// The sticking valve where it is stuck.
 const STUCK: (&str, &[u8]) = (STICKING_VALVE, &[0, 2]);
 
+#[test]
+fn the_first_of_the_lightest_states_is_the_target(rt: HostRuntime) {
+    let none: [&[u32]; 2] = [&[0, 0], &[0, 0, 0]];
+    let first = [pair(1, 1), pair(0, 0)];
+    assert!(rt;
+        finds(
+            rt.alloc(),
+            CLOSED,
+            "flow = some",
+            &none,
+            (&[0, 1], 0, &first)
+        )
+    );
+    let either = "drv = on or valve = open";
+    assert!(rt; finds(rt.alloc(), CLOSED, either, &none, (&[0, 1], 0, &first)));
+    let some: [&[u32]; 2] = [&[3, 0], &[0, 1, 0]];
+    let light = [pair(1, 1), pair(0, 1)];
+    assert!(rt;
+        finds(
+            rt.alloc(),
+            CLOSED,
+            "flow = some",
+            &some,
+            (&[1, 1], 1, &light)
+        )
+    );
+}
+
+#[test]
+fn a_stuck_valve_is_mended_in_the_target(rt: HostRuntime) {
+    let weights: [&[u32]; 2] = [&[3, 0], &[0, 0, 0]];
+    let goal = [pair(1, 0), pair(0, 1)];
+    assert!(rt;
+        finds(
+            rt.alloc(),
+            STUCK,
+            "flow = none",
+            &weights,
+            (&[1, 0], 0, &goal)
+        )
+    );
+    assert!(rt; is_nowhere(rt.alloc(), CLOSED, "valve = stuck", &weights));
+    assert!(rt; is_nowhere(rt.alloc(), STUCK, "valve = stuck", &weights));
+}
+
 /// The unit that can't be reset, where it is hung.
 const LATCHED: (&str, &[u8]) = (LATCHED_UNIT, &[2, 0]);
 
-/// The first of the lightest states, a stuck valve that is mended, and a unit that stays hung.
 #[test]
-fn wishes_have_their_targets(rt: HostRuntime) {
-    let no_weights: [&[u32]; 2] = [&[0, 0], &[0, 0, 0]];
-    let off_and_open: [&[u32]; 2] = [&[3, 0], &[0, 1, 0]];
-    let off_alone: [&[u32]; 2] = [&[3, 0], &[0, 0, 0]];
-    let hung: [&[u32]; 2] = [&[0, 0, 7], &[2, 0]];
-    let open_off = [pair(1, 1), pair(0, 0)];
-    let open_on = [pair(1, 1), pair(0, 1)];
-    let closed_on = [pair(1, 0), pair(0, 1)];
-    let other_only = [pair(1, 0)];
-    let rows: [Row<'_>; 8] = [
-        (
-            CLOSED,
-            "flow = some",
-            &no_weights,
-            Some((&[0, 1], 0, &open_off)),
-        ),
-        (
-            CLOSED,
-            "drv = on or valve = open",
-            &no_weights,
-            Some((&[0, 1], 0, &open_off)),
-        ),
-        (
-            CLOSED,
-            "flow = some",
-            &off_and_open,
-            Some((&[1, 1], 1, &open_on)),
-        ),
-        (
-            STUCK,
-            "flow = none",
-            &off_alone,
-            Some((&[1, 0], 0, &closed_on)),
-        ),
-        (CLOSED, "valve = stuck", &off_alone, None),
-        (STUCK, "valve = stuck", &off_alone, None),
-        (LATCHED, "dev != ok", &hung, Some((&[2, 0], 9, &other_only))),
-        (LATCHED, "dev = latched", &hung, None),
-    ];
-    assert!(rt; are_answered(rt.alloc(), &rows));
+fn a_unit_that_stays_hung_is_in_the_target_alone(rt: HostRuntime) {
+    let weights: [&[u32]; 2] = [&[0, 0, 7], &[2, 0]];
+    let goal = [pair(1, 0)];
+    assert!(rt;
+        finds(
+            rt.alloc(),
+            LATCHED,
+            "dev != ok",
+            &weights,
+            (&[2, 0], 9, &goal)
+        )
+    );
+    assert!(rt; is_nowhere(rt.alloc(), LATCHED, "dev = latched", &weights));
 }
 
 /// A model with seven components of five modes.
@@ -237,7 +234,14 @@ fn there_are_few_implicants_or_too_many(rt: HostRuntime) {
         pair(6, 0),
     ];
     let place: Place<'_> = (SEVEN, &modes);
-    let wanted: Wanted<'_> = (&modes, 0, &goal);
-    assert!(rt; finds(rt.alloc(), place, SIX_OF_SEVEN, &weights, wanted));
+    assert!(rt;
+        finds(
+            rt.alloc(),
+            place,
+            SIX_OF_SEVEN,
+            &weights,
+            (&modes, 0, &goal)
+        )
+    );
     assert!(rt; has_many(rt.alloc(), place, ONE_MORE, &weights));
 }
