@@ -4,6 +4,7 @@ use Rattle.std.proofs.lemmas.List.{length_push}
 use Rattle.std.proofs.lemmas.Option.{slice_get_within, none-some}
 use Rattle.std.proofs.lemmas.List.Elements.{All-push, All-contains}
 use Rattle.list_laws.proofs.Places.{some_at}
+use Rattle.list_laws.proofs.Members.{all_from, member_at, at_member}
 use Rattle.cca_base.specs.declared.cube.Pair.{Pair}
 use Rattle.cca_base.specs.declared.model.Move.{Move}
 use Rattle.cca_base.specs.declared.events.Stop.{Stop}
@@ -11,14 +12,12 @@ use Rattle.cca_base.specs.declared.events.Stop.TheVariants.{Refused, Memory}
 use Rattle.cca_base.specs.declared.limits.TheConstants.{MAX_WAYS}
 use Rattle.cca_base.specs.Accepted.{AreWays, HasFewWays}
 use Rattle.cca_base.specs.PlantModel.{PlantModel}
-use Rattle.cca_base.proofs.Members.{all_from}
 use Rattle.cca_base.proofs.Growth.{slice_get_cases}
 use Rattle.guard_compiler.specs.Ways.{AtMove, HasManyWays, IsStop}
 use Rattle.guard_compiler.proofs.WaysMeaning.{not_many}
 use Rattle.cca_base.proofs.Counting.{not_among_fewer}
 use Rattle.acceptance.specs.AllWays.{AreAllWays, IsFirstStop}
 use Rattle.acceptance.specs.Refusals.{HasManyAt, HasMany}
-use Rattle.acceptance.proofs.NeededMarks.{member_at, at_member}
 
 -- exactly the prime implicants of the first n moves, of which none has too many
 pub record AreWaysTo (m : PlantModel) (ways : List (List (List Pair))) (n : ℕ) : Type 0 where

@@ -5,6 +5,7 @@ use Rattle.std.proofs.lemmas.List.{get_or-set_same, get_or-set_other, length-set
 use Rattle.std.proofs.lemmas.List.Elements.{All-contains}
 use Rattle.std.proofs.lemmas.List.Sums.{sum_by-cons, sum_by-append}
 use Rattle.std.proofs.lemmas.Option.{slice_get_within, get_or_from_slice_get, same_Some, none-some}
+use Rattle.list_laws.proofs.Members.{all_from, contains_cases, contains_here, contains_there, contains_none, at_member}
 use Rattle.cca_base.specs.declared.model.Component.{Component}
 use Rattle.cca_base.specs.declared.limits.TheConstants.{MAX_BOUND, MAX_CHOICES}
 use Rattle.cca_base.specs.Accepted.{SumFits}
@@ -14,7 +15,6 @@ use Rattle.cca_base.specs.Implicants.{Needs}
 use Rattle.cca_base.specs.Model.{WellFormed, IsComponent, mode_counts}
 use Rattle.cca_base.specs.Orders.{IsEffectsFirst}
 use Rattle.cca_base.specs.Relations.{numbers_below}
-use Rattle.cca_base.proofs.Members.{all_from, contains_cases, contains_here, contains_there, contains_none}
 use Rattle.cca_base.proofs.PathLaws.{all_taken, below_contains, numbers_within, numbers_rise}
 use Rattle.causal_graph.specs.Laws.{AreNeedsOf}
 use Rattle.causal_graph.specs.Needs.{RowNeeds}
@@ -22,7 +22,6 @@ use Rattle.causal_graph.proofs.ModelNeeds.{same_needs, models_have_rows}
 use Rattle.causal_graph.proofs.EffectsFirst.{needed_within}
 use Rattle.cca_laws.proofs.OneCompiled.{one_bounds}
 use Rattle.acceptance.specs.Refusals.{IsTooDeep}
-use Rattle.acceptance.proofs.NeededMarks.{at_member}
 use Rattle.cca_laws.proofs.CausesFirstOrders.{IsLaidOut, laid_out, laid_closed, laid_later, taken, sum_taken, sum_numbers, rising_few}
 
 module _ (sizes : List ℕ) (rows : List (List ℕ)) where

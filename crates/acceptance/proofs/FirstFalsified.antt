@@ -3,14 +3,13 @@ use Rattle.std.proofs.Common.{◌≡◌, ◌≤◌, ◌<◌, ◌+◌, ◌==◌, 
 use Rattle.std.specs.Prelude.{if◌then◌else◌}
 use Rattle.std.specs.Ordering.{nat_cmp, is_lt as is_less, ordering_then, ordering_reverse, MatchOrdering}
 use Rattle.std.specs.Cmp.Lexicographic.{slice_cmp}
-use Rattle.std.specs.declared.cmp.Ordering.{Ordering}
 use Rattle.std.specs.declared.cmp.Ordering.TheVariants.{Less, Equal, Greater}
 use Rattle.std.proofs.lemmas.Bool.{cases_lt, cases_Bool, cases_eq, and_parts, and_from, or_parts, or_left, or_right, or_cases, both_ways, not-true, not_from_false, eqb-false, ne_eqb, false≢true}
 use Rattle.std.proofs.lemmas.Cmp.{ranked, nat_list_cmp_total}
 use Rattle.std.proofs.lemmas.List.{take_more}
 use Rattle.std.proofs.lemmas.List.Elements.{All-head, All-tail}
 use Rattle.std.proofs.lemmas.List.Folds.{list_all-append}
-use Rattle.list_laws.proofs.Orders.{less_greater}
+use Rattle.list_laws.proofs.Orders.{less_greater, lt_less}
 use Rattle.cca_base.specs.Sets.{has}
 use Rattle.cca_base.specs.Estimates.{IsEarlier}
 use Rattle.clause_form.specs.declared.clause.Literal.{Literal}
@@ -104,11 +103,6 @@ one_false false b h = inl refl
 one_false true false h = inr refl
 one_false true true h = inl h
 
-is_less-true : (o : Ordering) → is_less o ≡ true → o ≡ Less
-is_less-true Less h = refl
-is_less-true Equal h = absurd cc
-is_less-true Greater h = absurd cc
-
 module _ (sizes : List ℕ) (before : List Clause) (c : Clause) where
   abbrev more : List Clause
   more = before ++ c ∷ []
@@ -166,7 +160,7 @@ module _ (sizes : List ℕ) (before : List Clause) (c : Clause) where
   }
   one_clause (Some xs) (Some zs) h k =
       elim (is_less (slice_cmp nat_cmp zs xs)) as (λ b. is_less (slice_cmp nat_cmp zs xs) ≡ b → IsFirstOrNone sizes more (if b then Some zs else Some xs)) [
-        | true ↦ λ e. new_first xs zs h k (is_less-true (slice_cmp nat_cmp zs xs) e)
+        | true ↦ λ e. new_first xs zs h k (lt_less (slice_cmp nat_cmp zs xs) e)
         | false ↦ λ e. old_first xs zs h k (λ earlier. false≢true (sym e ∙ ap is_less earlier))
       ] refl
 

@@ -3,8 +3,9 @@ use Rattle.std.proofs.Common.{◌≡◌, ◌<◌, ◌≤◌, ◌+◌, ◌↔◌,
 use Rattle.std.proofs.lemmas.Bool.{cases_lt}
 use Rattle.std.proofs.lemmas.List.{map-append, take_more, length_push, length-replicate, get_or_push, get_or_append_left}
 use Rattle.std.proofs.lemmas.List.Elements.{All-contains, Contains-append_left, Contains-push, Contains-push_cases}
-use Rattle.std.proofs.lemmas.Option.{slice_get-get_or, slice_get_within, get_or_from_slice_get, same_Some}
+use Rattle.std.proofs.lemmas.Option.{same_Some}
 use Rattle.list_laws.proofs.Places.{some_at}
+use Rattle.list_laws.proofs.Members.{all_from, contains_cases, contains_here, contains_there, contains_none, member_at, at_member}
 use Rattle.cca_base.specs.declared.cube.Pair.{Pair}
 use Rattle.cca_base.specs.declared.model.Move.{Move}
 use Rattle.cca_base.specs.Accepted.{AreWays}
@@ -12,7 +13,6 @@ use Rattle.cca_base.specs.PlantModel.{PlantModel}
 use Rattle.cca_base.specs.Bounds.{AreNeeds}
 use Rattle.cca_base.specs.Model.{HasMode}
 use Rattle.cca_base.specs.Relations.{AreExactly}
-use Rattle.cca_base.proofs.Members.{all_from, contains_cases, contains_here, contains_there, contains_none}
 use Rattle.cca_base.proofs.Within.{mode_within}
 use Rattle.causal_graph.specs.Laws.{AreNeedsOf}
 use Rattle.causal_graph.specs.Search.{Marks}
@@ -67,12 +67,6 @@ cube_more cubes i cube old now new within read h marks =
     subst (λ l. AddsMarks (OccursIn l) old new) (sym longer) (cube_added (take i cubes) cube old now new h marks)
 
 -- ---- the marks of a component's moves
-
-pub member_at : {X : Type 0} (xs : List X) (x : X) (h : Contains xs x) → slice_get xs h.0 ≡ Some x
-member_at xs x h = slice_get-get_or xs h.0 x h.1 ∙ ap Some h.2
-
-pub at_member : {X : Type 0} (xs : List X) (i : ℕ) (x : X) → slice_get xs i ≡ Some x → Contains xs x
-at_member xs i x h = (i, slice_get_within xs i x h, get_or_from_slice_get xs i x x h)
 
 -- a number among the pairs' components is that of a pair
 pair_of : (pairs : List Pair) (u : ℕ) → Contains (components_of pairs) u → (mode : ℕ) × Contains pairs (record { item = u; value = mode })

@@ -1,6 +1,7 @@
 -- What the steps find, as refusals and as what is compiled.
 use Rattle.std.proofs.Common.{◌≡◌, ℕ, List, [], ◌∷◌, Option, Some, None, IfSome, IsNone, ◌↔◌, inl, inr, refl, subst, arith}
 use Rattle.std.proofs.lemmas.List.Elements.{All-contains}
+use Rattle.list_laws.proofs.Members.{at_member}
 use Rattle.cca_base.specs.declared.codes.TheConstants.{CYCLE, DEEP}
 use Rattle.cca_base.specs.declared.cube.Pair.{Pair}
 use Rattle.cca_base.specs.declared.events.Stop.{Stop}
@@ -20,7 +21,6 @@ use Rattle.acceptance.specs.Laws.{AcceptedAreNotRefused}
 use Rattle.acceptance.specs.Pieces.{IsStop}
 use Rattle.acceptance.specs.Refusals.{HasClash, Refuses, IsTooDeep}
 use Rattle.acceptance.proofs.BoundsCausesFirst.{not_deep}
-use Rattle.acceptance.proofs.NeededMarks.{at_member}
 use Rattle.acceptance.proofs.AllWaysFound.{none_many, few_or_many, all_few}
 
 -- a world shows what nothing asks for

@@ -4,7 +4,7 @@ use Rattle.std.specs.List.{IsAnyAnswer}
 use Rattle.std.proofs.lemmas.Bool.{cases_lt, cases_eq, cases_order, both_ways, eqb-true, eq-eqb, ne_eqb}
 use Rattle.std.proofs.lemmas.List.{get_or_past, get_or-set_same, get_or-set_other, length-set, get_or_append_left, get_or_push, length_push, take_more}
 use Rattle.std.proofs.lemmas.List.Sums.{sum_by-set}
-use Rattle.cca_base.proofs.Members.{contains_none}
+use Rattle.list_laws.proofs.Members.{contains_none}
 use Rattle.causal_graph.specs.Needs.{RowNeeds}
 use Rattle.causal_graph.specs.Search.{AreDirect, IsFarther, unreached}
 

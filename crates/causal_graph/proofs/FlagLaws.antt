@@ -2,8 +2,8 @@
 use Rattle.std.proofs.Common.{◌≡◌, ◌<◌, ◌≤◌, ◌+◌, ℕ, Bool, true, false, List, [], ◌∷◌, ◌++◌, length, take, get_or, set, All, Contains, MatchBool, inl, inr, refl, sym, ap, subst, ◌∙◌, arith}
 use Rattle.std.proofs.lemmas.List.{get_or-set_same, length-set, take_more}
 use Rattle.std.proofs.lemmas.List.Elements.{All-contains, Contains-push, Contains-push_cases, Contains-append_left}
+use Rattle.list_laws.proofs.Members.{contains_none}
 use Rattle.cca_base.specs.declared.limits.TheConstants.{MAX_ROWS}
-use Rattle.cca_base.proofs.Members.{contains_none}
 use Rattle.causal_graph.specs.Search.{AreNarrow, Marks}
 use Rattle.cca_base.specs.Flags.{IsSet, unset}
 use Rattle.cca_base.proofs.FlagLaws.{set_kept, set_cases, fewer_unset}

@@ -2,8 +2,8 @@
 use Rattle.std.proofs.Common.{◌≡◌, ◌<◌, ◌↔◌, ℕ, List, [], length, get_or, Contains, subst, arith}
 use Rattle.std.proofs.lemmas.List.{get_or_default}
 use Rattle.std.proofs.lemmas.List.Elements.{All-contains}
+use Rattle.list_laws.proofs.Members.{all_from}
 use Rattle.cca_base.proofs.PathLaws.{ancestor_along, takes_same, acyclic_same, shown_same}
-use Rattle.cca_base.proofs.Members.{all_from}
 use Rattle.cca_base.proofs.Within.{mode_within, needed_component}
 use Rattle.cca_base.specs.PlantModel.{PlantModel}
 use Rattle.cca_base.specs.Implicants.{Needs}

@@ -1,7 +1,7 @@
 -- The least number of a row at a distance, number by number.
 use Rattle.std.proofs.Common.{◌≡◌, ◌<◌, ◌≤◌, ℕ, List, [], ◌∷◌, ◌++◌, slice_index, Option, Some, None, Contains, MatchOption, inl, inr, sym, subst, arith}
 use Rattle.std.proofs.lemmas.List.Elements.{Contains-push, Contains-push_cases, Contains-append_left}
-use Rattle.cca_base.proofs.Members.{contains_none}
+use Rattle.list_laws.proofs.Members.{contains_none}
 use Rattle.causal_graph.specs.Search.{IsNearest}
 
 -- none of the row is at the distance

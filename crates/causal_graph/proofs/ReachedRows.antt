@@ -3,7 +3,7 @@ use Rattle.std.proofs.Common.{◌≡◌, ◌<◌, ◌≤◌, ◌+◌, ◌⊎◌,
 use Rattle.std.proofs.lemmas.Bool.{cases_eq, both_ways}
 use Rattle.std.proofs.lemmas.List.Elements.{Contains-get_or, Contains-push, Contains-push_cases, Contains-append_left}
 use Rattle.std.proofs.lemmas.List.Quantifiers.{all_pairs_push}
-use Rattle.cca_base.proofs.Members.{contains_none}
+use Rattle.list_laws.proofs.Members.{contains_none}
 use Rattle.cca_base.proofs.PathLaws.{ancestor_direct, ancestor_join}
 use Rattle.cca_base.specs.Relations.{PathBy, AncestorBy}
 use Rattle.causal_graph.specs.Needs.{RowNeeds, AreAncestors}

@@ -2,7 +2,7 @@
 use Rattle.std.proofs.Common.{◌≡◌, ℕ, Bool, false, List, [], ◌∷◌, ◌++◌, length, get_or, replicate, Contains, inl, inr, sym, ap, subst, ◌∙◌}
 use Rattle.std.proofs.lemmas.List.{length-replicate}
 use Rattle.std.proofs.lemmas.List.Elements.{Contains-push, Contains-push_cases, Contains-append_left}
-use Rattle.cca_base.proofs.Members.{contains_none}
+use Rattle.list_laws.proofs.Members.{contains_none}
 use Rattle.cca_base.proofs.FlagLaws.{none_set}
 use Rattle.causal_graph.specs.Search.{Marks, AreNeeded}
 

@@ -3,13 +3,13 @@ use Rattle.std.proofs.Common.{◌≡◌, ◌≢◌, ◌<◌, ◌≤◌, ◌+◌,
 use Rattle.std.specs.Ordering.{nat_cmp, ordering_then}
 use Rattle.std.specs.Cmp.Lexicographic.{slice_cmp}
 use Rattle.std.specs.declared.cmp.Ordering.{Ordering}
-use Rattle.std.specs.declared.cmp.Ordering.TheVariants.{Less, Equal, Greater}
-use Rattle.std.proofs.lemmas.Bool.{cases_lt, cases_order, ne_eqb, le-ltb}
+use Rattle.std.specs.declared.cmp.Ordering.TheVariants.{Less, Equal}
+use Rattle.std.proofs.lemmas.Bool.{cases_lt, cases_order}
 use Rattle.std.proofs.lemmas.List.{append-nil, append_assoc, length_push}
 use Rattle.std.proofs.lemmas.List.Elements.{All-weaker, All-cons, All-nil}
 use Rattle.std.proofs.lemmas.List.Kept.{AllPairs-cons}
-use Rattle.list_laws.proofs.Orders.{less_greater, nat_cmp-same}
-use Rattle.cca_base.proofs.Members.{contains_cases, contains_here, contains_there, contains_none}
+use Rattle.list_laws.proofs.Orders.{less_greater, nat_cmp-same, greater_cmp}
+use Rattle.list_laws.proofs.Members.{contains_cases, contains_here, contains_there, contains_none}
 use Rattle.cca_base.proofs.PathLaws.{ancestor_direct, ancestor_join}
 use Rattle.cca_base.specs.Estimates.{IsEarlier}
 use Rattle.cca_base.specs.Relations.{PathBy, AncestorBy, IsShownCycleBy}
@@ -19,9 +19,6 @@ use Rattle.causal_graph.proofs.EffectsFirst.{needed_within}
 
 -- ---- lists entry by entry
 
-greater_number : (x y : ℕ) → y < x → nat_cmp x y ≡ Greater
-greater_number x y above = rw (le-ltb x y (omega arith), ne_eqb x y (λ e. omega (arith, e, above))) refl
-
 equal_is : ◌≡◌ {A = Ordering} Equal Less → ⊥
 equal_is h = cc
 
@@ -29,7 +26,7 @@ earlier_tail : (x : ℕ) (xs ys : List ℕ) → IsEarlier (x ∷ xs) (x ∷ ys) 
 earlier_tail x xs ys h = sym (ap (λ o. ordering_then o (slice_cmp nat_cmp xs ys)) (nat_cmp-same x x refl)) ∙ h
 
 not_earlier : (x y : ℕ) (xs ys : List ℕ) → y < x → IsEarlier (x ∷ xs) (y ∷ ys) → ⊥
-not_earlier x y xs ys above h = less_greater (sym h ∙ ap (λ o. ordering_then o (slice_cmp nat_cmp xs ys)) (greater_number x y above))
+not_earlier x y xs ys above h = less_greater (sym h ∙ ap (λ o. ordering_then o (slice_cmp nat_cmp xs ys)) (greater_cmp x y above))
 
 module _ (rows : List (List ℕ)) (t : ℕ) (distances : List ℕ) where
   -- a way from d to t whose each entry is the least that is one nearer

@@ -1,26 +1,14 @@
 //! Components effects first: a topological sort that takes the greatest number that nothing left needs.
 
-ghost use Rattle.std.specs.Prelude.{◌≡◌, ◌<◌, ◌≤◌, All, IfOk, MatchOption, length};
-ghost use Rattle.cca_base.specs.Prelude.{numbers_below, IsEffectsFirstBy, IsSet};
+ghost use Rattle.std.specs.Prelude.{◌<◌, ◌≤◌, All, IfOk, MatchOption, length};
+ghost use Rattle.cca_base.specs.Prelude.{IsEffectsFirstBy, IsSet};
 ghost use Rattle.cca_base.specs.declared.limits.TheConstants.{MAX_ROWS};
 ghost use Rattle.causal_graph.specs.Needs.{AreRows, RowNeeds};
 ghost use Rattle.causal_graph.specs.Search.{AreNeeded, HasStuck, IsFirstUnset};
 
 use crate::flags::mark;
-use cca_base::List;
+use cca_base::{List, numbers_below};
 use std::alloc::{AllocError, Global};
-
-/// The numbers below `n`, rising.
-fn numbers(alloc: Global, n: usize) -> Result<Vec<u16>, AllocError>
-    requires { n ≤ MAX_ROWS }
-    ensures { IfOk result (λ v. v.items ≡ numbers_below n) }
-{
-    let mut all = Vec::new(alloc);
-    for c in 0..n {
-        all.push(c as u16)?;
-    }
-    Ok(all)
-}
 
 /// For each component, whether a remaining one needs it.
 fn needed(
@@ -64,7 +52,7 @@ pub(crate) fn effects_first(
         (λ o. MatchOption o (HasStuck needs.now)
         (IsEffectsFirstBy (RowNeeds needs.now) (length needs.now))) }
 {
-    let mut remaining = numbers(alloc, needs.len())?;
+    let mut remaining = numbers_below(alloc, needs.len())?;
     let mut order = List::new(alloc);
     'taking: while !remaining.is_empty() {
         let flags = needed(alloc, needs, remaining.as_slice())?;

@@ -7,8 +7,8 @@ use Rattle.std.specs.declared.cmp.Ordering.TheVariants.{Less, Equal}
 use Rattle.std.specs.Cmp.{nat_cmp_is}
 use Rattle.cca_base.specs.declared.cube.Pair.{Pair}
 use Rattle.cca_base.specs.Cube.{cube_cmp, pair_cmp, IsBeforeCube, AreInCubeOrder}
-use Rattle.cca_base.proofs.Members.{all_from, contains_cases, contains_here, contains_there, contains_none}
 use Rattle.list_laws.proofs.Pairwise.{AllPairs-head, AllPairs-tail}
+use Rattle.list_laws.proofs.Members.{all_from, contains_cases, contains_here, contains_there, contains_none}
 
 -- the list without the member at k
 abbrev without_at : {X : Type 0} → List X → ℕ → List X

@@ -2,7 +2,6 @@ pub mod EmptyModel
 pub mod SetLaws
 pub mod NameLaws
 pub mod CubeLaws
-pub mod Found
 pub mod FormulaGrowth
 pub mod Growth
 pub mod BoundSums
@@ -16,9 +15,9 @@ pub mod FlagLaws
 pub mod NominalLaws
 pub mod StartLaws
 pub mod StateLaws
-pub mod PermutationLaws
-pub mod TestedLists
 pub mod SureFormulas
+pub mod CheapCosts
+pub mod LeastFailures
 pub mod Commands
 pub mod Replies
 pub mod Support

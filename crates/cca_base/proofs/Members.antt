@@ -1,55 +1,9 @@
--- Members of lists, and the pairs of a state.
-use Rattle.std.proofs.Common.{◌≡◌, ◌+◌, ◌⊎◌, ℕ, Bool, true, List, [], ◌∷◌, slice_get, Some, All, Contains, filter, zero, suc, sym, ap, subst, inl, inr, arith}
-use Rattle.std.proofs.lemmas.Bool.{cases_Bool, both_ways, cond-true, cond-false}
+-- The pairs of a state.
+use Rattle.std.proofs.Common.{◌≡◌, ◌+◌, ℕ, List, [], ◌∷◌, slice_get, Some, Contains, zero, suc, ap, subst, inl, inr, arith}
 use Rattle.std.proofs.lemmas.Option.{same_Some, none-some}
-use Rattle.std.proofs.lemmas.List.Elements.{All-weaker, All-contains_itself}
+use Rattle.list_laws.proofs.Members.{contains_cases, contains_here, contains_none, contains_there}
 use Rattle.cca_base.specs.declared.cube.Pair.{Pair}
 use Rattle.cca_base.specs.Repairs.{pairs_from, pairs_of}
-
--- what holds of each member holds of all
-pub all_from : {X : Type 0} (P : X → Type 0) (xs : List X) → ((x : X) → Contains xs x → P x) → All P xs
-all_from P xs h = All-weaker (Contains xs) P h xs (All-contains_itself xs)
-
-pub contains_cases : {X : Type 0} (x y : X) (xs : List X) → Contains (x ∷ xs) y → (x ≡ y) ⊎ Contains xs y
-contains_cases x y xs (zero, h, e) = inl e
-contains_cases x y xs (suc k, h, e) = inr (k, omega arith, e)
-
-pub contains_here : {X : Type 0} (x y : X) (xs : List X) → x ≡ y → Contains (x ∷ xs) y
-contains_here x y xs e = (0, omega arith, e)
-
-pub contains_there : {X : Type 0} (x y : X) (xs : List X) → Contains xs y → Contains (x ∷ xs) y
-contains_there x y xs h = (suc h.0, omega (arith, h.1), h.2)
-
-pub contains_none : {X : Type 0} (y : X) → Contains [] y → ⊥
-contains_none y h = omega (arith, h.1)
-
-pub to_filter : {X : Type 0} (test : X → Bool) (xs : List X) (x : X) → test x ≡ true → Contains xs x → Contains (filter test xs) x
-to_filter test [] x h among = among
-to_filter test (y ∷ xs) x h among = elim (cases_Bool (test y)) [
-  | inl yes_y ↦ subst (λ l. Contains l x) (sym (cond-true (test y) (y ∷ filter test xs) (filter test xs) yes_y))
-      (elim (contains_cases y x xs among) [
-        | inl e ↦ contains_here y x (filter test xs) e
-        | inr there ↦ contains_there y x (filter test xs) (to_filter test xs x h there)
-      ])
-  | inr no_y ↦ subst (λ l. Contains l x) (sym (cond-false (test y) (y ∷ filter test xs) (filter test xs) no_y))
-      (elim (contains_cases y x xs among) [
-        | inl e ↦ absurd (both_ways (test y) no_y (subst (λ z. test z ≡ true) (sym e) h))
-        | inr there ↦ to_filter test xs x h there
-      ])
-]
-
-pub from_filter : {X : Type 0} (test : X → Bool) (xs : List X) (x : X) → Contains (filter test xs) x → (test x ≡ true) × Contains xs x
-from_filter test [] x among = absurd (contains_none x among)
-from_filter test (y ∷ xs) x among = elim (cases_Bool (test y)) [
-  | inl yes_y ↦
-      elim (contains_cases y x (filter test xs) (subst (λ l. Contains l x) (cond-true (test y) (y ∷ filter test xs) (filter test xs) yes_y) among)) [
-        | inl e ↦ (subst (λ z. test z ≡ true) e yes_y, contains_here y x xs e)
-        | inr there ↦ let rest = from_filter test xs x there in (rest.0, contains_there y x xs rest.1)
-      ]
-  | inr no_y ↦
-      let rest = from_filter test xs x (subst (λ l. Contains l x) (cond-false (test y) (y ∷ filter test xs) (filter test xs) no_y) among) in
-      (rest.0, contains_there y x xs rest.1)
-]
 
 to_pairs : (k : ℕ) (s : List ℕ) (i j x : ℕ) → j ≡ k + i → slice_get s i ≡ Some x → Contains (pairs_from k s) (record { item = j; value = x })
 to_pairs k [] i j x e h = absurd (none-some x h)

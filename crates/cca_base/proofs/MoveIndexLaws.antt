@@ -196,16 +196,6 @@ nones_more rows n c mode = elim (cases_order c (length rows)) [
 
 -- ---- the whole index
 
-pub no_rows : (x : MoveIndex) → x.by_command.items ≡ [] → x.by_component.items ≡ [] → x.next.items ≡ [] → IsIndex [] [] [] x
-no_rows x e f g = record {
-  row_a_command = ap length e;
-  by_command = subst (AreRowsBy (λ move. move.command) []) (sym e) (λ k. no_row (λ move. move.command) [] k (λ move among own. omega (arith, among.1)));
-  row_a_component = ap length f;
-  by_component = subst (AreRowsBy (λ move. move.component) []) (sym f) (λ k. no_row (λ move. move.component) [] k (λ move among own. omega (arith, among.1)));
-  mode_by_mode = ap (map length) g;
-  next = subst (AreNexts []) (sym g) (λ c mode. refl);
-}
-
 module _ (cs : List Component) (ks : List (List ℕ)) (moves : List Move) (x y : MoveIndex) (h : IsIndex cs ks moves x) where
   rows_same : SameRows x y → IsIndex cs ks moves y
   rows_same e = record {

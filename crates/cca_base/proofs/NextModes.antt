@@ -6,12 +6,12 @@ use Rattle.std.proofs.lemmas.Map.Steps.{length-le_from_distinct_below}
 use Rattle.std.proofs.lemmas.List.{get_or-map}
 use Rattle.std.proofs.lemmas.List.Elements.{All-contains, All-weaker}
 use Rattle.std.proofs.lemmas.List.Folds.{list_any-from_Any, Any-from_list_any}
+use Rattle.list_laws.proofs.Members.{contains_cases, contains_here, contains_there, contains_none}
 use Rattle.cca_base.specs.declared.model.Move.{Move}
 use Rattle.cca_base.specs.PlantModel.{PlantModel}
 use Rattle.cca_base.specs.Model.{WellFormed, IsMove, HasMode, mode_counts, is_broken, is_repair_of, IsNext, IsMended, IsInChain, RepairChain, RepairsFit, MendsAtOnce}
 use Rattle.cca_base.specs.declared.model.Component.{Component}
 use Rattle.cca_base.specs.declared.limits.TheConstants.{MAX_CHOICES}
-use Rattle.cca_base.proofs.Members.{contains_cases, contains_here, contains_there, contains_none}
 use Rattle.cca_base.proofs.Within.{mode_within}
 
 pub repair_of : (c mode : ℕ) (move : Move) → move.repair ≡ true → move.component ≡ c → move.source ≡ mode → is_repair_of c mode move ≡ true

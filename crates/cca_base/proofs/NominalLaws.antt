@@ -1,11 +1,12 @@
 -- The nominal successor of a state: there is one, it is a state, and it costs nothing.
-use Rattle.std.proofs.Common.{◌≡◌, ◌≢◌, ◌<◌, ℕ, inl, inr, List, length, replicate, slice_get, slice_index_or, slice_set, Option, Some, None, Contains, length-set, refl, sym, ap, subst, ◌∙◌, arith}
+use Rattle.std.proofs.Common.{◌≡◌, ◌≢◌, ◌<◌, ℕ, inl, inr, List, length, replicate, slice_get, slice_index_or, slice_set, Option, Some, None, length-set, refl, sym, ap, subst, ◌∙◌, arith}
 use Rattle.std.proofs.lemmas.Bool.{cases_eq, cases_order}
 use Rattle.std.proofs.lemmas.Grind.{get_or-set_at}
-use Rattle.std.proofs.lemmas.Option.{slice_get-get_or, slice_get_within, get_or_from_slice_get, same_Some, none-some}
+use Rattle.std.proofs.lemmas.Option.{slice_get_within, get_or_from_slice_get, same_Some, none-some}
 use Rattle.std.proofs.lemmas.List.{get_or-replicate, get_or-set_other, length-replicate}
 use Rattle.std.proofs.lemmas.List.Elements.{All-contains}
 use Rattle.std.proofs.lemmas.List.Folds.{sum_by-replicate}
+use Rattle.list_laws.proofs.Members.{member_at}
 use Rattle.cca_base.specs.declared.model.Move.{Move}
 use Rattle.cca_base.specs.PlantModel.{PlantModel}
 use Rattle.cca_base.specs.Model.{WellFormed, HasMode, IsMove, CommandsFit}
@@ -13,9 +14,6 @@ use Rattle.cca_base.specs.State.{IsState}
 use Rattle.cca_base.specs.Successors.{IsCommanded, Nominal, Costs}
 
 -- ---- there is one
-
-stands_at : (moves : List Move) (x : Move) → (h : Contains moves x) → slice_get moves h.0 ≡ Some x
-stands_at moves x h = slice_get-get_or moves h.0 x h.1 ∙ ap Some h.2
 
 -- two moves with one command, of which one stands before the other, do not leave one state
 apart : (moves : List Move) (s : List ℕ) (i j : ℕ) (a b : Move) → CommandsFit moves → i < j → slice_get moves i ≡ Some a → slice_get moves j ≡ Some b → a.command ≡ b.command
@@ -30,8 +28,8 @@ apart moves s i j a b fit before x y same at there =
 one_commanded : (m : PlantModel) (s : List ℕ) (k : Option ℕ) (a b : Move) → CommandsFit m.moves → IsCommanded m s k a → IsCommanded m s k b → a ≡ b
 one_commanded m s k a b fit h g =
     let same : a.command ≡ b.command = same_Some a.command b.command (sym h.command ∙ g.command) in
-    let x = stands_at m.moves a h.of_model in
-    let y = stands_at m.moves b g.of_model in
+    let x = member_at m.moves a h.of_model in
+    let y = member_at m.moves b g.of_model in
     elim (cases_order h.of_model.0 g.of_model.0) [
       | inl e ↦ same_Some a b (sym x ∙ ap (slice_get m.moves) e ∙ y)
       | inr (inl before) ↦ absurd (apart m.moves s h.of_model.0 g.of_model.0 a b fit before x y same h.source g.source)

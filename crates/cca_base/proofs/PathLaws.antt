@@ -4,8 +4,8 @@ use Rattle.std.proofs.lemmas.Bool.{cases_Bool, cases_eq, cases_order, eqb-true, 
 use Rattle.std.proofs.lemmas.List.{length-append}
 use Rattle.std.proofs.lemmas.List.Elements.{All-contains, All-head, All-tail, Contains-append_left, Contains-push, Contains-push_cases}
 use Rattle.std.proofs.lemmas.List.Kept.{AllPairs-cons}
-use Rattle.cca_base.proofs.Members.{all_from, contains_here, contains_there, contains_none, to_filter, from_filter}
 use Rattle.list_laws.proofs.Pairwise.{AllPairs-head, AllPairs-tail}
+use Rattle.list_laws.proofs.Members.{all_from, contains_here, contains_there, contains_none, to_filter, from_filter}
 use Rattle.cca_base.specs.Relations.{numbers_below, PathBy, AncestorBy, IsAcyclicBy, IsFreeBy, TakesEffectsFirstBy, IsCycleBy, IsShownCycleBy}
 
 -- ---- numbers in order
@@ -47,7 +47,7 @@ numbers_rise zero = λ i j d lt within. absurd (omega arith)
 numbers_rise (suc n) = rising_push (numbers_below n) n (numbers_rise n) (numbers_are_below n)
 
 -- without c, numbers that are all greater stay
-pub keeps_all : (c : ℕ) (xs : List ℕ) → All (λ x. c < x) xs → filter (λ d. not (d == c)) xs ≡ xs
+keeps_all : (c : ℕ) (xs : List ℕ) → All (λ x. c < x) xs → filter (λ d. not (d == c)) xs ≡ xs
 keeps_all c [] above = refl
 keeps_all c (x ∷ xs) above =
     let other : x ≢ c = λ e. (let lt : c < x = All-head (λ x. c < x) x xs above in omega (arith, e)) in

@@ -1,7 +1,7 @@
 -- Members of a set of small numbers.
-use Rattle.std.proofs.Common.{◌≡◌, ℕ, ◌*◌, ◌%◌, ◌<◌, ◌≤◌, ◌^◌, ◌+◌, ◌-◌, ◌≢◌, false, ◌||◌, ◌&&◌, eqb, ltb, sym, ap, subst, ◌∙◌, arith, bit_or, bit_and, max, min, inl, inr}
+use Rattle.std.proofs.Common.{◌≡◌, ℕ, ◌*◌, ◌%◌, ◌<◌, ◌≤◌, ◌^◌, ◌+◌, ◌-◌, ◌≢◌, ◌==◌, true, false, ◌||◌, ◌&&◌, eqb, ltb, sym, ap, subst, ◌∙◌, arith, bit_or, bit_and, max, min, inl, inr}
 use Rattle.std.specs.Int.{bit_at}
-use Rattle.std.proofs.lemmas.Bool.{le-ltb, lt-ltb, cases_lt}
+use Rattle.std.proofs.lemmas.Bool.{le-ltb, lt-ltb, cases_lt, eqb-true}
 use Rattle.std.proofs.lemmas.Bool.Decides.{nat_tests}
 use Rattle.std.proofs.lemmas.Nat.{or_lt, or_block, pow_pos}
 use Rattle.std.proofs.lemmas.Nat.Bits.{bit_at_above, bit_at_or, bit_at_and, bit_at_ones, bit_at_ones_above, bit_at_cat_low, bit_at_cat_high, same_from_bits, bit_at-zero, bit_at-pow_same, bit_at-pow_other, bit_at-lt}
@@ -86,3 +86,7 @@ with_high w high low n h k l =
     ∙ sym both ∙ ap (bit_or (high * 2 ^ w + low)) (sym split)
 
 pub ruleset members = (has-with_number, has-empty, has-or, has-and)
+
+-- a set that the union does not change has all of the other
+pub within : (a b v : ℕ) → (bit_or a b == b) ≡ true → has a v ≡ true → has b v ≡ true
+within a b v h k = subst (λ s. has s v ≡ true) (eqb-true (bit_or a b) b h) (has-or a b v ∙ ap (λ x. x || has b v) k)

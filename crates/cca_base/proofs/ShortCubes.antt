@@ -1,11 +1,11 @@
 -- A cube of one pair at most is in order.
 use Rattle.std.proofs.Common.{◌<◌, ℕ, List, [], ◌∷◌, length, All, Contains, refl, sym, ap, inl, inr, arith}
 use Rattle.std.proofs.lemmas.List.Sorted.{IsPermutation-refl}
+use Rattle.list_laws.proofs.Members.{contains_cases, contains_none}
 use Rattle.cca_base.specs.declared.cube.Pair.{Pair}
 use Rattle.cca_base.specs.Accepted.{CompiledModel, IsCompiled}
 use Rattle.cca_base.specs.Implicants.{Needs}
 use Rattle.cca_base.specs.Orders.{AreInOrder, IsSorted, numbers_below}
-use Rattle.cca_base.proofs.Members.{contains_cases, contains_none}
 use Rattle.cca_base.proofs.PathLaws.{all_taken, below_contains}
 
 none_in_order : (order : List ℕ) → AreInOrder order []

@@ -1,16 +1,18 @@
 -- Pairs that are put into the order of their components.
-use Rattle.std.proofs.Common.{◌≡◌, ◌≢◌, ◌<◌, ◌≤◌, ◌+◌, ◌==◌, ℕ, not, List, [], ◌∷◌, ◌++◌, length, get_or, take, drop, All, AllPairs, Contains, filter, inl, inr, refl, sym, ap, subst, ◌∙◌, arith}
+use Rattle.std.proofs.Common.{◌≡◌, ◌≢◌, ◌<◌, ◌≤◌, ◌+◌, ◌==◌, ℕ, not, List, [], ◌∷◌, ◌++◌, length, get_or, take, drop, All, AllPairs, Contains, filter, inl, inr, refl, sym, ap, subst, ◌∙◌, arith, slice_get, Some}
 use Rattle.std.proofs.lemmas.Bool.{cases_order, eq-eqb, not_from_true, false≢true}
 use Rattle.std.proofs.lemmas.List.{append-nil, append_assoc, take_more, take_all, drop_more, drop_all, get_or_default}
 use Rattle.std.proofs.lemmas.List.Elements.{All-contains, All-nil, All-push, Contains-push, Contains-push_cases, Contains-append_left}
 use Rattle.std.proofs.lemmas.List.Kept.{AllPairs-cons}
-use Rattle.cca_base.proofs.Members.{all_from, contains_cases, contains_none, from_filter}
+use Rattle.std.proofs.lemmas.List.Sorted.{All-permutation, IsPermutation-sym}
+use Rattle.list_laws.proofs.Members.{all_from, contains_cases, contains_none, from_filter}
 use Rattle.cca_base.proofs.PathLaws.{all_taken, below_contains}
 use Rattle.cca_base.specs.Cube.{IsCube, Lacks}
 use Rattle.cca_base.specs.Orders.{AreInOrder, IsSorted}
 use Rattle.cca_base.specs.Relations.{numbers_below, TakesEffectsFirstBy}
 use Rattle.cca_base.specs.declared.cube.Pair.{Pair}
-use Rattle.cca_base.proofs.PermutationLaws.{same_permutation}
+use Rattle.cca_base.specs.State.{Extends}
+use Rattle.list_laws.proofs.Permutations.{same_permutation}
 
 -- of one component there is one pair
 one_pair : (pairs : List Pair) (p q : Pair) → IsCube pairs → Contains pairs p → Contains pairs q → p.item ≡ q.item → p ≡ q
@@ -101,3 +103,11 @@ module _ (order : List ℕ) (pairs : List Pair) where
         same = same_permutation pairs sorted (apart pairs once) (apart sorted differ.0) (λ p among. h.found p among (inside p among)) (λ p among. All-contains (Contains pairs) sorted p h.origin among);
         in_order = in_order;
       }
+
+-- pairs stand where the same pairs in order do
+pub held_plain : (order s : List ℕ) (plain sorted : List Pair) → IsSorted order plain sorted → Extends s sorted → Extends s plain
+held_plain order s plain sorted is held = All-permutation (λ (p : Pair). slice_get s p.item ≡ Some p.value) sorted plain (IsPermutation-sym plain sorted is.same) held
+
+-- and the other way
+pub held_sorted : (order s : List ℕ) (plain sorted : List Pair) → IsSorted order plain sorted → Extends s plain → Extends s sorted
+held_sorted order s plain sorted is held = All-permutation (λ (p : Pair). slice_get s p.item ≡ Some p.value) plain sorted is.same held

@@ -1,13 +1,14 @@
 -- The pairs of a state, and states that extend them.
 use Rattle.std.proofs.Common.{◌≡◌, ◌+◌, ◌<◌, ◌≤◌, ◌++◌, ℕ, List, [], ◌∷◌, length, slice_get, Some, All, ap, subst, arith}
 use Rattle.std.proofs.lemmas.Option.{slice_get_within, get_or_from_slice_get}
+use Rattle.list_laws.proofs.Members.{all_from}
 use Rattle.cca_base.specs.declared.cube.Pair.{Pair}
 use Rattle.cca_base.specs.PlantModel.{PlantModel}
 use Rattle.cca_base.specs.Cube.{Lacks}
 use Rattle.cca_base.specs.Model.{HasMode}
 use Rattle.cca_base.specs.Repairs.{pairs_from, pairs_of}
 use Rattle.cca_base.specs.State.{IsState, Extends}
-use Rattle.cca_base.proofs.Members.{all_from, stands_in}
+use Rattle.cca_base.proofs.Members.{stands_in}
 
 -- one mode more is one pair more
 pairs_push : (k : ℕ) (s : List ℕ) (n x : ℕ) → n ≡ k + length s → pairs_from k (s ++ x ∷ []) ≡ pairs_from k s ++ record { item = n; value = x } ∷ []

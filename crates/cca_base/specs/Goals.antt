@@ -1,11 +1,11 @@
 -- Which replies are good for a goal.
-use Rattle.std.specs.Prelude.{◌≡◌, ◌≢◌, ℕ, ◌⊎◌, List, ◌∷◌, ◌++◌, Some, All, Contains, slice_get}
+use Rattle.std.specs.Prelude.{◌≡◌, ◌≢◌, ℕ, ◌⊎◌, List, ◌∷◌, ◌++◌, Some, Contains, slice_get}
 use Rattle.cca_base.specs.declared.cube.Pair.{Pair}
 use Rattle.cca_base.specs.declared.events.Reply.{Reply}
 use Rattle.cca_base.specs.declared.events.Reply.TheVariants.{Idle, Send, Achieved, Unreachable}
 use Rattle.cca_base.specs.PlantModel.{PlantModel}
 use Rattle.cca_base.specs.State.{Extends}
-use Rattle.cca_base.specs.Steps.{Step, AllowedPlan, Reach}
+use Rattle.cca_base.specs.Steps.{Step, AllowedPlan, Reach, AreReached}
 use Rattle.cca_base.specs.Implicants.{Ancestor}
 
 -- the command is a step; its component is that of a pair of the goal that the state does not hold, or an ancestor of one
@@ -29,7 +29,7 @@ pub record IsFirstUnreached (m : PlantModel) (s : List ℕ) (goal : List Pair) (
   pub before : List Pair
   pub after : List Pair
   pub split : goal ≡ before ++ p ∷ after
-  pub reached : All (λ q. Reach m s q.item q.value) before
+  pub reached : AreReached m s before
   pub unreached : Reach m s p.item p.value → ⊥
 
 -- the reply is right for the state and the goal; while there is a goal, it is never idle

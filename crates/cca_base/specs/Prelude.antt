@@ -13,13 +13,13 @@ pub use Rattle.cca_base.specs.Names.{is_name, is_reserved, is_word, is_word_byte
 pub use Rattle.cca_base.specs.Orders.{IsEffectsFirst, IsFirstMissing, IsSorted}
 pub use Rattle.cca_base.specs.Plans.{IsFirstWorld, IsRoute, Promising}
 pub use Rattle.cca_base.specs.PlantModel.{PlantModel}
-pub use Rattle.cca_base.specs.Refusals.{bare, stop_code}
+pub use Rattle.cca_base.specs.Refusals.{bare, stop_code, Answers}
 pub use Rattle.cca_base.specs.Relations.{numbers_below, AreExactly, IsAcyclicBy, IsEffectsFirstBy, IsShownCycleBy}
 pub use Rattle.cca_base.specs.Repairs.{pairs_of}
 pub use Rattle.cca_base.specs.Runs.{is_send, is_unreachable, reply_of}
 pub use Rattle.cca_base.specs.Sets.{has}
 pub use Rattle.cca_base.specs.Shown.{CanShow, Clash, IsConflict, KeepsOfClash}
 pub use Rattle.cca_base.specs.State.{start_modes, Extends, Follows, HasValue, HasWorld, HasWorlds, Holds, IsState, IsWorld}
-pub use Rattle.cca_base.specs.Steps.{support, Run, Step}
+pub use Rattle.cca_base.specs.Steps.{support, AreReached, Run, Step}
 pub use Rattle.cca_base.specs.Successors.{ChangeCosts, Costs, IsCommanded, Nominal}
 pub use Rattle.cca_base.specs.Trace.{command_of, start, Changes, ExecutiveState, IsReply, MayCome, Observed, TickShows}

@@ -1,5 +1,5 @@
 -- Steps by commands, plans of them, and which steps are allowed.
-use Rattle.std.specs.Prelude.{◌≡◌, ℕ, ◌⊎◌, IsTrue, List, [], ◌∷◌, slice_get, slice_set, Some, Contains}
+use Rattle.std.specs.Prelude.{◌≡◌, ℕ, ◌⊎◌, IsTrue, List, [], ◌∷◌, slice_get, slice_set, Some, All, Contains}
 use Rattle.cca_base.specs.declared.cube.Pair.{Pair}
 use Rattle.cca_base.specs.declared.model.Move.{Move}
 use Rattle.cca_base.specs.PlantModel.{PlantModel}
@@ -45,3 +45,7 @@ AllowedPlan m = Leads (Allowed m)
 -- some allowed plan ends with the component in the mode
 abbrev pub Reach : PlantModel → List ℕ → ℕ → ℕ → Type 0
 Reach m s c mode = (ks s2 : List ℕ) × AllowedPlan m s ks s2 × (slice_get s2 c ≡ Some mode)
+
+-- allowed plans reach each of the pairs
+abbrev pub AreReached : PlantModel → List ℕ → List Pair → Type 0
+AreReached m s pairs = All (λ p. Reach m s p.item p.value) pairs

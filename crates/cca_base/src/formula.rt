@@ -7,7 +7,6 @@ use crate::boxed::Boxed;
 use crate::list::List;
 use crate::sets::ValueSet;
 use crate::state::{State, World};
-use std::alloc::{AllocError, Global};
 
 /// What a formula asks about: a component's mode or a variable's value, by its number in the model.
 #[derive(Clone, Copy, Debug, PartialEq, Eq)]

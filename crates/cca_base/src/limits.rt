@@ -27,6 +27,9 @@ pub const MAX_NAME: usize = 32;
 /// The greatest cost of a failure; the least is 1.
 pub const MAX_COST: u32 = 1_000_000;
 
+/// The greatest weight of a mode; the least is 0.
+pub const MAX_WEIGHT: u32 = 1_000_000;
+
 /// The most prime implicants of a move.
 pub const MAX_WAYS: usize = 256;
 

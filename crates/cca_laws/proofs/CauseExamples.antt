@@ -4,14 +4,14 @@ use Rattle.std.specs.Prelude.{slice_get}
 use Rattle.std.proofs.lemmas.Bool.{false≢true}
 use Rattle.std.proofs.lemmas.Option.{same_Some}
 use Rattle.list_laws.proofs.Places.{value_at}
+use Rattle.list_laws.proofs.Members.{contains_cases, contains_none}
 use Rattle.cca_base.specs.declared.cube.Pair.{Pair}
 use Rattle.cca_base.specs.declared.model.Move.{Move}
 use Rattle.cca_base.specs.Sets.{has}
 use Rattle.cca_base.specs.Goals.{IsNeeded}
 use Rattle.cca_base.specs.Implicants.{Suffices, Needs, Ancestor, source_pair}
 use Rattle.cca_base.specs.Steps.{Step, Allowed}
-use Rattle.cca_base.proofs.Members.{contains_cases, contains_none}
-use Rattle.cca_laws.proofs.Tiny.{one_at, five_at}
+use Rattle.list_laws.proofs.Few.{one_at, five_at}
 use Rattle.cca_laws.proofs.FormulaExamples.{truth_mode}
 use Rattle.cca_laws.proofs.FreeMoves.{free_step, single_prime, free_needs_nothing}
 use Rattle.cca_laws.proofs.PlanLaws.{mends_itself}

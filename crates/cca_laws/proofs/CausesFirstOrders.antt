@@ -7,8 +7,8 @@ use Rattle.std.proofs.lemmas.List.Kept.{AllPairs-filter}
 use Rattle.std.proofs.lemmas.List.Sums.{sum_by-cons, sum_by_push}
 use Rattle.list_laws.proofs.Tests.{not_itself}
 use Rattle.cca_base.specs.Relations.{numbers_below, TakesEffectsFirstBy}
-use Rattle.cca_base.proofs.Members.{contains_cases, contains_there, contains_none, from_filter}
 use Rattle.list_laws.proofs.Pairwise.{AllPairs-head, AllPairs-tail}
+use Rattle.list_laws.proofs.Members.{contains_cases, contains_there, contains_none, from_filter}
 use Rattle.cca_base.proofs.PathLaws.{all_taken, other_stays, takes_out, IsClosedUnder}
 
 -- none comes twice, and what each needs comes after it

@@ -7,7 +7,7 @@ use Rattle.cca_base.specs.declared.model.Move.{Move}
 use Rattle.cca_base.proofs.NextModes.{repair_parts, of_chain_sound}
 use Rattle.cca_base.specs.Model.{WellFormed, IsFormula, IsNext, IsMended, IsInChain, RepairChain, is_broken, RepairsFit}
 use Rattle.cca_base.specs.Repairs.{Mending}
-use Rattle.cca_laws.proofs.Tiny.{two_at, below_one}
+use Rattle.list_laws.proofs.Few.{two_at, below_one}
 use Rattle.cca_laws.proofs.SmallModels.{small_fits, failures_fit, own_used}
 use Rattle.cca_laws.proofs.EdgeExamples.{always_fits}
 use Rattle.cca_laws.proofs.FreeMoves.{free_step}

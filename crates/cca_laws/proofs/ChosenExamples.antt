@@ -6,6 +6,7 @@ use Rattle.std.proofs.lemmas.Bool.{false≢true}
 use Rattle.std.proofs.lemmas.List.Elements.{All-nil}
 use Rattle.std.proofs.lemmas.Option.{same_Some}
 use Rattle.list_laws.proofs.Places.{value_at}
+use Rattle.list_laws.proofs.Members.{contains_none}
 use Rattle.cca_base.specs.declared.cube.Pair.{Pair}
 use Rattle.cca_base.specs.declared.model.Move.{Move}
 use Rattle.cca_base.specs.Formula.{truth}
@@ -16,8 +17,7 @@ use Rattle.cca_base.specs.State.{IsState, IsWorld}
 use Rattle.cca_base.specs.Steps.{Reach, AllowedPlan}
 use Rattle.cca_base.specs.Implicants.{PrimeImplicant, Suffices, source_pair}
 use Rattle.cca_base.specs.Choice.{IsWithinReach, IsOpenAt, ComesNearer}
-use Rattle.cca_base.proofs.Members.{contains_none}
-use Rattle.cca_laws.proofs.Tiny.{one_at, two_at, below_three}
+use Rattle.list_laws.proofs.Few.{one_at, two_at, below_three}
 use Rattle.cca_laws.proofs.FreeMoves.{free_prime, single_prime}
 use Rattle.cca_laws.proofs.ChoiceLaws.{open_free, none_away, one_away, least_cube, longer_is_later}
 use Rattle.cca_laws.proofs.FormulaExamples.{truth_mode, truth_either}

@@ -16,7 +16,7 @@ use Rattle.cca_base.specs.Model.{HasMode}
 use Rattle.cca_base.specs.State.{IsState, HasValue}
 use Rattle.cca_base.specs.Successors.{Nominal, IsCommanded, ChangeCosts, HasFailure}
 use Rattle.cca_base.specs.Estimates.{Consistent, IsEarlier}
-use Rattle.cca_laws.proofs.Tiny.{one_at, below_one, below_two, below_three}
+use Rattle.list_laws.proofs.Few.{one_at, below_one, below_two, below_three}
 use Rattle.cca_laws.proofs.SmallCosts.{nominal_costs, failure_costs, each_failure, unmoved, part_from_start, costs_of_two}
 use Rattle.cca_laws.proofs.FormulaExamples.{truth_mode, truth_iff, truth_both, truth_either}
 use Rattle.cca_laws.proofs.ValveExamples.{truth_flow, open_is_the_one}

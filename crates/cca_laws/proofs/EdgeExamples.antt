@@ -10,7 +10,7 @@ use Rattle.cca_base.specs.PlantModel.{PlantModel}
 use Rattle.cca_base.specs.Formula.{Printed, printed_step, fits_step}
 use Rattle.cca_base.specs.Model.{WellFormed, IsFormula, IsFailure, mode_counts, value_counts}
 use Rattle.cca_laws.proofs.SmallModels.{choices_fit, small_fits, mending_fits}
-use Rattle.cca_laws.proofs.Tiny.{one_at, two_at}
+use Rattle.list_laws.proofs.Few.{one_at, two_at}
 use Rattle.cca_laws.specs.Examples.{always_true, lamp, on_move, off_move}
 use Rattle.cca_laws.specs.EdgeExamples.{failing_lamp, WhichAreNames, ForeignFailure, CostsAtTheEdge, OutOfFirstUse, WhichAreChoices, two_letters, MostAreChoices, OneMoreIsTooMany}
 

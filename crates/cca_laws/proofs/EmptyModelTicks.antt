@@ -1,12 +1,12 @@
 -- The empty model is compiled, and ticks.
 use Rattle.std.proofs.Common.{◌≡◌, ℕ, inl, inr, List, [], ◌∷◌, length, refl, sym, ◌∙◌, arith, None}
 use Rattle.std.proofs.lemmas.Bool.{false≢true}
+use Rattle.list_laws.proofs.Members.{contains_none}
 use Rattle.cca_base.specs.declared.events.Event.TheVariants as event
 use Rattle.cca_base.specs.declared.events.Reply.TheVariants.{Idle}
 use Rattle.cca_base.specs.declared.events.Shown.TheVariants.{Estimated}
 use Rattle.cca_base.proofs.EmptyModel.{empty_well_formed}
 use Rattle.cca_base.proofs.SetLaws.{has-empty}
-use Rattle.cca_base.proofs.Members.{contains_none}
 use Rattle.cca_base.specs.Model.{empty_model}
 use Rattle.cca_base.specs.Implicants.{Needs, Path}
 use Rattle.cca_base.specs.Accepted.{IsCompiled}

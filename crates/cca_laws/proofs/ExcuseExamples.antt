@@ -8,7 +8,7 @@ use Rattle.cca_base.specs.Cube.{IsRising}
 use Rattle.cca_base.specs.Formula.{truth}
 use Rattle.cca_base.specs.State.{IsWorld, HasValue, Extends}
 use Rattle.cca_base.specs.Runs.{CanBeSeen, LeavesPlantAlone}
-use Rattle.cca_laws.proofs.Tiny.{one_at, below_one}
+use Rattle.list_laws.proofs.Few.{one_at, below_one}
 use Rattle.cca_laws.proofs.ValveExamples.{rule_is, start_world}
 use Rattle.cca_laws.proofs.RightExamples.{observed, one_rises}
 use Rattle.cca_laws.specs.ValveExamples.{valve_model, flow_rule}

@@ -12,7 +12,7 @@ use Rattle.cca_base.specs.Model.{HasMode}
 use Rattle.cca_base.specs.State.{HasValue, Extends}
 use Rattle.cca_base.specs.Successors.{HasFailure}
 use Rattle.cca_base.specs.Estimates.{Consistent, IsEarlier}
-use Rattle.cca_laws.proofs.Tiny.{one_at, below_one, below_two}
+use Rattle.list_laws.proofs.Few.{one_at, below_one, below_two}
 use Rattle.cca_laws.proofs.EstimateLaws.{one_estimate}
 use Rattle.cca_laws.proofs.FormulaExamples.{truth_mode, truth_iff, truth_both}
 use Rattle.cca_laws.proofs.ValveExamples.{truth_flow}

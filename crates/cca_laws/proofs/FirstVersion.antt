@@ -2,10 +2,10 @@
 use Rattle.std.proofs.Common.{◌≡◌, ◌⊎◌, ℕ, zero, suc, true, false, inl, inr, List, slice_index, IsTrue, Contains, refl, sym, subst}
 use Rattle.std.proofs.lemmas.Bool.{cases_Bool}
 use Rattle.std.proofs.lemmas.List.Elements.{All-contains}
+use Rattle.list_laws.proofs.Members.{all_from}
 use Rattle.cca_base.specs.declared.model.Move.{Move}
 use Rattle.cca_base.specs.Model.{RepairsFit, IsInChain, IsNext, MendsAtOnce, is_broken}
 use Rattle.cca_base.proofs.NextModes.{repair_of, chain_one, sound_chain, at_once_fits}
-use Rattle.cca_base.proofs.Members.{all_from}
 use Rattle.cca_laws.specs.FirstVersion.{RulesAsBefore, FirstIsSecond, MendingsAsBefore}
 
 -- a repair is one of its source

@@ -1,6 +1,7 @@
 -- The prime implicants and steps of moves that are free, and the prime implicants of moves that need one pair.
 use Rattle.std.proofs.Common.{◌≡◌, ◌≢◌, ℕ, Bool, true, inl, inr, List, [], ◌∷◌, All, Contains, slice_get, slice_set, Some, refl, sym, subst, arith}
 use Rattle.std.proofs.lemmas.List.Elements.{All-contains, All-nil}
+use Rattle.list_laws.proofs.Members.{contains_cases, contains_here, contains_none}
 use Rattle.cca_base.specs.declared.cube.Pair.{Pair}
 use Rattle.cca_base.specs.declared.formula.Formula.TheOpen.{Formula-F}
 use Rattle.cca_base.specs.declared.formula.Formula.TheFolds.{fold-roll-Formula}
@@ -13,8 +14,7 @@ use Rattle.cca_base.specs.Implicants.{PrimeImplicant, Suffices, Needs, source_pa
 use Rattle.cca_base.specs.Model.{HasMode}
 use Rattle.cca_base.specs.State.{Follows}
 use Rattle.cca_base.specs.Steps.{Step, support}
-use Rattle.cca_base.proofs.Members.{contains_cases, contains_here, contains_none}
-use Rattle.cca_laws.proofs.Tiny.{one_at}
+use Rattle.list_laws.proofs.Few.{one_at}
 use Rattle.cca_laws.specs.Examples.{always_true}
 
 pub always : (s w : List ℕ) → truth s w always_true ≡ true

@@ -6,7 +6,7 @@ use Rattle.cca_base.specs.declared.cube.Pair.{Pair}
 use Rattle.cca_base.specs.Steps.{Step, Allowed}
 use Rattle.cca_base.specs.Choice.{IsChosen, Now, PicksForGoal}
 use Rattle.cca_laws.specs.Examples.{on_move, off_move, lamp, lamp_compiled, lit, LampIsLit}
-use Rattle.cca_laws.proofs.Tiny.{one_at}
+use Rattle.list_laws.proofs.Few.{one_at}
 use Rattle.cca_laws.proofs.FreeMoves.{free_prime, free_step}
 use Rattle.cca_laws.proofs.ChoiceLaws.{open_free, none_away, one_away, least_cube}
 use Rattle.cca_laws.proofs.PlanLaws.{mends_itself}

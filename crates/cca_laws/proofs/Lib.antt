@@ -10,7 +10,6 @@ pub mod Decided
 pub mod Minimal
 pub mod EmptyModelTicks
 pub mod LampIsLit
-pub mod Tiny
 pub mod SmallModels
 pub mod FormulaExamples
 pub mod ValveExamples
@@ -42,6 +41,6 @@ pub mod MendRoute
 pub mod ChainExamples
 pub mod FirstVersion
 pub mod CausesFirstOrders
-pub mod Between
 pub mod StandingPrimes
 pub mod OneRoute
+pub mod WeakerReplies

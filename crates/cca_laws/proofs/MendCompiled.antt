@@ -1,13 +1,13 @@
 -- The model with a reset is compiled: its needs, its order and its bounds.
 use Rattle.std.proofs.Common.{◌≡◌, ℕ, zero, suc, inl, inr, List, [], ◌∷◌, Contains, refl, sym, ap, subst, arith}
+use Rattle.list_laws.proofs.Members.{contains_cases, contains_here, contains_none}
 use Rattle.cca_base.specs.declared.cube.Pair.{Pair}
 use Rattle.cca_base.specs.declared.model.Move.{Move}
 use Rattle.cca_base.specs.Accepted.{Accepted, AreWays, HasFewWays}
 use Rattle.cca_base.specs.Bounds.{AreBounds, IsBound}
 use Rattle.cca_base.specs.Implicants.{PrimeImplicant, Needs, IsAcyclic, Path}
 use Rattle.cca_base.specs.Orders.{IsEffectsFirst, IsFree}
-use Rattle.cca_base.proofs.Members.{contains_cases, contains_here, contains_none}
-use Rattle.cca_laws.proofs.Tiny.{five_at, below_two}
+use Rattle.list_laws.proofs.Few.{five_at, below_two}
 use Rattle.cca_laws.proofs.FreeMoves.{free_ways, free_lacks, free_needs_nothing}
 use Rattle.cca_laws.specs.Examples.{always_true}
 use Rattle.cca_laws.specs.MendExamples.{reset_move, z_move, ok_move, go_move, back_move, mending, c_is_z, MendingIsCompiled}

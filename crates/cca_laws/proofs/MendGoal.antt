@@ -3,11 +3,11 @@ use Rattle.std.proofs.Common.{◌≡◌, ℕ, zero, suc, false, inl, inr, [], �
 use Rattle.std.specs.Prelude.{slice_get}
 use Rattle.std.proofs.lemmas.Bool.{false≢true}
 use Rattle.std.proofs.lemmas.Option.{same_Some, none-some}
+use Rattle.list_laws.proofs.Members.{contains_cases, contains_here, contains_there, contains_none}
 use Rattle.cca_base.specs.declared.cube.Pair.{Pair}
 use Rattle.cca_base.specs.Model.{is_broken}
 use Rattle.cca_base.specs.Plans.{IsWanted, IsBackGoal}
 use Rattle.cca_base.specs.Steps.{Reach}
-use Rattle.cca_base.proofs.Members.{contains_cases, contains_here, contains_there, contains_none}
 use Rattle.cca_base.proofs.NextModes.{next_of_mended}
 use Rattle.cca_laws.proofs.MendModel.{only_m_has_next, well_formed}
 use Rattle.cca_laws.proofs.MendCompiled.{mending_is_compiled}

@@ -5,6 +5,7 @@ use Rattle.std.proofs.lemmas.Bool.{false≢true}
 use Rattle.std.proofs.lemmas.List.Elements.{All-nil}
 use Rattle.std.proofs.lemmas.Option.{same_Some, none-some}
 use Rattle.list_laws.proofs.Places.{value_at}
+use Rattle.list_laws.proofs.Members.{contains_cases, contains_here, contains_none}
 use Rattle.cca_base.specs.declared.cube.Pair.{Pair}
 use Rattle.cca_base.specs.declared.model.Move.{Move}
 use Rattle.cca_base.specs.Accepted.{AreWays}
@@ -13,8 +14,7 @@ use Rattle.cca_base.specs.Implicants.{PrimeImplicant, Suffices, source_pair}
 use Rattle.cca_base.specs.Model.{HasMode}
 use Rattle.cca_base.specs.Sets.{has}
 use Rattle.cca_base.specs.State.{IsState, IsWorld, Extends}
-use Rattle.cca_base.proofs.Members.{contains_cases, contains_here, contains_none}
-use Rattle.cca_laws.proofs.Tiny.{one_at, two_at, below_two}
+use Rattle.list_laws.proofs.Few.{one_at, two_at, below_two}
 use Rattle.cca_laws.proofs.FormulaExamples.{truth_mode}
 use Rattle.cca_laws.proofs.FreeMoves.{free_ways, single_prime}
 use Rattle.cca_laws.specs.MendExamples.{reset_move, z_move, ok_move, go_move, back_move, mending, mending_compiled, c_is_z}

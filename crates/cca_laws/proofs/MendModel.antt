@@ -8,7 +8,7 @@ use Rattle.cca_base.specs.declared.formula.Subject.TheVariants.{Component}
 use Rattle.cca_base.specs.declared.model.Move.{Move}
 use Rattle.cca_base.specs.Formula.{Printed, fits_step}
 use Rattle.cca_base.specs.Model.{WellFormed, IsFormula, IsNext, is_repair_of, IsComplete}
-use Rattle.cca_laws.proofs.Tiny.{five_at}
+use Rattle.list_laws.proofs.Few.{five_at}
 use Rattle.cca_laws.proofs.SmallModels.{small_fits, failures_fit, mending_fits, own_used}
 use Rattle.cca_laws.proofs.EdgeExamples.{always_fits}
 use Rattle.cca_laws.proofs.FormulaExamples.{mode_printed}

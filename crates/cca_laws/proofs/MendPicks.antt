@@ -12,7 +12,7 @@ use Rattle.cca_base.specs.Implicants.{PrimeImplicant}
 use Rattle.cca_base.specs.Model.{is_broken}
 use Rattle.cca_base.specs.Orders.{IsNextOf}
 use Rattle.cca_base.specs.Steps.{Reach}
-use Rattle.cca_laws.proofs.Tiny.{one_at}
+use Rattle.list_laws.proofs.Few.{one_at}
 use Rattle.cca_laws.proofs.ChoiceLaws.{open_free, none_away, one_away, least_cube}
 use Rattle.cca_laws.proofs.FreeMoves.{free_prime}
 use Rattle.cca_laws.proofs.MendImplicants.{z_is_prime, only_z}

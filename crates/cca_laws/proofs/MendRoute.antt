@@ -5,7 +5,7 @@ use Rattle.std.proofs.lemmas.Option.{same_Some}
 use Rattle.cca_base.specs.declared.cube.Pair.{Pair}
 use Rattle.cca_base.specs.Plans.{Whole}
 use Rattle.cca_base.specs.State.{Extends}
-use Rattle.cca_laws.proofs.Tiny.{one_at, two_at}
+use Rattle.list_laws.proofs.Few.{one_at, two_at}
 use Rattle.cca_laws.proofs.MendCompiled.{mending_is_compiled}
 use Rattle.cca_laws.proofs.MendSteps.{reset_step, z_step, ok_step, go_step, back_step}
 use Rattle.cca_laws.specs.MendExamples.{mending_compiled, c_is_ok, b_is_x, b_is_y, RouteComesBack}

@@ -11,7 +11,7 @@ use Rattle.cca_base.specs.Repairs.{Mending}
 use Rattle.cca_base.specs.Sets.{has}
 use Rattle.cca_base.specs.State.{Follows}
 use Rattle.cca_base.specs.Steps.{Step, Run, Allowed, support}
-use Rattle.cca_laws.proofs.Tiny.{two_at, below_two}
+use Rattle.list_laws.proofs.Few.{two_at, below_two}
 use Rattle.cca_laws.proofs.FormulaExamples.{truth_mode}
 use Rattle.cca_laws.proofs.FreeMoves.{free_step}
 use Rattle.cca_laws.proofs.MendImplicants.{only_world, state_of}

@@ -6,6 +6,7 @@ use Rattle.std.proofs.lemmas.List.{get_or_default}
 use Rattle.std.proofs.lemmas.List.Elements.{All-contains}
 use Rattle.std.proofs.lemmas.List.Kept.{AllPairs-cons, AllPairs-filter}
 use Rattle.list_laws.proofs.Kept.{filter_less}
+use Rattle.list_laws.proofs.Members.{all_from, contains_cases, contains_here, contains_there, contains_none, to_filter, from_filter}
 use Rattle.cca_base.specs.declared.cube.Pair.{Pair}
 use Rattle.cca_base.specs.declared.model.Move.{Move}
 use Rattle.cca_base.specs.PlantModel.{PlantModel}
@@ -14,7 +15,7 @@ use Rattle.cca_base.specs.Model.{HasMode}
 use Rattle.cca_base.specs.Implicants.{Suffices, PrimeImplicant, source_pair}
 use Rattle.cca_base.specs.Repairs.{pairs_from}
 use Rattle.cca_laws.specs.Conditions.{SufficientCubesHavePrimes}
-use Rattle.cca_base.proofs.Members.{all_from, contains_cases, contains_here, contains_there, contains_none, to_filter, from_filter, from_pairs}
+use Rattle.cca_base.proofs.Members.{from_pairs}
 use Rattle.cca_laws.proofs.Decided.{dec_follows, dec_equal}
 
 -- one element for which it holds, or none

@@ -4,14 +4,14 @@ use Rattle.std.specs.Prelude.{slice_get, slice_index, IsTrue, ◌↔◌}
 use Rattle.std.proofs.lemmas.Bool.{cases_eq, both_ways, eq-eqb, ne_eqb}
 use Rattle.std.proofs.lemmas.List.Elements.{All-nil}
 use Rattle.std.proofs.lemmas.Option.{same_Some, none-some}
+use Rattle.list_laws.proofs.Members.{contains_cases, contains_none, contains_here}
 use Rattle.cca_base.specs.declared.cube.Pair.{Pair}
 use Rattle.cca_base.specs.Cube.{IsUnion}
 use Rattle.cca_base.specs.Sets.{has, with_number}
 use Rattle.cca_base.specs.State.{HasValue}
 use Rattle.cca_base.specs.Trace.{ExecutiveState, start, MayBeSeen, MayBeObserved, HasOneValue}
-use Rattle.cca_base.proofs.Members.{contains_cases, contains_none, contains_here}
 use Rattle.cca_base.proofs.SetLaws.{has-with_number}
-use Rattle.cca_laws.proofs.Tiny.{one_at}
+use Rattle.list_laws.proofs.Few.{one_at}
 use Rattle.cca_laws.proofs.ValveExamples.{rule_is, start_world, nothing_flows}
 use Rattle.cca_laws.specs.ValveExamples.{valve_model, flow_rule}
 use Rattle.cca_laws.specs.ObservedExamples.{loose, x_low}

@@ -2,13 +2,13 @@
 use Rattle.std.proofs.Common.{inr, List, [], refl, sym, ap, subst, arith}
 use Rattle.std.specs.Prelude.{Contains}
 use Rattle.std.proofs.lemmas.Bool.{false≢true}
+use Rattle.list_laws.proofs.Members.{contains_here}
 use Rattle.cca_base.specs.declared.cube.Pair.{Pair}
 use Rattle.cca_base.specs.declared.events.Event.TheVariants as event
 use Rattle.cca_base.specs.Cube.{Lacks}
 use Rattle.cca_base.specs.Trace.{ExecutiveState}
 use Rattle.cca_base.specs.Runs.{LeavesPlantAlone}
-use Rattle.cca_base.proofs.Members.{contains_here}
-use Rattle.cca_laws.proofs.Tiny.{one_at}
+use Rattle.list_laws.proofs.Few.{one_at}
 use Rattle.cca_laws.proofs.RightExamples.{can_be_seen, wrong}
 use Rattle.cca_laws.specs.ObservedExamples.{x_low}
 use Rattle.cca_laws.specs.RightExamples.{no_flow, wrong_moment}

@@ -3,13 +3,13 @@ use Rattle.std.proofs.Common.{◌≡◌, ◌<◌, ℕ, zero, suc, inl, inr, [], 
 use Rattle.std.specs.Prelude.{slice_get, slice_index}
 use Rattle.std.proofs.lemmas.List.Sorted.{IsPermutation-append_comm}
 use Rattle.std.proofs.lemmas.Option.{same_Some, none-some}
+use Rattle.list_laws.proofs.Members.{contains_cases, contains_none, contains_here, contains_there}
 use Rattle.cca_base.specs.declared.cube.Pair.{Pair}
 use Rattle.cca_base.specs.Cube.{IsRising}
 use Rattle.cca_base.specs.State.{IsWorld, HasValue}
 use Rattle.cca_base.specs.Orders.{IsSorted}
 use Rattle.cca_base.specs.Trace.{ExecutiveState, HasOneValue}
-use Rattle.cca_base.proofs.Members.{contains_cases, contains_none, contains_here, contains_there}
-use Rattle.cca_laws.proofs.Tiny.{below_two}
+use Rattle.list_laws.proofs.Few.{below_two}
 use Rattle.cca_laws.proofs.OneOrder.{one_sorted}
 use Rattle.cca_laws.specs.ObservedExamples.{loose, x_low, y_high, as_given, as_kept, PendingRises, NothingMirrored, GoalIsTurned, GoalIsKeptTurned, TickHasGoalTurned}
 use Rattle.cca_laws.specs.Laws.{NoneTwice}

@@ -5,6 +5,7 @@ use Rattle.std.proofs.lemmas.List.Sums.{sum_by-cons}
 use Rattle.std.proofs.lemmas.Option.{slice_get_within}
 use Rattle.std.proofs.lemmas.List.{ext_get_or}
 use Rattle.list_laws.proofs.Places.{some_at}
+use Rattle.list_laws.proofs.Members.{contains_cases, contains_here, contains_there, contains_none, from_filter}
 use Rattle.cca_base.specs.declared.cube.Pair.{Pair}
 use Rattle.cca_base.specs.declared.model.Move.{Move}
 use Rattle.cca_base.proofs.PathLaws.{all_taken, below_contains, numbers_within, other_stays}
@@ -16,7 +17,6 @@ use Rattle.cca_base.specs.Implicants.{Needs}
 use Rattle.cca_base.specs.Orders.{numbers_below, TakesEffectsFirst, IsEffectsFirst}
 use Rattle.cca_base.specs.Bounds.{AreNeeds, AreBounds}
 use Rattle.cca_base.specs.Accepted.{AreWays, IsCompiled}
-use Rattle.cca_base.proofs.Members.{contains_cases, contains_here, contains_there, contains_none, from_filter}
 use Rattle.cca_laws.proofs.OneOrder.{same_by_order, one_way_cubes}
 
 -- ---- the order

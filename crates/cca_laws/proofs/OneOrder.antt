@@ -1,5 +1,5 @@
 -- Lists that are determined by their elements and their order.
-use Rattle.std.proofs.Common.{◌≡◌, ◌<◌, ◌==◌, ℕ, not, zero, suc, List, [], ◌∷◌, length, slice_get, Some, All, AllPairs, Contains, filter, inl, inr, refl, sym, ap, subst, ◌∙◌, arith}
+use Rattle.std.proofs.Common.{◌≡◌, ◌<◌, ◌==◌, ℕ, not, zero, suc, List, [], ◌∷◌, length, All, AllPairs, Contains, filter, inl, inr, refl, sym, ap, subst, ◌∙◌, arith}
 use Rattle.std.specs.Ordering.{nat_cmp, ordering_reverse}
 use Rattle.std.specs.Cmp.{IsTotalOrder}
 use Rattle.std.specs.declared.cmp.Ordering.TheVariants.{Less, Equal, Greater}
@@ -7,7 +7,7 @@ use Rattle.std.proofs.lemmas.Bool.{cases_eq}
 use Rattle.std.proofs.lemmas.Cmp.{nat_cmp_total, on_total, then_total, lists_total}
 use Rattle.std.proofs.lemmas.List.Elements.{All-contains, All-cons, All-head}
 use Rattle.std.proofs.lemmas.List.Kept.{AllPairs-cons}
-use Rattle.std.proofs.lemmas.Option.{slice_get-get_or, slice_get_within, get_or_from_slice_get, same_Some}
+use Rattle.std.proofs.lemmas.Option.{same_Some}
 use Rattle.cca_base.specs.Accepted.{CompiledModel, IsCompiled}
 use Rattle.std.proofs.lemmas.List.Sorted.{Contains-permutation, IsPermutation-sym}
 use Rattle.std.specs.FinMap.{slice_cmp-IsAntisymmetric, nat_cmp-IsAntisymmetric}
@@ -15,11 +15,11 @@ use Rattle.list_laws.proofs.Orders.{then_equal, less_greater}
 use Rattle.list_laws.proofs.Tests.{not_itself}
 use Rattle.cca_base.specs.declared.cube.Pair.{Pair}
 use Rattle.list_laws.proofs.Pairwise.{AllPairs-head, AllPairs-tail}
+use Rattle.list_laws.proofs.Members.{contains_cases, contains_here, contains_there, contains_none, from_filter, member_at, at_member}
 use Rattle.cca_base.specs.PlantModel.{PlantModel}
 use Rattle.cca_base.specs.Cube.{IsUnion, pair_cmp, cube_cmp, IsBeforeCube}
 use Rattle.cca_base.specs.Orders.{numbers_below, TakesEffectsFirst, AreInOrder, IsSorted}
 use Rattle.cca_laws.specs.Laws.{NoneTwice, ComesBefore}
-use Rattle.cca_base.proofs.Members.{contains_cases, contains_here, contains_there, contains_none, from_filter}
 
 abbrev SameElements : {X : Type 0} → List X → List X → Type 0
 SameElements {X} a b = ((x : X) → Contains a x → Contains b x) × ((x : X) → Contains b x → Contains a x)
@@ -122,14 +122,8 @@ one_sorted order pairs a b once h k = ordered_same order a b once h.in_order k.i
 before_later : (c : ℕ) (order : List ℕ) (x y : ℕ) → ComesBefore order x y → ComesBefore (c ∷ order) x y
 before_later c order x y (i, j, at, there, lt) = (suc i, suc j, at, there, omega arith)
 
-contained_at : (xs : List ℕ) (x : ℕ) → (h : Contains xs x) → slice_get xs h.0 ≡ Some x
-contained_at xs x h = slice_get-get_or xs h.0 x h.1 ∙ ap Some h.2
-
-at_contained : (xs : List ℕ) (x i : ℕ) → slice_get xs i ≡ Some x → Contains xs x
-at_contained xs x i h = (i, slice_get_within xs i x h, get_or_from_slice_get xs i x x h)
-
 before_first : (c : ℕ) (order : List ℕ) (d : ℕ) → Contains order d → ComesBefore (c ∷ order) c d
-before_first c order d h = (0, suc h.0, refl, contained_at order d h, omega arith)
+before_first c order d h = (0, suc h.0, refl, member_at order d h, omega arith)
 
 -- what comes before in the longer list, and is not its head, comes before in the shorter
 before_rest : (c : ℕ) (order : List ℕ) (x y : ℕ) → (x ≡ c → ⊥) → ComesBefore (c ∷ order) x y → ComesBefore order x y
@@ -140,7 +134,7 @@ before_rest c order x y ne (suc i, suc j, at, there, lt) = (i, j, at, there, ome
 -- what comes after something in the longer list stands in the shorter
 after_there : (c : ℕ) (order : List ℕ) (x y : ℕ) → ComesBefore (c ∷ order) x y → Contains order y
 after_there c order x y (i, zero, at, there, lt) = absurd (omega arith)
-after_there c order x y (i, suc j, at, there, lt) = at_contained order y j there
+after_there c order x y (i, suc j, at, there, lt) = at_member order j y there
 
 abbrev Earlier : List ℕ → Pair → Pair → Type 0
 Earlier order p q = ComesBefore order p.item q.item

@@ -1,36 +1,31 @@
 -- A state and a goal have one route: one whole plan, one way back from its end, and one way to show them.
-use Rattle.std.proofs.Common.{◌≡◌, ℕ, List, [], ◌∷◌, length, sym, ap, subst, ◌∙◌, arith}
+use Rattle.std.proofs.Common.{◌≡◌, ℕ, List, [], ◌∷◌, sym, ap, subst, ◌∙◌, arith}
 use Rattle.cca_base.specs.declared.cube.Pair.{Pair}
 use Rattle.cca_base.specs.declared.events.PlanEnd.{PlanEnd}
 use Rattle.cca_base.specs.declared.events.PlanEnd.TheVariants.{Plan, Long}
 use Rattle.cca_base.specs.declared.events.Route.{Route}
 use Rattle.cca_base.specs.Accepted.{CompiledModel, IsCompiled}
-use Rattle.cca_base.specs.Orders.{numbers_below}
 use Rattle.cca_base.specs.Plans.{Whole, IsBackGoal, Back, ShowsPlan, ShowsBack, IsRoute}
 use Rattle.cca_base.specs.Steps.{Step}
-use Rattle.cca_laws.specs.Laws.{NoneTwice}
-use Rattle.cca_laws.proofs.OneOrder.{none_twice, ordered_same}
+use Rattle.cca_laws.proofs.OneOrder.{ordered_same, compiled_none_twice}
 use Rattle.cca_laws.proofs.OnePick.{one_command}
 use Rattle.cca_base.proofs.Commands.{one_step}
 
 module _ (b : CompiledModel) (compiled : IsCompiled b) where
-  once : NoneTwice b.order
-  once = none_twice b.model (numbers_below (length b.model.components)) b.order compiled.order
-
   -- the picked commands, and where they lead, are one
   whole_once : (goal : List Pair) (ks ls s t u : List ℕ) → Whole b goal s ks t → Whole b goal s ls u → (ks ≡ ls) × (t ≡ u)
   whole_once goal [] [] s t u h k = ((λ i. []), h.1 ∙ sym k.1)
   whole_once goal [] (l ∷ ls) s t u h k = absurd (k.0 h.0)
   whole_once goal (x ∷ ks) [] s t u h k = absurd (h.0 k.0)
   whole_once goal (x ∷ ks) (l ∷ ls) s t u (short, picks, next, step, rest) (still, others, after, other, more) =
-      let same : x ≡ l = one_command b s once goal x l picks others in
+      let same : x ≡ l = one_command b s (compiled_none_twice b compiled) goal x l picks others in
       let there : next ≡ after = (one_step b.model compiled.accepted.well_formed.commands s next after l (subst (λ z. Step b.model s z next) same step) other).1 in
       let on = whole_once goal ks ls after t u (subst (λ z. Whole b goal z ks t) there rest) more in
       ((λ i. same i ∷ on.0 i), on.1)
 
   -- where to go back to is one goal
   back_goal_once : (s : List ℕ) (a c : List Pair) → IsBackGoal b s a → IsBackGoal b s c → a ≡ c
-  back_goal_once s a c h k = ordered_same b.order a c once h.in_order k.in_order (λ p among. (k.each p).1 ((h.each p).0 among), λ p among. (h.each p).1 ((k.each p).0 among))
+  back_goal_once s a c h k = ordered_same b.order a c (compiled_none_twice b compiled) h.in_order k.in_order (λ p among. (k.each p).1 ((h.each p).0 among), λ p among. (h.each p).1 ((k.each p).0 among))
 
   back_once : (from s ks ls t u : List ℕ) → Back b from s ks t → Back b from s ls u → ks ≡ ls
   back_once from s ks ls t u h k =

@@ -5,6 +5,7 @@ use Rattle.std.specs.List.{list_all, list_any}
 use Rattle.std.proofs.lemmas.Bool.{false≢true}
 use Rattle.std.proofs.lemmas.List.Elements.{All-nil}
 use Rattle.list_laws.proofs.Places.{value_at}
+use Rattle.list_laws.proofs.Members.{contains_cases, contains_none}
 use Rattle.cca_base.specs.declared.cube.Pair.{Pair}
 use Rattle.cca_base.specs.declared.model.Move.{Move}
 use Rattle.cca_base.specs.Formula.{truth}
@@ -14,8 +15,7 @@ use Rattle.cca_base.specs.Model.{HasMode}
 use Rattle.cca_base.specs.State.{IsState, IsWorld, Extends}
 use Rattle.cca_base.specs.Implicants.{PrimeImplicant, Suffices, Needs, source_pair}
 use Rattle.cca_base.specs.Orders.{IsFree}
-use Rattle.cca_base.proofs.Members.{contains_cases, contains_none}
-use Rattle.cca_laws.proofs.Tiny.{one_at, two_at, three_at, below_two, below_three}
+use Rattle.list_laws.proofs.Few.{one_at, two_at, three_at, below_two, below_three}
 use Rattle.cca_laws.proofs.FreeMoves.{single_prime}
 use Rattle.cca_laws.proofs.FormulaExamples.{truth_mode, truth_both, truth_either}
 use Rattle.cca_laws.specs.FormulaExamples.{mode_in, both}

@@ -1,16 +1,19 @@
 -- Runs and plans.
-use Rattle.std.proofs.Common.{◌≡◌, ℕ, false, not, List, [], ◌∷◌, ◌++◌, slice_get, slice_set, Some, Contains, All, IsTrue, inl, refl, subst}
+use Rattle.std.proofs.Common.{◌≡◌, ℕ, false, not, List, [], ◌∷◌, ◌++◌, slice_get, slice_set, Some, Contains, All, IsTrue, inl, refl, sym, subst}
 use Rattle.std.proofs.lemmas.Bool.{not_from_false}
 use Rattle.std.proofs.lemmas.List.Elements.{All-cons, All-contains}
+use Rattle.list_laws.proofs.Members.{contains_here, contains_there, to_filter}
 use Rattle.cca_base.specs.declared.cube.Pair.{Pair}
 use Rattle.cca_base.specs.declared.model.Move.{Move}
-use Rattle.cca_base.proofs.Members.{contains_here, contains_there, to_filter, in_pairs}
+use Rattle.cca_base.proofs.Members.{in_pairs}
 use Rattle.cca_base.specs.PlantModel.{PlantModel}
 use Rattle.cca_base.specs.Model.{is_broken}
 use Rattle.cca_base.specs.State.{Extends}
 use Rattle.cca_base.specs.Implicants.{PrimeImplicant, source_pair}
 use Rattle.cca_base.specs.Repairs.{Mending, pairs_of, sound_pairs}
 use Rattle.cca_base.specs.Steps.{Step, Run, Allowed, AllowedPlan, support}
+use Rattle.cca_base.specs.Accepted.{CompiledModel}
+use Rattle.cca_base.specs.Plans.{Whole}
 
 pub runs_join : (m : PlantModel) (s t u : List ℕ) (ks ls : List ℕ) → Run m s ks t → Run m t ls u → Run m s (ks ++ ls) u
 runs_join m s t u [] ls r q = subst (λ x. Run m x ls u) r q
@@ -46,3 +49,16 @@ implicant_gives_step m s move cube of_model source prime stands whole = record {
       (λ k d within. All-contains Has (support m s move) _ extends (contains_there (source_pair move) _ (sound_pairs m s) (sound m s _ (stands k d within) (whole k d within)))));
   gives = refl;
 }
+
+-- ---- picked commands
+
+module _ (b : CompiledModel) (goal : List Pair) where
+  -- the picked commands are steps one after the other
+  pub whole_runs : (ks s last : List ℕ) → Whole b goal s ks last → Run b.model s ks last
+  whole_runs [] s last h = h.1
+  whole_runs (k ∷ ks) s last (short, picks, next, step, rest) = (next, step, whole_runs ks next last rest)
+
+  -- where they lead the goal stands
+  pub whole_stands : (ks s last : List ℕ) → Whole b goal s ks last → Extends last goal
+  whole_stands [] s last h = subst (λ (z : List ℕ). Extends z goal) (sym h.1) h.0
+  whole_stands (k ∷ ks) s last (short, picks, next, step, rest) = whole_stands ks next last rest

@@ -12,7 +12,7 @@ use Rattle.cca_base.specs.Sets.{has}
 use Rattle.cca_base.specs.Trace.{ExecutiveState, Observed}
 use Rattle.cca_base.specs.Runs.{TickRecord, CanBeSeen, StartsAnew, LeavesPlantAlone}
 use Rattle.cca_base.proofs.SetLaws.{has-empty}
-use Rattle.cca_laws.proofs.Tiny.{one_at}
+use Rattle.list_laws.proofs.Few.{one_at}
 use Rattle.cca_laws.proofs.ValveExamples.{start_world}
 use Rattle.cca_laws.specs.ValveExamples.{valve_model}
 use Rattle.cca_laws.specs.RightExamples.{no_flow, wrong_moment, faulty_moment, reset_moment, WrongIsNotRight, FaultsExcuse, ResetsEndExcuses, ResetKeepsTicks}

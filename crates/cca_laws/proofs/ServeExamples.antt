@@ -7,7 +7,7 @@ use Rattle.std.proofs.lemmas.Option.{same_Some}
 use Rattle.cca_base.specs.declared.events.Reply.TheVariants.{Idle, Send, Achieved, Unreachable}
 use Rattle.cca_base.specs.Runs.{TickRecord, IsStretch, IsRight, LeavesPlantAndGoalAlone, reply_at, is_send, is_unreachable}
 use Rattle.cca_laws.specs.Examples.{lit}
-use Rattle.cca_laws.proofs.Tiny.{two_at, one_at}
+use Rattle.list_laws.proofs.Few.{two_at, one_at}
 use Rattle.cca_laws.specs.ServeExamples.{replied, OneOfOne, TwoOfOne, TooLate, NoneAfter, NotLost, LampIsPromised, LostBeginsNone}
 
 abbrev served : List TickRecord

@@ -11,7 +11,7 @@ use Rattle.cca_base.specs.declared.model.Failure.{Failure}
 use Rattle.cca_base.specs.PlantModel.{PlantModel}
 use Rattle.cca_base.specs.State.{IsState}
 use Rattle.cca_base.specs.Successors.{Costs, Nominal, ChangeCosts, HasFailure}
-use Rattle.cca_laws.proofs.Tiny.{below_two}
+use Rattle.list_laws.proofs.Few.{below_two}
 
 pub sum_two : (parts : List ℕ) → length parts ≡ 2 → sum parts ≡ slice_index parts 0 + slice_index parts 1
 sum_two [] e = absurd (omega arith)

@@ -4,6 +4,7 @@ use Rattle.std.proofs.lemmas.Bool.{cases_eq, both_ways, eq-eqb, ne_eqb, not-true
 use Rattle.std.proofs.lemmas.List.Elements.{All-contains, All-cons, All-weaker}
 use Rattle.std.proofs.lemmas.List.Kept.{AllPairs-filter}
 use Rattle.std.proofs.lemmas.Option.{slice_get_within, get_or_from_slice_get, same_Some}
+use Rattle.list_laws.proofs.Members.{all_from, contains_here, contains_there, to_filter, from_filter}
 use Rattle.cca_base.specs.declared.cube.Pair.{Pair}
 use Rattle.cca_base.specs.declared.model.Move.{Move}
 use Rattle.cca_base.specs.PlantModel.{PlantModel}
@@ -11,7 +12,7 @@ use Rattle.cca_base.specs.Model.{HasMode}
 use Rattle.cca_base.specs.Implicants.{PrimeImplicant, source_pair}
 use Rattle.cca_base.specs.Repairs.{pairs_of}
 use Rattle.cca_base.specs.State.{IsState, Holds, Extends}
-use Rattle.cca_base.proofs.Members.{all_from, contains_here, contains_there, to_filter, from_filter, stands_in}
+use Rattle.cca_base.proofs.Members.{stands_in}
 use Rattle.cca_base.proofs.StateLaws.{same_state}
 use Rattle.cca_laws.specs.Conditions.{IsSufficient}
 use Rattle.cca_laws.proofs.Minimal.{pairs_rise, prime_parts}

@@ -12,13 +12,12 @@ use Rattle.cca_base.specs.declared.model.Move.{Move}
 use Rattle.cca_base.specs.PlantModel.{PlantModel}
 use Rattle.cca_base.specs.Sets.{has}
 use Rattle.cca_base.specs.Formula.{truth, truth_step}
-use Rattle.cca_base.specs.Model.{HasMode}
+use Rattle.cca_base.specs.Model.{HasMode, IsInChain}
 use Rattle.cca_base.specs.State.{Follows, Holds, IsState, IsWorld, HasValue}
 use Rattle.cca_base.specs.Steps.{Step, Run, Allowed, support}
 use Rattle.cca_base.specs.Repairs.{Mending}
-use Rattle.cca_base.specs.Model.{IsInChain}
 use Rattle.cca_base.proofs.NextModes.{next_broken}
-use Rattle.cca_laws.proofs.Tiny.{one_at, three_at, below_one, below_two, below_three}
+use Rattle.list_laws.proofs.Few.{one_at, three_at, below_one, below_two, below_three}
 use Rattle.cca_laws.proofs.SmallModels.{the_one}
 use Rattle.cca_laws.proofs.FormulaExamples.{truth_mode, truth_iff}
 use Rattle.cca_laws.proofs.FreeMoves.{always}

@@ -6,7 +6,7 @@ use Rattle.cca_base.specs.declared.formula.Subject.TheVariants.{Component, Varia
 use Rattle.cca_base.specs.declared.model.Move.{Move}
 use Rattle.cca_base.specs.Formula.{Printed, printed_step, fits_step, depth}
 use Rattle.cca_base.specs.Model.{WellFormed, IsFormula}
-use Rattle.cca_laws.proofs.Tiny.{one_at, five_at}
+use Rattle.list_laws.proofs.Few.{one_at, five_at}
 use Rattle.cca_laws.proofs.SmallModels.{small_fits, failures_fit, mending_fits, own_used}
 use Rattle.cca_laws.proofs.EdgeExamples.{always_fits}
 use Rattle.cca_laws.proofs.FormulaExamples.{print, mode_printed}

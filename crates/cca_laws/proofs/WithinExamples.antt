@@ -4,7 +4,7 @@ use Rattle.std.proofs.lemmas.List.Elements.{All-nil}
 use Rattle.cca_base.specs.declared.events.Event.TheVariants as event
 use Rattle.cca_base.specs.declared.events.Reply.TheVariants.{Send, Achieved}
 use Rattle.cca_base.specs.Runs.{TickRecord, IsStretch, IsRight, LeavesPlantAndGoalAlone}
-use Rattle.cca_laws.proofs.Tiny.{one_at, two_at, three_at, four_at}
+use Rattle.list_laws.proofs.Few.{one_at, two_at, three_at, four_at}
 use Rattle.cca_laws.proofs.ServeExamples.{may_begin}
 use Rattle.cca_laws.specs.RightExamples.{no_flow}
 use Rattle.cca_laws.specs.WithinExamples.{driver_wanted, sent_moment, again_moment, ObservingEndsNoStretch, mirrored_moment, MirroringEndsNoStretch, z_wanted, toward_z, with_a_detour, OneBoundIsStated}

@@ -24,7 +24,7 @@ pub data CheckState : Type 0 where
   InScript : (compiled : CompiledModel) → (script : ScriptSoFar) → CheckState
   InTrace : (compiled : CompiledModel) → (trace : TraceSoFar) → CheckState
 
--- its model
+-- the model by which a document and its trace are checked
 abbrev pub model_of : CheckState → PlantModel
 model_of (InScript b s) = b.model
 model_of (InTrace b x) = b.model
@@ -68,7 +68,7 @@ abbrev pub CheckCloses : CheckState → ℕ → End → List ℕ → Type 0
 CheckCloses (InScript b s) n e text = (e ≡ ends.Refused) × (text ≡ refusal_text false b.model n (bare ENDS_EARLY))
 CheckCloses (InTrace b x) n e text = TraceCloses x.behind x e text
 
--- the machine
+-- the machine of a document and its printed trace
 abbrev pub checking_machine : Ghosts CheckState
 checking_machine = record {
   limit_of = limit_in;

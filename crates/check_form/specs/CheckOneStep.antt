@@ -41,7 +41,7 @@ one_changed m x event.Reset y z e f = e ∙ sym f
 one_changed m x event.Tick y z e f = absurd e
 
 -- a tick changes nothing by itself
-pub never_tick : (m : PlantModel) (x : ExecutiveState) (e : Event) (y : ExecutiveState) → IsTick e → Changes m AsGiven x e y → ⊥
+never_tick : (m : PlantModel) (x : ExecutiveState) (e : Event) (y : ExecutiveState) → IsTick e → Changes m AsGiven x e y → ⊥
 never_tick m x event.Tick y tick h = h
 never_tick m x (event.Goal pairs) y tick h = tick
 never_tick m x event.Clear y tick h = tick
@@ -69,7 +69,7 @@ unless_once : (ends : Bool) (r : Result (Option Event) ℕ) (s : ScriptSoFar) (o
 unless_once true r s o p h k = h ∙ sym k
 unless_once false r s o p h k = event_once r s o p h k
 
-pub script_leads_once : (m : PlantModel) (s : ScriptSoFar) (l : List ℕ) (o p : ScriptOutcome) → ScriptLeads m s l o → ScriptLeads m s l p → o ≡ p
+script_leads_once : (m : PlantModel) (s : ScriptSoFar) (l : List ℕ) (o p : ScriptOutcome) → ScriptLeads m s l o → ScriptLeads m s l p → o ≡ p
 script_leads_once m s l o p h k = unless_once (is_trace_line l) (event_line m s.pending s.mirrored l) s o p h k
 
 -- ---- a line of the trace
@@ -120,7 +120,7 @@ behind_once None m good x l o p h k = h ∙ sym k
 behind_once (Some events) m good x l o p (a, says, h) (b, says', k) =
     by_lines_once (with_said x b) m good x events o p (subst (λ (z : Option TraceLine). ByLines (with_said x z) m x events o) (said_once m good l a b says says') h) k
 
-pub trace_leads_once : (m : PlantModel) → WellFormed m → (x : TraceSoFar) (l : List ℕ) (o p : TraceOutcome) → TraceLeads m x l o → TraceLeads m x l p → o ≡ p
+trace_leads_once : (m : PlantModel) → WellFormed m → (x : TraceSoFar) (l : List ℕ) (o p : TraceOutcome) → TraceLeads m x l o → TraceLeads m x l p → o ≡ p
 trace_leads_once m good x l o p h k = behind_once x.behind m good x l o p h k
 
 -- ---- the machine

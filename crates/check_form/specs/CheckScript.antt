@@ -63,7 +63,7 @@ pub data ScriptText : Type 0 where
   Traced : (events : List Event) → (line : ℕ) → (rest : List (List ℕ)) → ScriptText
   RefusedScript : (line : ℕ) → (refusal : Refusal) → ScriptText
 
--- its length and its number come before all that a line says
+-- where a line of the script leads, whose length and number come before all that it says
 abbrev pub LeadsByCode : Option ℕ → PlantModel → ScriptSoFar → List ℕ → ScriptOutcome → Type 0
 LeadsByCode (Some code) m s l o = o ≡ Refuses code
 LeadsByCode None m s l o = ScriptLeads m s l o

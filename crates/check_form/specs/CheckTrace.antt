@@ -101,7 +101,7 @@ abbrev pub AfterLine : TraceOutcome → TraceSoFar → (TraceSoFar → Type 0) �
 AfterLine (Follows t) x goes_on end = goes_on t
 AfterLine (Fails reason) x goes_on end = end ≡ no_to x reason
 
--- its length and its number come before all that a line says
+-- how a line of the trace is judged, whose length and number come before all that it says
 abbrev pub JudgesByCode : Option ℕ → PlantModel → TraceSoFar → ℕ → List ℕ → (TraceSoFar → Type 0) → CheckEnd → Type 0
 JudgesByCode (Some code) m x n l goes_on end = end ≡ FirstRefusal m n (bare code)
 JudgesByCode None m x n l goes_on end = (o : TraceOutcome) × TraceLeads m x l o × AfterLine o x goes_on end

@@ -1,6 +1,7 @@
 -- The end of an allowed plan has a way back, and one way back makes each step of a run allowed.
 use Rattle.std.proofs.Common.{◌≡◌, ℕ, List, [], ◌∷◌, ◌++◌, slice_get, Some, refl, sym, subst, ◌∙◌, inl, inr}
 use Rattle.std.proofs.lemmas.List.Elements.{All-weaker}
+use Rattle.cca_laws.proofs.PlanLaws.{mends_itself, allowed_run}
 use Rattle.cca_base.specs.PlantModel.{PlantModel}
 use Rattle.cca_base.specs.Model.{RepairsFit}
 use Rattle.cca_base.specs.Repairs.{Mending}
@@ -8,7 +9,7 @@ use Rattle.cca_base.specs.Steps.{StepKind, Leads, Step, Run, Allowed, AllowedPla
 use Rattle.reach_laws.specs.Laws.{Returns}
 use Rattle.cca_base.proofs.Commands.{one_step}
 use Rattle.check_laws.specs.Laws.{MadeAgain, OneWayBack, PlansReturn, CheckedPlanBegins, TestsAreExact, OneEnd}
-use Rattle.reach_laws.proofs.MendingLaws.{mending_same, mending_join, repair_leads}
+use Rattle.reach_laws.proofs.MendingLaws.{mending_join, repair_leads}
 use Rattle.check_laws.proofs.StepsAgain.{step_again, run_again}
 
 -- ---- runs
@@ -16,11 +17,6 @@ use Rattle.check_laws.proofs.StepsAgain.{step_again, run_again}
 leads_join : (P : StepKind) (s t u : List ℕ) (ks ls : List ℕ) → Leads P s ks t → Leads P t ls u → Leads P s (ks ++ ls) u
 leads_join P s t u [] ls r q = subst (λ x. Leads P x ls u) r q
 leads_join P s t u (k ∷ ks) ls r q = (r.0, r.1, leads_join P r.0 t u ks ls r.2 q)
-
--- the steps of an allowed plan are a run
-steps_of : (m : PlantModel) (s ks t : List ℕ) → AllowedPlan m s ks t → Run m s ks t
-steps_of m s [] t e = e
-steps_of m s (k ∷ ks) t p = (p.0, p.1.step, steps_of m p.0 ks t p.2)
 
 pub one_end : OneEnd
 one_end m fit s t u [] r q = r ∙ sym q
@@ -45,7 +41,7 @@ one_way_back m fit s t u (k ∷ ks) ls r q h =
 
 -- the end of an allowed plan has a way back to a mending of its start
 plan_back : (m : PlantModel) → RepairsFit m.version m.moves → (s t ks : List ℕ) → AllowedPlan m s ks t → Returns m s t
-plan_back m fit s t [] r = ([], t, refl, subst (Mending m s) (sym r) (mending_same m s))
+plan_back m fit s t [] r = ([], t, refl, subst (Mending m s) (sym r) (mends_itself m s))
 plan_back m fit s t (k ∷ ks) r =
     let mid : List ℕ = r.0 in
     let rest : Returns m mid t = plan_back m fit mid t ks r.2 in
@@ -62,7 +58,7 @@ plan_back m fit s t (k ∷ ks) r =
 
 pub plans_return : PlansReturn
 plans_return m fit s t ks = (
-  λ plan. (steps_of m s ks t plan, plan_back m fit s t ks plan),
+  λ plan. (allowed_run m s t ks plan, plan_back m fit s t ks plan),
   λ h. one_way_back m fit s t h.1.1 ks h.1.0 h.0 h.1.2 h.1.3,
 )
 
@@ -80,7 +76,7 @@ tests_are_exact m fit s goal k = (
   λ begins. record {
     others = begins.others;
     there = begins.last;
-    plan = steps_of m s (k ∷ begins.others) begins.last begins.plan;
+    plan = allowed_run m s begins.last (k ∷ begins.others) begins.plan;
     stands = begins.stands;
     back = plan_back m fit s begins.last (k ∷ begins.others) begins.plan;
   },

@@ -4,7 +4,7 @@ use Rattle.std.proofs.lemmas.List.Folds.{list_any-append, list_any_more}
 use mathlib.Core.Bool.{or-false}
 use Rattle.clause_form.specs.declared.clause.Literal.{Literal}
 use Rattle.clause_form.specs.Clauses.{AreMerged, is_met, is_true}
-use Rattle.cca_base.proofs.TestedLists.{or_swap}
+use Rattle.list_laws.proofs.TestedLists.{or_swap}
 
 met_push : (xs : List ℕ) (ls : List Literal) (l : Literal) → is_met xs (ls ++ l ∷ []) ≡ (is_met xs ls || is_true xs l)
 met_push xs ls l = list_any-append (is_true xs) ls (l ∷ []) ∙ ap (λ b. is_met xs ls || b) (or-false (is_true xs l))

@@ -2,6 +2,7 @@
 use Rattle.std.proofs.Common.{◌≡◌, ℕ, ◌+◌, ◌<◌, ◌&&◌, ◌||◌, ltb, Bool, true, false, not, List, ◌++◌, length, slice_index, if◌then◌else◌, sym, ap, ◌∙◌, refl, arith}
 use Rattle.std.proofs.lemmas.Bool.{ltb-true, lt-ltb}
 use Rattle.std.proofs.lemmas.List.{get_or_append_left, get_or-append-add}
+use Rattle.list_laws.proofs.Tests.{and_with}
 use Rattle.cca_base.specs.Formula.{truth, truth_step, subject_value, subject_within}
 use Rattle.cca_base.specs.Sets.{has}
 use Rattle.cca_base.specs.declared.formula.Formula.{Formula}
@@ -19,14 +20,10 @@ pub at_subject : (components variables : ℕ) (s : Subject) (modes values : List
 at_subject components variables (Component k) modes values h e = let lt = ltb-true k components h in let lt' : k < length modes = omega arith in get_or_append_left modes values 0 k lt'
 at_subject components variables (Variable v) modes values h e = ap (λ (n : ℕ). slice_index (modes ++ values) (n + v)) (sym e) ∙ get_or-append-add modes values v 0
 
-and_is_true : (a b : Bool) → b ≡ true → (a && b) ≡ a
-and_is_true true b h = h
-and_is_true false b h = refl
-
 -- the set's part below the size, or its complement there
 pub used_true : (wanted : Bool) (set used common full size m : ℕ) → wanted ≡ true → used ≡ common → has common m ≡ (has set m && has full m) → has full m ≡ (ltb m size) → m < size → has used m ≡ agrees wanted (has set m)
 used_true wanted set used common full size m h e k f small =
-    rw h (ap (λ (s : ℕ). has s m) e ∙ (k ∙ and_is_true (has set m) (has full m) (f ∙ lt-ltb m size small)))
+    rw h (ap (λ (s : ℕ). has s m) e ∙ (k ∙ sym (and_with (has set m) (has full m) (f ∙ lt-ltb m size small))))
 
 pub used_false : (wanted : Bool) (set used others m : ℕ) → wanted ≡ false → used ≡ others → has others m ≡ not (has set m) → has used m ≡ agrees wanted (has set m)
 used_false wanted set used others m h e k = rw h (ap (λ (s : ℕ). has s m) e ∙ k)

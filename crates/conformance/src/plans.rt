@@ -1,7 +1,8 @@
 //! Whole plans and ways back.
 
 ghost use Rattle.std.specs.Prelude.{IfSome};
-ghost use Rattle.planner_step.specs.Planning.{AreReached, IsGoal};
+ghost use Rattle.cca_base.specs.Prelude.{AreReached};
+ghost use Rattle.planner_step.specs.Planning.{IsGoal};
 ghost use Rattle.reversibility.specs.ClassParts.{CoversState};
 
 use crate::parts::{HUNG_UNIT, Pairs, STICKING_VALVE};

@@ -1,9 +1,9 @@
 //! Tables of models, with states that they cover and goals for them.
 
 ghost use Rattle.std.specs.Prelude.{◌≡◌, ◌<◌, ◌≤◌, ◌+◌, false, All, IfSome, IsTrue, length, slice_index};
-ghost use Rattle.cca_base.specs.Prelude.{is_broken, HasMode, IsInChain, IsState};
+ghost use Rattle.cca_base.specs.Prelude.{is_broken, AreReached, HasMode, IsInChain, IsState};
 ghost use Rattle.plan_runner.specs.WaysBack.{StaysStuck};
-ghost use Rattle.planner_step.specs.Planning.{AreReached, IsGoal};
+ghost use Rattle.planner_step.specs.Planning.{IsGoal};
 ghost use Rattle.planner_step.specs.Served.{IsStuck};
 ghost use Rattle.reversibility.specs.ClassParts.{CoversState};
 

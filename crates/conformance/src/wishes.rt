@@ -3,12 +3,12 @@
 ghost use Rattle.std.specs.Prelude.{◌≡◌, ◌≤◌, All, IfSome, length};
 ghost use Rattle.cca_base.specs.Prelude.{IsFormula};
 ghost use Rattle.goal_interpreter.specs.Weights.{AreWeights};
-ghost use Rattle.goal_interpreter.specs.declared.weights.TheConstants.{MAX_WEIGHT};
+ghost use Rattle.cca_base.specs.declared.limits.TheConstants.{MAX_WEIGHT};
 
 use crate::parts::{LATCHED_UNIT, STICKING_VALVE, pair};
 use crate::tabled::{covered, tables_of};
 use cca_base::*;
-use goal_interpreter::{MAX_WEIGHT, Target, Weights, interpret};
+use goal_interpreter::{Target, Weights, interpret};
 use model_syntax::read_formula;
 use policy_tables::Tables;
 use std::alloc::Global;

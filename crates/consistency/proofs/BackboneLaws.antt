@@ -3,10 +3,10 @@ use Rattle.std.proofs.Common.{◌≡◌, ◌≢◌, ◌⊎◌, ◌+◌, ◌<◌,
 use Rattle.std.proofs.lemmas.Bool.{cases_eq}
 use Rattle.std.proofs.lemmas.List.Elements.{All-nil, All-push, All-weaker, All-contains, Contains-append_cases, Contains-append_left, Contains-append_right}
 use Rattle.std.proofs.lemmas.List.Quantifiers.{all_pairs_push}
+use Rattle.list_laws.proofs.Members.{contains_cases, contains_here, contains_none}
 use Rattle.cca_base.specs.declared.cube.Pair.{Pair}
 use Rattle.cca_base.specs.Cube.{IsRising}
 use Rattle.cca_base.specs.Sets.{has}
-use Rattle.cca_base.proofs.Members.{contains_cases, contains_here, contains_none}
 use Rattle.clause_form.specs.declared.clause.Clause.{Clause}
 use Rattle.consistency.specs.declared.subjects.SubjectSet.{SubjectSet}
 use Rattle.consistency.specs.Search.{IsSolution, AllHave, IsBackbone, IsVaried, AreVaried}

@@ -3,11 +3,11 @@ use Rattle.std.proofs.Common.{◌≡◌, ◌+◌, ◌<◌, ◌++◌, ℕ, false,
 use Rattle.std.proofs.lemmas.Bool.{true≢false}
 use Rattle.std.proofs.lemmas.List.{append_assoc}
 use Rattle.std.proofs.lemmas.List.Elements.{Contains-append_left, Contains-append_right, Contains-append_cases}
+use Rattle.list_laws.proofs.Members.{contains_cases, from_filter, to_filter}
 use Rattle.cca_base.specs.declared.cube.Pair.{Pair}
 use Rattle.cca_base.specs.PlantModel.{PlantModel}
 use Rattle.cca_base.specs.Model.{HasMode}
 use Rattle.cca_base.specs.Shown.{Clash}
-use Rattle.cca_base.proofs.Members.{contains_cases, from_filter, to_filter}
 use Rattle.consistency.specs.declared.subjects.SubjectSet.{SubjectSet}
 use Rattle.consistency.specs.Cores.{IsCore, pairs_in}
 use Rattle.consistency.specs.Subjects.{is_in}

@@ -38,7 +38,7 @@ module _ (m : PlantModel) (modes seen : List Pair) (denied : Option Formula) (c 
   }
 
   -- there are enough values for the components
-  pub enough : (xs : List ℕ) → IsSolution c.clauses base xs → components ≤ length xs
+  enough : (xs : List ℕ) → IsSolution c.clauses base xs → components ≤ length xs
   enough xs h =
       let full = h.full in
       let b_full = b.full in

@@ -5,12 +5,12 @@ use Rattle.std.proofs.lemmas.List.{take-append-drop}
 use Rattle.std.proofs.lemmas.List.Elements.{All-nil}
 use Rattle.std.proofs.lemmas.Option.{slice_get_within}
 use Rattle.list_laws.proofs.Places.{value_at, get_at}
+use Rattle.list_laws.proofs.Members.{all_from}
 use Rattle.cca_base.specs.declared.cube.Pair.{Pair}
 use Rattle.cca_base.specs.PlantModel.{PlantModel}
 use Rattle.cca_base.specs.Repairs.{pairs_of}
 use Rattle.cca_base.specs.State.{IsState, IsWorld, HasWorld, HasValue}
 use Rattle.cca_base.specs.Trace.{HasOneValue}
-use Rattle.cca_base.proofs.Members.{all_from}
 use Rattle.cca_base.proofs.StateLaws.{same_state}
 use Rattle.clause_form.specs.declared.clause.Clauses.{Clauses}
 use Rattle.clause_form.specs.Formulas.{AreClausesOf}

@@ -3,11 +3,11 @@ use Rattle.std.proofs.Common.{◌≡◌, ◌==◌, ◌++◌, not, List, [], ◌�
 use Rattle.std.proofs.lemmas.Bool.{eq-eqb, not_from_true, false≢true}
 use Rattle.std.proofs.lemmas.List.{append-nil, append_assoc}
 use Rattle.std.proofs.lemmas.List.Elements.{All-contains, Contains-append_left, Contains-append_right, Contains-append_cases}
+use Rattle.list_laws.proofs.Members.{all_from, contains_cases, contains_none, contains_there, from_filter}
 use Rattle.cca_base.specs.declared.cube.Pair.{Pair}
 use Rattle.cca_base.specs.PlantModel.{PlantModel}
 use Rattle.cca_base.specs.Repairs.{pairs_of}
 use Rattle.cca_base.specs.Shown.{CanShow, Clash, KeepsOfClash}
-use Rattle.cca_base.proofs.Members.{all_from, contains_cases, contains_none, contains_there, from_filter}
 use Rattle.cca_base.proofs.StateLaws.{same_state}
 use Rattle.consistency.specs.Conflict.{without, ConflictsAreMinimal, ThereIsOneConflict}
 

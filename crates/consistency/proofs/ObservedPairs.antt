@@ -2,12 +2,12 @@
 use Rattle.std.proofs.Common.{Option, Some, IfSome, ◌≡◌, ◌≢◌, ℕ, true, false, List, All, Contains, inl, inr, sym, subst}
 use Rattle.std.proofs.lemmas.Bool.{both_ways}
 use Rattle.std.proofs.lemmas.List.Elements.{All-contains}
+use Rattle.list_laws.proofs.Members.{all_from}
 use Rattle.cca_base.specs.declared.cube.Pair.{Pair}
 use Rattle.cca_base.specs.PlantModel.{PlantModel}
 use Rattle.cca_base.specs.Cube.{IsUnion, Lacks}
 use Rattle.cca_base.specs.Sets.{has}
 use Rattle.cca_base.specs.State.{HasValue}
-use Rattle.cca_base.proofs.Members.{all_from}
 use Rattle.consistency.specs.Forced.{AreForced}
 use Rattle.consistency.specs.Observed.{IsObserved, IsShown, ShowsNow}
 use Rattle.consistency.specs.declared.mirror.Shown.{Shown}

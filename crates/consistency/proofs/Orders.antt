@@ -1,17 +1,13 @@
 -- Lists by their first different number.
 use Rattle.std.proofs.Common.{◌≡◌, ◌⊎◌, inl, inr, ℕ, zero, suc, ◌<◌, List, [], ◌∷◌, ◌++◌, length, slice_index, refl, sym, ap, subst, ◌∙◌, arith}
-use Rattle.std.proofs.lemmas.Bool.Decides.{nat_tests}
 use Rattle.std.specs.Ordering.{nat_cmp, ordering_then}
 use Rattle.std.specs.Cmp.Lexicographic.{slice_cmp}
 use Rattle.std.specs.declared.cmp.Ordering.{Ordering}
 use Rattle.std.specs.declared.cmp.Ordering.TheVariants.{Less, Equal, Greater}
-use Rattle.list_laws.proofs.Orders.{nat_cmp-same}
+use Rattle.list_laws.proofs.Orders.{nat_cmp-same, greater_cmp}
 use Rattle.cca_base.specs.Estimates.{IsEarlier}
 use Rattle.cca_base.proofs.StateLaws.{none_earlier}
 use Rattle.consistency.specs.Search.{IsLess}
-
-nat_cmp-greater : (x y : ℕ) → x < y → nat_cmp y x ≡ Greater
-nat_cmp-greater x y h = grind (arith, nat_tests)
 
 then_less : (a b c : Ordering) → ordering_then a b ≡ Less → (b ≡ Less → c ≡ Less) → ordering_then a c ≡ Less
 then_less Less b c h f = refl
@@ -33,7 +29,7 @@ earlier_behind (x ∷ s) w2 w h = ap (λ o. ordering_then o (slice_cmp nat_cmp (
 not_after : (p : ℕ) (xs ys : List ℕ) → p < length xs → ((d : ℕ) → d < p → slice_index xs d ≡ slice_index ys d) → slice_index xs p < slice_index ys p → IsEarlier ys xs → ⊥
 not_after p [] ys inside same less h = absurd (omega arith)
 not_after p (x ∷ xs) [] inside same less h = absurd (omega arith)
-not_after zero (x ∷ xs) (y ∷ ys) inside same less h = absurd (cc (ap (λ o. ordering_then o (slice_cmp nat_cmp ys xs)) (nat_cmp-greater x y less)))
+not_after zero (x ∷ xs) (y ∷ ys) inside same less h = absurd (cc (ap (λ o. ordering_then o (slice_cmp nat_cmp ys xs)) (greater_cmp y x less)))
 not_after (suc p) (x ∷ xs) (y ∷ ys) inside same less h =
     not_after p xs ys (omega arith) (λ d k. same (suc d) (omega arith)) less
     (sym (ap (λ o. ordering_then o (slice_cmp nat_cmp ys xs)) (nat_cmp-same y x (sym (same 0 (omega arith))))) ∙ h)

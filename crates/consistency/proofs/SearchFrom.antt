@@ -1,8 +1,8 @@
 -- What a search knows, one value at a time.
-use Rattle.std.proofs.Common.{take, ◌≡◌, inl, inr, ℕ, ◌+◌, ◌<◌, ◌≤◌, ◌||◌, ◌==◌, true, false, List, [], ◌∷◌, ◌++◌, length, slice_index, slice_index_or, slice_set, sym, ap, subst, ◌∙◌, arith, get_or-set_same, get_or-set_other, length-set, length-append, eq-eqb}
+use Rattle.std.proofs.Common.{take, ◌≡◌, inl, inr, ℕ, ◌+◌, ◌<◌, ◌≤◌, ◌||◌, ◌==◌, true, false, List, [], ◌∷◌, ◌++◌, length, slice_index, slice_index_or, slice_set, sym, ap, subst, ◌∙◌, arith, get_or-set_same, get_or-set_other, length-set, eq-eqb}
 use Rattle.std.specs.Prelude.{nat_lt}
 use Rattle.std.proofs.lemmas.Bool.{lt-ltb, cases_eq, cases_order, true≢false}
-use Rattle.std.proofs.lemmas.List.{get_or_append_left, ext_get_or}
+use Rattle.std.proofs.lemmas.List.{get_or_append_left, ext_get_or, length_push}
 use Rattle.std.proofs.Math.Seq.{get_or-append_seam, take-append_seam}
 use Rattle.cca_base.specs.Sets.{has}
 use Rattle.clause_form.specs.declared.clause.Clause.{Clause}
@@ -14,21 +14,18 @@ use Rattle.consistency.specs.Subjects.{is_in}
 use Rattle.consistency.specs.Search.{IsSolution, AreMet, IsFirstFrom, IsClash, Assumed, choosing, Agrees, Extends, Knows, nothing, values_at, reason_at}
 use Rattle.consistency.proofs.Narrow.{or_l, or_r}
 
-pub length-snoc : (p : List ℕ) (v : ℕ) → length (p ++ v ∷ []) ≡ length p + 1
-length-snoc p v = omega (arith, length-append p (v ∷ []))
-
 -- the longer prefix says more
 agrees_shorter : (a : Assumed) (v : ℕ) (r : SubjectSet) (xs : List ℕ) → Agrees (choosing a v) r xs → Agrees a r xs
 agrees_shorter a v r xs h d m =
     let both = h d m in
-    (both.0, λ n. (let k : d < length (a.chosen ++ v ∷ []) = omega (arith, length-snoc a.chosen v) in both.1 k ∙ get_or_append_left a.chosen (v ∷ []) 0 d n))
+    (both.0, λ n. (let k : d < length (a.chosen ++ v ∷ []) = omega (arith, length_push a.chosen v) in both.1 k ∙ get_or_append_left a.chosen (v ∷ []) 0 d n))
 
 agrees_longer : (a : Assumed) (v : ℕ) (r : SubjectSet) (xs : List ℕ) → (is_in r (length a.chosen) ≡ true → slice_index xs (length a.chosen) ≡ v) → Agrees a r xs → Agrees (choosing a v) r xs
 agrees_longer a v r xs last h d m = (
   (h d m).0,
   λ n. elim (cases_eq d (length a.chosen)) [
     | inl e ↦ subst (λ (k : ℕ). slice_index xs k ≡ slice_index (a.chosen ++ v ∷ []) k) (sym e) (last (subst (λ (k : ℕ). is_in r k ≡ true) e m) ∙ sym (get_or-append_seam a.chosen v [] 0))
-    | inr ne ↦ (let k : d < length a.chosen = omega (arith, length-snoc a.chosen v) in (h d m).1 k ∙ sym (get_or_append_left a.chosen (v ∷ []) 0 d k))
+    | inr ne ↦ (let k : d < length a.chosen = omega (arith, length_push a.chosen v) in (h d m).1 k ∙ sym (get_or_append_left a.chosen (v ∷ []) 0 d k))
   ],
 )
 
@@ -45,7 +42,7 @@ chosen domains s v set because_of h set_is why_is a xs at knows d k agrees =
       | inl e ↦ (
           let new : slice_index_or (slice_set domains s one) d nothing ≡ one = ap (λ (j : ℕ). slice_index_or (slice_set domains s one) j nothing) e ∙ get_or-set_same domains s one nothing h in
           let mine : is_in (reason_at (slice_set domains s one) d) d ≡ true = ap (λ (y : Domain). is_in y.reason d) new ∙ (why_is d ∙ eq-eqb d s e) in
-          let in' : d < length (a.chosen ++ v ∷ []) = omega (arith, length-snoc a.chosen v) in
+          let in' : d < length (a.chosen ++ v ∷ []) = omega (arith, length_push a.chosen v) in
           let value : slice_index xs d ≡ v = (agrees d mine).1 in' ∙ (ap (slice_index (a.chosen ++ v ∷ [])) (e ∙ sym at) ∙ get_or-append_seam a.chosen v [] 0) in
           ap (λ (y : Domain). has y.values (slice_index xs d)) new ∙ (set_is (slice_index xs d) ∙ eq-eqb _ _ value))
       | inr ne ↦ (
@@ -90,28 +87,24 @@ module _ (clauses : List Clause) (base : List ℕ) (few : (d v : ℕ) → has (s
           | inr ne ↦ tried xs h (λ d m. agrees d (or_l _ _ _ (unions d) m)) (omega arith)
         ]
 
-    -- all values have been tried
-    pub all_tried : MAX_CHOICES ≤ value → length prefix < length base → IsClash clauses base prefix conflict_set
-    all_tried all inside xs h agrees = let small = h.small (length prefix) inside in tried xs h agrees (omega arith)
-
     -- what comes first with the first value that has a solution comes first
     pub found : (xs : List ℕ) → length domains ≡ length base → IsFirstFrom clauses base (prefix ++ value ∷ []) xs → IsFirstFrom clauses base prefix xs
     found xs same first = record {
       solution = first.solution;
-      extends = λ d n. (let k : d < length (prefix ++ value ∷ []) = omega (arith, length-snoc prefix value) in first.extends d k ∙ get_or_append_left prefix (value ∷ []) 0 d n);
+      extends = λ d n. (let k : d < length (prefix ++ value ∷ []) = omega (arith, length_push prefix value) in first.extends d k ∙ get_or_append_left prefix (value ∷ []) 0 d n);
       first = λ ys h extends.
-          (let s : length prefix < length (prefix ++ value ∷ []) = omega (arith, length-snoc prefix value) in
+          (let s : length prefix < length (prefix ++ value ∷ []) = omega (arith, length_push prefix value) in
           let mine : slice_index xs (length prefix) ≡ value = first.extends (length prefix) s ∙ get_or-append_seam prefix value [] 0 in
           elim (cases_order (slice_index ys (length prefix)) value) [
             | inl e ↦ first.first ys h (λ d n. elim (cases_eq d (length prefix)) [
               | inl at ↦ subst (λ (k : ℕ). slice_index ys k ≡ slice_index (prefix ++ value ∷ []) k) (sym at) (e ∙ sym (get_or-append_seam prefix value [] 0))
-              | inr ne ↦ (let k : d < length prefix = omega (arith, length-snoc prefix value) in extends d k ∙ sym (get_or_append_left prefix (value ∷ []) 0 d k))
+              | inr ne ↦ (let k : d < length prefix = omega (arith, length_push prefix value) in extends d k ∙ sym (get_or_append_left prefix (value ∷ []) 0 d k))
             ])
             | inr (inl l) ↦ absurd (tried ys (solution_met ys h) (solution_agrees prefix ys conflict_set h extends) l)
             | inr (inr g) ↦ inr (record {
               place = length prefix;
               inside = (let f = first.solution.full in omega arith);
-              same = λ d n. (let k : d < length (prefix ++ value ∷ []) = omega (arith, length-snoc prefix value) in first.extends d k ∙ (get_or_append_left prefix (value ∷ []) 0 d n ∙ sym (extends d n)));
+              same = λ d n. (let k : d < length (prefix ++ value ∷ []) = omega (arith, length_push prefix value) in first.extends d k ∙ (get_or_append_left prefix (value ∷ []) 0 d n ∙ sym (extends d n)));
               less = omega arith;
             })
           ]);

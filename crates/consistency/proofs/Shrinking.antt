@@ -4,13 +4,13 @@ use Rattle.std.proofs.lemmas.Bool.{eq-eqb, not_from_true, false≢true}
 use Rattle.std.proofs.lemmas.List.{append-nil}
 use Rattle.std.proofs.lemmas.List.Elements.{All-nil, All-contains, All-push, Contains-append_left, Contains-append_right, Contains-append_cases}
 use Rattle.std.proofs.lemmas.List.Kept.{AllPairs-filter}
+use Rattle.list_laws.proofs.Members.{all_from, contains_cases, contains_here, contains_none, from_filter, to_filter}
 use Rattle.cca_base.specs.declared.cube.Pair.{Pair}
 use Rattle.cca_base.specs.PlantModel.{PlantModel}
 use Rattle.cca_base.specs.Cube.{IsCube, IsPart, Lacks}
 use Rattle.cca_base.specs.Repairs.{pairs_of}
 use Rattle.cca_base.specs.Shown.{Clash}
 use Rattle.cca_base.proofs.CubeLaws.{IsCube-push, both_cube}
-use Rattle.cca_base.proofs.Members.{all_from, contains_cases, contains_here, contains_none, from_filter, to_filter}
 use Rattle.consistency.specs.declared.subjects.SubjectSet.{SubjectSet}
 use Rattle.consistency.specs.Conflict.{without, IsMinimalClash}
 use Rattle.consistency.specs.Cores.{IsCore, pairs_in}

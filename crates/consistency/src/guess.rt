@@ -2,7 +2,7 @@
 //! is a search made.
 
 ghost use Rattle.std.specs.Prelude.{◌≡◌, ◌<◌, length, IfOk, IfSome};
-ghost use Rattle.cca_base.specs.declared.limits.TheConstants.{MAX_CHOICES};
+ghost use Rattle.cca_base.specs.declared.limits.TheConstants.{MAX_CHOICES, MAX_ROWS};
 ghost use Rattle.clause_form.specs.Clauses.{AllBelow};
 ghost use Rattle.consistency.specs.Problem.{IsProblem};
 ghost use Rattle.consistency.specs.Search.{IsSolution, IsSolutionOrClash, IsSolutionOrNone};
@@ -77,7 +77,7 @@ fn picked(
     avoided: &[u8],
 ) -> Result<Option<List<u8>>, AllocError>
     requires below { AllBelow (length sets.old) problem.now.clauses }
-    requires small { length sets.old < 65536 }
+    requires small { length sets.old < MAX_ROWS }
     ensures { IfOk result (λ o. IfSome o (λ values. length values ≡ length sets.old)) }
 {
     let mut changed = Vec::new(alloc);

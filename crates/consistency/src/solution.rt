@@ -7,7 +7,7 @@ ghost use Rattle.consistency.specs.Problem.{IsProblem};
 
 use crate::problem::Problem;
 use cca_base::ValueSet;
-use clause_form::{Clause, Literal};
+use clause_form::Literal;
 
 /// Whether some literal is true.
 fn is_met(literals: &[Literal], values: &[u8]) -> bool

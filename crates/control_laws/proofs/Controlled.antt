@@ -1,9 +1,9 @@
 -- Calls one after the other have one list of goals, whose pairs are the program's.
 use Rattle.std.proofs.Common.{◌≡◌, ◌⊎◌, ℕ, zero, suc, List, [], ◌∷◌, ◌++◌, Option, Some, None, Contains, inl, inr, refl, sym, ap, subst, ◌∙◌}
 use Rattle.std.proofs.lemmas.List.Elements.{Contains-append_left, Contains-append_right, Contains-append_cases}
+use Rattle.list_laws.proofs.Members.{contains_cases, contains_none}
 use Rattle.cca_base.specs.declared.cube.Pair.{Pair}
 use Rattle.cca_base.specs.PlantModel.{PlantModel}
-use Rattle.cca_base.proofs.Members.{contains_cases, contains_none}
 use Rattle.control_laws.specs.Asked.{pairs_left, all_pairs_left, pairs_of_left}
 use Rattle.control_laws.specs.Laws.{OneControl}
 use Rattle.control_laws.specs.Rest.{Rest as rest, Rests as rests, Turn, TurnSeq, TurnBoth, left_of, joined, round}

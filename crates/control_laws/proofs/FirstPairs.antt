@@ -4,9 +4,9 @@ use Rattle.std.proofs.lemmas.Bool.Decides.{nat_tests}
 use Rattle.std.proofs.lemmas.List.Elements.{All-nil, All-cons, All-head, All-tail, All-weaker, filter-append, filter_passes}
 use Rattle.std.proofs.lemmas.List.Kept.{AllPairs-cons, AllPairs-filter}
 use Rattle.list_laws.proofs.Elements.{contains_middle}
+use Rattle.list_laws.proofs.Members.{contains_cases, contains_here, contains_none, contains_there, from_filter, to_filter}
 use Rattle.cca_base.specs.declared.cube.Pair.{Pair}
 use Rattle.cca_base.specs.Cube.{Lacks}
-use Rattle.cca_base.proofs.Members.{contains_cases, contains_here, contains_none, contains_there, from_filter, to_filter}
 use Rattle.control_laws.specs.Laws.{FirstOfEach, GoalsAreCubes, InOrderAsked}
 use Rattle.control_laws.specs.Turns.{firsts}
 

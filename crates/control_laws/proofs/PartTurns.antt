@@ -1,5 +1,6 @@
 -- What each kind of part does in a turn.
 use Rattle.std.proofs.Common.{◌≡◌, ℕ, zero, suc, ◌+◌, ◌<◌, ◌≤◌, List, [], ◌++◌, Option, Some, None, inl, inr, refl, sym, ap, subst, ◌∙◌, arith}
+use Rattle.std.proofs.lemmas.Option.{same_Some}
 use Rattle.cca_base.specs.declared.cube.Pair.{Pair}
 use Rattle.cca_base.specs.PlantModel.{PlantModel}
 use Rattle.control_laws.specs.Rest.{Rest as rest, Rests as rests, Turn, TurnSeq, TurnBoth, left_of, joined, round}
@@ -16,16 +17,13 @@ unfolding Turn
 awaits m e f asked next (inl h) = (h.1, (λ k. h.0, λ k. h.2), λ gone. absurd (gone h.0))
 awaits m e f asked next (inr h) = (h.1, (λ k. absurd (let gone : None ≡ Some (rest.Await f) = sym k ∙ h.2 in cc), λ k. absurd (h.0 k)), λ gone. h.2)
 
-same_rest : (x y : rest) → Some x ≡ Some y → x ≡ y
-same_rest x y e = cc
-
 pub one_by_one : OneByOne
 unfolding Turn TurnSeq
 one_by_one m e x y xs own asked next h (ys, inl t, last) =
     let same = one_turn m e x own t.0 (Some y) None h t.2 in absurd (let gone : Some y ≡ None = same.1 in cc)
 one_by_one m e x y xs own asked next h (ys, inr t, last) =
     let same = one_turn m e x own asked (Some y) (Some t.0) h t.1 in
-    (sym same.0, last ∙ ap (left_of rest.Seq) t.2 ∙ ap (λ r. Some (rest.Seq (rests.more r xs))) (sym (same_rest y t.0 same.1)))
+    (sym same.0, last ∙ ap (left_of rest.Seq) t.2 ∙ ap (λ r. Some (rest.Seq (rests.more r xs))) (sym (same_Some y t.0 same.1)))
 
 none_left : (wrap : rests → rest) (ys : rests) → left_of wrap ys ≡ None → ys ≡ rests.none
 none_left wrap rests.none e = refl

@@ -37,16 +37,16 @@ rest_step (Part-F.Both parts) = Both (rests parts)
 rest_step (Part-F.Choose f a b) = Choose f a b
 rest_step (Part-F.Repeat n a) = Repeat n a a
 
--- what is left at the start
+-- what is left of a part at its start
 abbrev pub whole : Part → Rest
 whole = fold-Part Rest rest_step
 
--- in front of others, if it isn't nothing
+-- a rest before others, left out if it is nothing
 abbrev pub joined : Option Rest → Rests → Rests
 joined None xs = xs
 joined (Some x) xs = more x xs
 
--- nothing where no part is left
+-- what is left of several parts as one, and nothing where no part is left
 abbrev pub left_of : (Rests → Rest) → Rests → Option Rest
 left_of wrap none = None
 left_of wrap (more x xs) = Some (wrap (more x xs))

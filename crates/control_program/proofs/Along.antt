@@ -1,7 +1,7 @@
 -- Parts that have their turns one behind the other, as far as a loop has come.
 use Rattle.std.proofs.Common.{◌≡◌, ◌+◌, ◌<◌, ◌≤◌, ◌&&◌, ℕ, Bool, true, false, List, [], ◌++◌, length, Option, Some, None, All, refl, sym, ap, subst, ◌∙◌, arith, append_assoc, append-nil}
 use Rattle.std.proofs.lemmas.List.{length-append}
-use Rattle.std.proofs.Math.Bool.{and-true}
+use Rattle.std.proofs.Math.Bool.{and-true, and_assoc}
 use Rattle.list_laws.proofs.Elements.{all_left, all_right}
 use Rattle.cca_base.specs.declared.cube.Pair.{Pair}
 use Rattle.cca_base.specs.Model.{IsFormula}
@@ -42,16 +42,12 @@ is_none-joined : (o : Option rest) (ys : rests) → is_none (joined o ys) ≡ (i
 is_none-joined None ys = refl
 is_none-joined (Some r) ys = refl
 
-and-assoc : (a b c : Bool) → (a && (b && c)) ≡ ((a && b) && c)
-and-assoc true b c = refl
-and-assoc false b c = refl
-
 is_none-plus : (xs ys : Trees) → is_none (rests_of (plus xs ys)) ≡ (is_none (rests_of xs) && is_none (rests_of ys))
 unfolding rest_of
 is_none-plus none ys = refl
 is_none-plus (more x xs) ys =
     is_none-joined (rest_of x) (rests_of (plus xs ys)) ∙ ap (λ b. is_nothing (rest_of x) && b) (is_none-plus xs ys)
-    ∙ and-assoc (is_nothing (rest_of x)) (is_none (rests_of xs)) (is_none (rests_of ys)) ∙ ap (λ b. b && is_none (rests_of ys)) (sym (is_none-joined (rest_of x) (rests_of xs)))
+    ∙ sym (and_assoc (is_nothing (rest_of x)) (is_none (rests_of xs)) (is_none (rests_of ys))) ∙ ap (λ b. b && is_none (rests_of ys)) (sym (is_none-joined (rest_of x) (rests_of xs)))
 
 and-false : (b : Bool) → (b && false) ≡ false
 and-false true = refl

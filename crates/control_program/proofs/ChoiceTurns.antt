@@ -19,7 +19,7 @@ use Rattle.control_program.specs.Marks.{first, second, Tree, begun, rest_of, IsP
 use Rattle.control_program.specs.Places.{IsOfKind, choice_of, marked}
 use Rattle.control_program.specs.Turned.{Became, HasTurned, Chooses}
 use Rattle.control_program.proofs.PartTurns.{takes_first, takes_second}
-use Rattle.control_program.proofs.PlaceLaws.{lies, in_nodes, headed, written, size_at, end_in_nodes, behind_one, place_behind}
+use Rattle.control_program.proofs.PlaceLaws.{lies, in_nodes, headed, written, size_at, end_in_nodes, place_behind}
 use Rattle.control_program.proofs.Sizes.{laid-append, length-laid}
 
 -- a whole tree behind others
@@ -57,7 +57,7 @@ module _ (a : Asking) (ms : List Mark) (at : ℕ) (s : StandsIn a ms at) (f : Fo
     unfolding laid size
     chosen_nodes =
         written a.nodes.now ms at (lies s) (Kind.Choose f) of w (Tree.Choose (choice_of w) f two.0 two.1) refl (ap (λ v. tail_of v s.after) (sym two.2)) (ap size (sym two.2))
-        ∙ behind_one s.before head (laid two.0 (laid two.1 s.after))
+        ∙ sym (append_assoc s.before (head ∷ []) (laid two.0 (laid two.1 s.after)))
 
     -- the first part behind it
     abbrev one_stands : StandsIn a (slice_set ms at w) (at + 1)
@@ -98,7 +98,7 @@ module _ (a : Asking) (ms : List Mark) (at : ℕ) (s : StandsIn a ms at) (f : Fo
         subst (λ v. Became a.rules.now.model.now a.estimate.now.modes v b.own (Tree.Choose first f b.next two.1)) (sym two.2)
         (takes_first a.rules.now.model.now a.estimate.now.modes (choice_of k) f two.0 two.1 b.next b.own takes choose_proper b.became);
     nodes =
-        b.nodes ∙ sym (behind_one s.before (head Mark.First) (laid b.next (laid two.1 s.after)))
+        b.nodes ∙ append_assoc s.before (head Mark.First ∷ []) (laid b.next (laid two.1 s.after))
         ∙ ap (λ v. s.before ++ (Marked.Choose first f, suc (v + size two.1)) ∷ laid b.next (laid two.1 s.after)) (sym b.became.size);
     asks = b.asks;
     left = b.left;
@@ -122,7 +122,7 @@ module _ (a : Asking) (ms : List Mark) (at : ℕ) (s : StandsIn a ms at) (f : Fo
         (takes_second a.rules.now.model.now a.estimate.now.modes (choice_of k) f two.0 two.1 b.next b.own takes choose_proper b.became);
     nodes =
         b.nodes ∙ sym (behind_one_part (s.before ++ head Mark.Second ∷ []) two.0 (laid b.next s.after))
-        ∙ sym (behind_one s.before (head Mark.Second) (laid two.0 (laid b.next s.after)))
+        ∙ append_assoc s.before (head Mark.Second ∷ []) (laid two.0 (laid b.next s.after))
         ∙ ap (λ v. s.before ++ (Marked.Choose second f, suc (size two.0 + v)) ∷ laid two.0 (laid b.next s.after)) (sym b.became.size);
     asks = b.asks;
     left = b.left;

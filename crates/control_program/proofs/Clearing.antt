@@ -8,7 +8,7 @@ use Rattle.control_program.specs.declared.nodes.Node.{Node}
 use Rattle.control_program.specs.declared.nodes.Task.{Task}
 use Rattle.control_program.specs.Flat.{Entry, fresh_entry, fresh_marked}
 use Rattle.control_program.specs.Places.{entry_of, fresh_kind, fresh_mark, is_ended, marked, marked_kind, marked_task}
-use Rattle.control_program.proofs.PlaceLaws.{marked-at, marked-set, behind_one}
+use Rattle.control_program.proofs.PlaceLaws.{marked-at, marked-set}
 
 -- up to the place they are as at the start
 pub record Cleared (before middle after entries : List Entry) (at : ℕ) : Type 0 where
@@ -50,12 +50,12 @@ module _ (ns : List Node) (ms : List Mark) (before middle after : List Entry) (a
       record {
         done = done ++ y ∷ [];
         todo = todo;
-        whole = whole ∙ behind_one done y todo;
+        whole = whole ∙ sym (append_assoc done (y ∷ []) todo);
         nodes =
             ap (λ i. marked ns (slice_set ms i (fresh_mark n))) (sym here_at)
             ∙ marked-set ns ms front y (todo ++ after) n (fresh_mark n) is (ap (slice_get ns) here_at ∙ h)
             ∙ ap (λ v. front ++ v ∷ (todo ++ after)) fresh
-            ∙ behind_one front (fresh_entry y) (todo ++ after)
+            ∙ sym (append_assoc front (fresh_entry y ∷ []) (todo ++ after))
             ∙ ap (λ l. l ++ (todo ++ after)) (append_assoc before (map fresh_entry done) (fresh_entry y ∷ []) ∙ ap (λ l. before ++ l) (sym (map-push done y)))
             ∙ sym (append_assoc (before ++ map fresh_entry (done ++ y ∷ [])) todo after);
         place = omega (arith, length-append done (y ∷ []), place);

@@ -1,5 +1,5 @@
 -- What stands at a place of the flat list, and what a written mark makes of it.
-use Rattle.std.proofs.Common.{◌≡◌, ◌+◌, ◌<◌, ◌≤◌, ℕ, List, [], ◌∷◌, ◌++◌, length, slice_get, slice_set, Some, refl, sym, ap, subst, ◌∙◌, arith, append_assoc}
+use Rattle.std.proofs.Common.{◌≡◌, ◌+◌, ◌<◌, ◌≤◌, ℕ, List, [], ◌∷◌, ◌++◌, length, slice_get, slice_set, Some, refl, sym, ap, subst, ◌∙◌, arith}
 use Rattle.std.proofs.lemmas.List.{length-append}
 use Rattle.std.proofs.lemmas.Option.{same_Some, slice_get_within}
 use Rattle.cca_base.specs.PlantModel.{PlantModel}
@@ -64,10 +64,6 @@ marked-marks (n ∷ ns) (k ∷ ms) = omega (arith, marked-marks ns ms)
 -- two halves of an entry
 pub same_entry : (a b : Marked) (n k : ℕ) → a ≡ b → n ≡ k → ◌≡◌ {A = Entry} (a, n) (b, k)
 same_entry a b n k p q = ap (λ v. (v, n)) p ∙ ap (λ v. (b, v)) q
-
--- one entry behind others
-pub behind_one : (before : List Entry) (h : Entry) (rest : List Entry) → before ++ h ∷ rest ≡ (before ++ h ∷ []) ++ rest
-behind_one before h rest = sym (append_assoc before (h ∷ []) rest)
 
 -- the place behind it
 pub place_behind : (before : List Entry) (h : Entry) (at : ℕ) → length before ≡ at → length (before ++ h ∷ []) ≡ at + 1

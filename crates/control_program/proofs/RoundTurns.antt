@@ -17,7 +17,7 @@ use Rattle.control_program.specs.Places.{IsOfKind, IsCleared, marked, rounds_of}
 use Rattle.control_program.specs.Turned.{Became, HasTurned}
 use Rattle.control_program.proofs.MarkLaws.{rest_of-cleared}
 use Rattle.control_program.proofs.PartTurns.{round_goes, last_round_ends, round_ends}
-use Rattle.control_program.proofs.PlaceLaws.{LiesAt, lies, in_marks, headed, written, size_at, end_in_nodes, end_in_marks, behind_one, place_behind}
+use Rattle.control_program.proofs.PlaceLaws.{LiesAt, lies, in_marks, headed, written, size_at, end_in_nodes, end_in_marks, place_behind}
 use Rattle.control_program.proofs.Sizes.{laid-append, laid-cleared, length-laid, size-cleared}
 
 ended-again : (k : ℕ) (r : rest) (o : Option rest) → is_nothing (again k r o) ≡ is_nothing o
@@ -54,13 +54,13 @@ module _ (ns : List Node) (ms : List Mark) (at number : ℕ) (r : RoundAt (marke
   unfolding laid
   cleared_nodes ms' end ends clear =
       clear (r.before ++ head ∷ []) (laid r.body []) r.after
-      (r.nodes ∙ behind_one r.before head (laid r.body r.after) ∙ ap (λ l. (r.before ++ head ∷ []) ++ l) (laid-append r.body r.after)
+      (r.nodes ∙ sym (append_assoc r.before (head ∷ []) (laid r.body r.after)) ∙ ap (λ l. (r.before ++ head ∷ []) ++ l) (laid-append r.body r.after)
       ∙ sym (append_assoc (r.before ++ head ∷ []) (laid r.body []) r.after))
       (place_behind r.before head at r.place)
       (omega (arith, place_behind r.before head at r.place, length-laid r.body [], ends))
       ∙ append_assoc (r.before ++ head ∷ []) (map fresh_entry (laid r.body [])) r.after
       ∙ ap (λ l. (r.before ++ head ∷ []) ++ l) (sym (laid-cleared r.body r.after))
-      ∙ sym (behind_one r.before head (laid (cleared r.body) r.after))
+      ∙ append_assoc r.before (head ∷ []) (laid (cleared r.body) r.after)
       ∙ ap (λ v. r.before ++ (Marked.Repeat number r.rounds, suc v) ∷ laid (cleared r.body) r.after) (sym (size-cleared r.body))
 
   next_nodes : (ms' : List Mark) (end j : ℕ) → end ≡ at + suc (size r.body) → IsCleared (at + 1) end (marked ns ms) (marked ns ms')
@@ -102,7 +102,7 @@ module _ (a : Asking) (ms : List Mark) (at : ℕ) (s : StandsIn a ms at) (number
 
   pub body_nodes : marked a.nodes.now ms ≡ (s.before ++ body_head ∷ []) ++ laid body.0 s.after
   unfolding laid
-  body_nodes = s.nodes ∙ ap (λ v. s.before ++ laid v s.after) body.1 ∙ behind_one s.before body_head (laid body.0 s.after)
+  body_nodes = s.nodes ∙ ap (λ v. s.before ++ laid v s.after) body.1 ∙ sym (append_assoc s.before (body_head ∷ []) (laid body.0 s.after))
 
   pub body_proper : IsProper body.0
   unfolding IsProper
@@ -130,7 +130,7 @@ module _ (a : Asking) (ms : List Mark) (at : ℕ) (s : StandsIn a ms at) (number
     pub turned_nodes : marked a.nodes.now ms' ≡ s.before ++ laid (Tree.Repeat number (rounds_of k) b.next) s.after
     unfolding laid
     turned_nodes =
-        b.nodes ∙ sym (behind_one s.before body_head (laid b.next s.after))
+        b.nodes ∙ append_assoc s.before (body_head ∷ []) (laid b.next s.after)
         ∙ ap (λ v. s.before ++ (Marked.Repeat number (rounds_of k), suc v) ∷ laid b.next s.after) (sym b.became.size)
 
     abbrev pub round_at : RoundAt (marked a.nodes.now ms') at number

@@ -1,5 +1,5 @@
 -- The turns of tasks, on the flat list.
-use Rattle.std.proofs.Common.{◌≡◌, ◌↔◌, ◌+◌, ℕ, suc, Bool, true, false, IsTrue, List, [], ◌∷◌, ◌++◌, slice_get, slice_set, Some, None, Result, IfOk, All, refl, sym, ap, subst, ◌∙◌, append-nil}
+use Rattle.std.proofs.Common.{◌≡◌, ◌↔◌, ◌+◌, ℕ, suc, Bool, true, false, IsTrue, List, [], ◌∷◌, ◌++◌, slice_get, slice_set, Some, None, Result, IfOk, All, refl, sym, ap, subst, ◌∙◌, append-nil, append_assoc}
 use Rattle.std.proofs.lemmas.List.Elements.{All-head}
 use Rattle.std.proofs.lemmas.Result.{IfOk-weaker}
 use Rattle.cca_base.specs.declared.cube.Pair.{Pair}
@@ -20,7 +20,7 @@ use Rattle.control_program.specs.Marks.{Tree, Trees, none, begun, all_begun, sev
 use Rattle.control_program.specs.Places.{marked, marked_task, is_ended}
 use Rattle.control_program.specs.Turned.{Became, HasTurned, HaveTurned, Reaches}
 use Rattle.control_program.proofs.PartTurns.{stays_ended, reach_ends, reach_stays, await_ends, await_stays, parts_became}
-use Rattle.control_program.proofs.PlaceLaws.{LiesAt, lies, IsHead, headed, of_kind, written, behind_one, place_behind}
+use Rattle.control_program.proofs.PlaceLaws.{LiesAt, lies, IsHead, headed, of_kind, written, place_behind}
 
 -- ---- a task as a tree
 
@@ -175,7 +175,7 @@ module _ (a : Asking) (ms : List Mark) (at : ℕ) (o : Bool) (n : ℕ) (s : Task
 
   pub parts_nodes : marked a.nodes.now ms ≡ (s.stands.before ++ parts_head ∷ []) ++ all_laid s.parts s.stands.after
   unfolding laid
-  parts_nodes = s.stands.nodes ∙ ap (λ v. s.stands.before ++ laid v s.stands.after) s.is ∙ behind_one s.stands.before parts_head (all_laid s.parts s.stands.after)
+  parts_nodes = s.stands.nodes ∙ ap (λ v. s.stands.before ++ laid v s.stands.after) s.is ∙ sym (append_assoc s.stands.before (parts_head ∷ []) (all_laid s.parts s.stands.after))
 
   pub parts_proper : AreProper s.parts
   unfolding IsProper
@@ -214,7 +214,7 @@ module _ (a : Asking) (ms : List Mark) (at : ℕ) (o : Bool) (n : ℕ) (s : Task
         subst (λ v. Became a.rules.now.model.now a.estimate.now.modes v h.own (Tree.Parts o d h.next)) (sym s.is)
         (parts_became a.rules.now.model.now a.estimate.now.modes o s.parts h.next h.own d h.left h.became);
     nodes =
-        h.nodes ∙ sym (behind_one s.stands.before parts_head (all_laid h.next s.stands.after))
+        h.nodes ∙ append_assoc s.stands.before (parts_head ∷ []) (all_laid h.next s.stands.after)
         ∙ ap (λ v. s.stands.before ++ v ∷ all_laid h.next s.stands.after) (next_head h.next h.became.number h.became.size);
     has = h.became.number ∙ s.has;
     asks = h.asks;

@@ -1,21 +1,22 @@
 -- The table of codes is what the tests at a line find.
 use Rattle.std.proofs.Common.{if◌then◌else◌, ◌≡◌, ◌≤◌, ◌⊎◌, ◌↔◌, ℕ, Bool, true, false, not, ◌||◌, ◌&&◌, nat_le, List, [], ◌∷◌, length, Option, Some, None, Result, Ok, Err, inl, inr, refl, sym, ap, subst, ◌∙◌, arith}
 use Rattle.std.specs.List.{list_any}
-use Rattle.std.proofs.lemmas.Bool.{le-leb, leb-true}
+use Rattle.std.proofs.lemmas.Bool.{le-leb, leb-true, or_left, or_right}
 use Rattle.std.proofs.lemmas.Option.{same_Some}
-use Rattle.list_laws.proofs.Tests.{either, never}
+use Rattle.list_laws.proofs.Tests.{either, never, false_true}
 use Rattle.list_laws.proofs.Passing.{some_passes, passes_some}
 use Rattle.cca_base.specs.declared.codes.TheConstants.{MALFORMED, NAME_UNKNOWN, LIMIT, BROKEN_GOAL, REPEATED_PAIR, UNMATCHED}
 use Rattle.cca_base.specs.declared.cube.Pair.{Pair}
 use Rattle.cca_base.specs.declared.events.Stop.{Stop}
 use Rattle.cca_base.specs.declared.events.Stop.TheVariants as stops
 use Rattle.cca_base.specs.PlantModel.{PlantModel}
+use Rattle.cca_base.specs.Refusals.{Answers}
 use Rattle.formula_syntax.specs.Least.{least}
 use Rattle.text_base.specs.Lexemes.{Lexeme}
 use Rattle.text_base.specs.Pairs.{NamedPair}
 use Rattle.script_reader.specs.EventCodes.{has_item_twice, is_broken_pair}
 use Rattle.script_reader.specs.Named.{component_of, mode_pair, each_pair}
-use Rattle.script_reader.specs.SaidLines.{Answers, IsLeast, SaidByItem}
+use Rattle.script_reader.specs.SaidLines.{IsLeast, SaidByItem}
 use Rattle.script_reader.proofs.EachPair.{comes_from, goes_to}
 use Rattle.script_reader.proofs.NamedItems.{mode_names, named_twice, twice_named}
 use Rattle.control_syntax.specs.Codes.{Applies, AppliesToWords, IsChoose, IsGreat, IsNamed, IsOutOfPlace, IsSaid, IsSaidByWords, IsSaidHere, IsUnmatched, NamesTwice, NamesUnknown, PassesLimit, WantsBroken}
@@ -28,9 +29,6 @@ use Rattle.control_syntax.specs.declared.block.Kind.TheVariants as kind
 use Rattle.control_syntax.specs.declared.limits.TheConstants.{MAX_LINES, MAX_BLOCKS}
 use Rattle.control_syntax.specs.declared.line.Line.{Line}
 use Rattle.control_syntax.specs.declared.line.Line.TheVariants as line
-
-no : {P : Type 0} → false ≡ true → P
-no e = absurd cc
 
 -- ---- tests of one value
 
@@ -65,14 +63,6 @@ outside_is (b ∷ bs) = (
 
 always_same : {A : Type 0} → A ↔ A
 always_same = (λ x. x, λ x. x)
-
-or_left : (x y : Bool) → x ≡ true → (x || y) ≡ true
-or_left true y e = refl
-or_left false y e = no e
-
-or_right : (x y : Bool) → y ≡ true → (x || y) ≡ true
-or_right true y e = refl
-or_right false y e = e
 
 -- of three cases, where the first is none
 limits : (G L B : Type 0) (t d : Bool) → (G → ⊥) → (L ↔ (t ≡ true)) → (B ↔ (d ≡ true)) → (G ⊎ (L ⊎ B)) ↔ ((t || d) ≡ true)
@@ -121,15 +111,15 @@ module _ (m : PlantModel) (r : Reading) where
   decide i true l b t u n sp sl sb st su =
       (inl (refl, sp.1 refl), λ less lt a. by_row i less a (λ c x. omega (arith, c, lt)) (λ c x. omega (arith, c, lt)) (λ c x. omega (arith, c, lt)) (λ c x. omega (arith, c, lt)) (λ c x. omega (arith, c, lt)) (λ c x. omega (arith, c, lt)))
   decide i false true b t u n sp sl sb st su =
-      (inr (inr (inl (refl, sl.1 refl))), λ less lt a. by_row i less a (λ c x. no (sp.0 x)) (λ c x. n x) (λ c x. omega (arith, c, lt)) (λ c x. omega (arith, c, lt)) (λ c x. omega (arith, c, lt)) (λ c x. omega (arith, c, lt)))
+      (inr (inr (inl (refl, sl.1 refl))), λ less lt a. by_row i less a (λ c x. false_true (sp.0 x)) (λ c x. n x) (λ c x. omega (arith, c, lt)) (λ c x. omega (arith, c, lt)) (λ c x. omega (arith, c, lt)) (λ c x. omega (arith, c, lt)))
   decide i false false true t u n sp sl sb st su =
-      (inr (inr (inr (inl (refl, sb.1 refl)))), λ less lt a. by_row i less a (λ c x. no (sp.0 x)) (λ c x. n x) (λ c x. no (sl.0 x)) (λ c x. omega (arith, c, lt)) (λ c x. omega (arith, c, lt)) (λ c x. omega (arith, c, lt)))
+      (inr (inr (inr (inl (refl, sb.1 refl)))), λ less lt a. by_row i less a (λ c x. false_true (sp.0 x)) (λ c x. n x) (λ c x. false_true (sl.0 x)) (λ c x. omega (arith, c, lt)) (λ c x. omega (arith, c, lt)) (λ c x. omega (arith, c, lt)))
   decide i false false false true u n sp sl sb st su =
-      (inr (inr (inr (inr (inl (refl, st.1 refl))))), λ less lt a. by_row i less a (λ c x. no (sp.0 x)) (λ c x. n x) (λ c x. no (sl.0 x)) (λ c x. no (sb.0 x)) (λ c x. omega (arith, c, lt)) (λ c x. omega (arith, c, lt)))
+      (inr (inr (inr (inr (inl (refl, st.1 refl))))), λ less lt a. by_row i less a (λ c x. false_true (sp.0 x)) (λ c x. n x) (λ c x. false_true (sl.0 x)) (λ c x. false_true (sb.0 x)) (λ c x. omega (arith, c, lt)) (λ c x. omega (arith, c, lt)))
   decide i false false false false true n sp sl sb st su =
-      (inr (inr (inr (inr (inr (refl, su.1 refl))))), λ less lt a. by_row i less a (λ c x. no (sp.0 x)) (λ c x. n x) (λ c x. no (sl.0 x)) (λ c x. no (sb.0 x)) (λ c x. no (st.0 x)) (λ c x. omega (arith, c, lt)))
+      (inr (inr (inr (inr (inr (refl, su.1 refl))))), λ less lt a. by_row i less a (λ c x. false_true (sp.0 x)) (λ c x. n x) (λ c x. false_true (sl.0 x)) (λ c x. false_true (sb.0 x)) (λ c x. false_true (st.0 x)) (λ c x. omega (arith, c, lt)))
   decide i false false false false false n sp sl sb st su =
-      λ code a. by_row i code a (λ c x. no (sp.0 x)) (λ c x. n x) (λ c x. no (sl.0 x)) (λ c x. no (sb.0 x)) (λ c x. no (st.0 x)) (λ c x. no (su.0 x))
+      λ code a. by_row i code a (λ c x. false_true (sp.0 x)) (λ c x. n x) (λ c x. false_true (sl.0 x)) (λ c x. false_true (sb.0 x)) (λ c x. false_true (st.0 x)) (λ c x. false_true (su.0 x))
 
   -- ---- item by item
 
@@ -194,7 +184,7 @@ module _ (m : PlantModel) (r : Reading) where
 
   and_both : (x y : Bool) → x ≡ true → y ≡ true → (x && y) ≡ true
   and_both true y e f = f
-  and_both false y e f = no e
+  and_both false y e f = false_true e
 
   -- a line that is taken may be counted
   pub room_here : (text : List ℕ) (l : Line) → IsSaid m r text (Ok (Some l)) → HasRoom r l

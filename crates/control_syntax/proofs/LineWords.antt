@@ -2,7 +2,7 @@
 use Rattle.std.proofs.Common.{if◌then◌else◌, ◌≡◌, ◌↔◌, ◌≢◌, ◌<◌, ◌≤◌, ◌^◌, ℕ, Bool, true, false, List, [], ◌∷◌, codes, length, Some, None, Result, Ok, Err, inl, inr, refl, sym, ap, subst, ◌∙◌, arith}
 use Rattle.std.specs.Fmt.{decimal}
 use Rattle.std.proofs.lemmas.Option.{same_Some}
-use Rattle.list_laws.proofs.Tests.{some_none}
+use Rattle.list_laws.proofs.Tests.{some_none, true_false}
 use Rattle.list_laws.proofs.Elements.{same_head, same_tail}
 use Rattle.cca_base.specs.declared.codes.TheConstants.{MALFORMED, NAME_UNKNOWN, LIMIT}
 use Rattle.cca_base.specs.declared.cube.Pair.{Pair}
@@ -10,7 +10,8 @@ use Rattle.cca_base.specs.declared.events.Stop.{Stop}
 use Rattle.cca_base.specs.declared.events.Stop.TheVariants as stops
 use Rattle.cca_base.specs.declared.formula.Formula.{Formula}
 use Rattle.cca_base.specs.PlantModel.{PlantModel}
-use Rattle.formula_syntax.specs.Answers.{AnswersFormula, IsFormulaOf, formula_or_code}
+use Rattle.cca_base.specs.Refusals.{Answers}
+use Rattle.formula_syntax.specs.Answers.{IsFormulaOf, formula_or_code}
 use Rattle.formula_syntax.specs.Grammar.{Whole, spelling}
 use Rattle.formula_syntax.specs.Meanings.{names_unknown, is_deep, whole_formula}
 use Rattle.model_syntax.proofs.ItemGrammar.{number_read}
@@ -25,7 +26,7 @@ use Rattle.script_reader.proofs.EachPair.{goes_to, missing}
 use Rattle.script_reader.proofs.ItemGrammar.{only_pairs_read, reads_only_pairs}
 use Rattle.script_reader.specs.Items.{only_pairs}
 use Rattle.script_reader.specs.Named.{mode_pair, each_pair}
-use Rattle.script_reader.specs.SaidLines.{Answers, AreSpelling, IsLeast, SaidByItem}
+use Rattle.script_reader.specs.SaidLines.{AreSpelling, IsLeast, SaidByItem}
 use Rattle.control_syntax.specs.Codes.{AppliesToWords, IsGreat, IsNamed, IsSaidByWords, NamesUnknown}
 use Rattle.control_syntax.specs.Items.{Item, Program, Reach, Await, Seq, Both, Choose, Otherwise, Repeat, Done, End, behind, first_word, grammar}
 use Rattle.control_syntax.specs.Words.{IsAlone, only_digits}
@@ -81,9 +82,6 @@ same_rank i j ls rest e = sym (first_rank i) ∙ ap rank_of (same_head (first_wo
 -- the form of an item that begins with the word
 rank_by : (k : ℕ) (l : Lexeme) (i : Item) (ls : List Lexeme) → l ∷ ls ≡ first_word i ∷ behind i → rank_of l ≡ k → k ≡ rank i
 rank_by k l i ls e is = sym is ∙ ap rank_of (same_head l (first_word i) ls (behind i) e) ∙ first_rank i
-
-no : {P : Type 0} → true ≡ false → P
-no e = absurd cc
 
 -- ---- items whose word stands alone
 
@@ -250,9 +248,9 @@ module _ (m : PlantModel) where
     asks_by : (text : Whole) (u d : Bool) → names_unknown m text ≡ u → is_deep text ≡ d
         → AsksFor text (made (form_line choice) (if u then Err NAME_UNKNOWN else (if d then Err LIMIT else Ok (whole_formula m text))))
     asks_by text true d hu hd = unknown_least (form_item choice text) ((form_unknown choice text).1 hu)
-    asks_by text false true hu hd = limit_least (form_item choice text) (λ x. no (sym ((form_unknown choice text).0 x) ∙ hu)) ((form_deep choice text).1 hd)
+    asks_by text false true hu hd = limit_least (form_item choice text) (λ x. true_false (sym ((form_unknown choice text).0 x) ∙ hu)) ((form_deep choice text).1 hd)
     asks_by text false false hu hd =
-        (form_named choice text, none_applies (form_item choice text) (λ x. no (sym ((form_unknown choice text).0 x) ∙ hu)) (λ x. no (sym ((form_deep choice text).0 x) ∙ hd)))
+        (form_named choice text, none_applies (form_item choice text) (λ x. true_false (sym ((form_unknown choice text).0 x) ∙ hu)) (λ x. true_false (sym ((form_deep choice text).0 x) ∙ hd)))
 
     pub formula_asks : (text : Whole) → AsksFor text (made (form_line choice) (formula_or_code m text))
     formula_asks text = asks_by text (names_unknown m text) (is_deep text) refl refl
@@ -269,7 +267,7 @@ module _ (m : PlantModel) where
     ]
 
     -- the same of what a call answered
-    formula_stop : (ls : List Lexeme) (stop : Stop) → AnswersFormula (Err stop) (IsFormulaOf m ls) → Answers (let r : Result Line Stop = Err stop in r) (IsSaidByWords m (form_word choice ∷ ls))
+    formula_stop : (ls : List Lexeme) (stop : Stop) → Answers (Err stop) (IsFormulaOf m ls) → Answers (let r : Result Line Stop = Err stop in r) (IsSaidByWords m (form_word choice ∷ ls))
     formula_stop ls stops.Memory h = tt
     formula_stop ls (stops.Refused refusal) h = (formula_says ls (Err refusal.code) h.0, h.1)
 
@@ -277,7 +275,7 @@ module _ (m : PlantModel) where
       pub formula_answers : (f : Formula) → IsFormulaOf m ls (Ok f) → IsSaidByWords m (l ∷ ls) (Ok (form_line choice f))
       formula_answers f h = subst (λ (w : Lexeme). IsSaidByWords m (w ∷ ls) (Ok (form_line choice f))) (sym (lexeme_is (form_word choice) l is)) (formula_says ls (Ok f) h)
 
-      pub formula_stops : (stop : Stop) → AnswersFormula (Err stop) (IsFormulaOf m ls) → Answers (let r : Result Line Stop = Err stop in r) (IsSaidByWords m (l ∷ ls))
+      pub formula_stops : (stop : Stop) → Answers (Err stop) (IsFormulaOf m ls) → Answers (let r : Result Line Stop = Err stop in r) (IsSaidByWords m (l ∷ ls))
       formula_stops stop h =
           subst (λ (w : Lexeme). Answers (let r : Result Line Stop = Err stop in r) (IsSaidByWords m (w ∷ ls))) (sym (lexeme_is (form_word choice) l is)) (formula_stop ls stop h)
 

@@ -1,7 +1,7 @@
 -- What a write to the last block of a list, or to the last part of a block, does to the place.
 use Rattle.std.proofs.Common.{◌≡◌, ◌<◌, ◌≤◌, ℕ, ◌-◌, List, [], ◌∷◌, ◌++◌, length, reverse, slice_set, slice_index_or, refl, sym, ap, subst, ◌∙◌, arith, append_assoc, length-append}
 use Rattle.std.proofs.Math.Seq.{set-append_seam}
-use Rattle.std.proofs.lemmas.List.{reverse-append}
+use Rattle.std.proofs.lemmas.List.{reverse-append, same_from_push}
 use Rattle.control_syntax.specs.declared.block.Block.{Block}
 use Rattle.control_syntax.specs.declared.block.Kind.{Kind}
 use Rattle.control_syntax.specs.declared.part.Part.{Part}
@@ -33,19 +33,6 @@ at_last front b d = rw (last_place front b) (at_seam front b [] d)
 
 reverse_last : {A : Type 0} (front : List A) (b : A) → reverse (front ++ b ∷ []) ≡ b ∷ reverse front
 reverse_last front b = reverse-append front (b ∷ [])
-
-same_last : {A : Type 0} (xs ys : List A) (x y : A) → xs ++ x ∷ [] ≡ ys ++ y ∷ [] → (xs ≡ ys) × (x ≡ y)
-same_last [] [] x y e = (refl, cc)
-same_last [] (b ∷ []) x y e = absurd cc
-same_last [] (b ∷ c ∷ ys) x y e = absurd cc
-same_last (a ∷ []) [] x y e = absurd cc
-same_last (a ∷ c ∷ xs) [] x y e = absurd cc
-same_last (a ∷ xs) (b ∷ ys) x y e =
-    let rest : xs ++ x ∷ [] ≡ ys ++ y ∷ [] = cc in
-    let first : a ≡ b = cc in
-    let r = same_last xs ys x y rest in
-    let both : a ∷ xs ≡ b ∷ ys = cc in
-    (both, r.1)
 
 -- the place, by the blocks with the innermost first
 abbrev place_of : List Part → List Block → Place
@@ -189,7 +176,7 @@ module _ (parts around_parts : List Part) (items around_items : List Block) (emp
   closed_is end_parts popped end_items block part pops is again =
       let s = ended items some in
       let a = put_around s.front s.last s.are in
-      let same = same_last a.0 popped s.last block (sym a.1 ∙ pops) in
+      let same = same_from_push a.0 popped s.last block (sym a.1 ∙ pops) in
       let put_there : placed around_parts popped ≡ put empty (placed parts s.front) = subst (λ (xs : List Block). placed around_parts xs ≡ put empty (placed parts s.front)) same.0 a.2 in
       let own : part ≡ block_part s.last.kind s.last.parts = is ∙ ap (λ (b : Block). block_part b.kind b.parts) (sym same.1) in
       again empty (placed parts s.front) put_there ∙ ap (λ (p : Part). put p (placed parts s.front)) own

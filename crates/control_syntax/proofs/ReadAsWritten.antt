@@ -1,7 +1,8 @@
 -- Lines that run to the end of a program are that program, as it is written.
-use Rattle.std.proofs.Common.{◌≡◌, ◌<◌, ◌≤◌, ◌+◌, ◌⊎◌, ◌&&◌, nat_le, max, ℕ, Bool, true, false, List, [], ◌∷◌, ◌++◌, length, Some, None, inl, inr, refl, sym, ap, subst, ◌∙◌, append_assoc, append-nil, arith}
+use Rattle.std.proofs.Common.{◌≡◌, ◌<◌, ◌≤◌, ◌+◌, ◌⊎◌, ◌&&◌, nat_le, max, ℕ, true, false, List, [], ◌∷◌, ◌++◌, length, Some, None, inl, inr, refl, sym, ap, subst, ◌∙◌, append_assoc, append-nil, arith}
 use Rattle.std.proofs.lemmas.Bool.{leb-false, or_parts, not-false}
 use Rattle.std.proofs.lemmas.Option.{same_Some}
+use Rattle.list_laws.proofs.Tests.{and_false}
 use Rattle.cca_base.specs.declared.formula.Formula.{Formula}
 use Rattle.control_syntax.specs.declared.block.Block.{Block}
 use Rattle.control_syntax.specs.declared.block.Kind.{Kind}
@@ -18,19 +19,15 @@ use Rattle.control_syntax.proofs.Runs.{Runs}
 
 -- ---- the limits that are kept
 
-and_false : (x y : Bool) → x ≡ true → (x && y) ≡ false → y ≡ false
-and_false true y e f = f
-and_false false y e f = absurd cc
-
 module _ (count blocks : ℕ) (l : Line) (within : passes_limit count blocks l ≡ false) where
   kept : ((is_inside l && nat_le MAX_LINES count) ≡ false) × ((begins_block l && nat_le MAX_BLOCKS blocks) ≡ false)
   kept = or_parts (is_inside l && nat_le MAX_LINES count) (begins_block l && nat_le MAX_BLOCKS blocks) within
 
   line_left : is_inside l ≡ true → count < MAX_LINES
-  line_left h = leb-false MAX_LINES count (and_false (is_inside l) (nat_le MAX_LINES count) h kept.0)
+  line_left h = leb-false MAX_LINES count (and_false (is_inside l) (nat_le MAX_LINES count) kept.0 h)
 
   block_left : begins_block l ≡ true → blocks < MAX_BLOCKS
-  block_left h = leb-false MAX_BLOCKS blocks (and_false (begins_block l) (nat_le MAX_BLOCKS blocks) h kept.1)
+  block_left h = leb-false MAX_BLOCKS blocks (and_false (begins_block l) (nat_le MAX_BLOCKS blocks) kept.1 h)
 
 -- between `program` and `end`
 abbrev pub state : ℕ → Place → Reading

@@ -2,11 +2,11 @@
 use Rattle.std.proofs.Common.{Contains, ◌≡◌, ◌<◌, ◌≤◌, ℕ, false, List, [], ◌∷◌, ◌++◌, All, Option, Some, None, Ok, inl, inr, refl, sym, subst, arith}
 use Rattle.std.proofs.lemmas.List.Elements.{All-cons, All-head, All-nil, All-push, All-tail}
 use Rattle.std.proofs.lemmas.Bool.{false_from_ne_true}
+use Rattle.list_laws.proofs.Members.{all_from}
 use Rattle.cca_base.specs.declared.codes.TheConstants.{NAME_UNKNOWN, LIMIT, BROKEN_GOAL, REPEATED_PAIR}
 use Rattle.cca_base.specs.declared.cube.Pair.{Pair}
 use Rattle.cca_base.specs.Model.{HasMode, IsFormula, is_broken}
 use Rattle.cca_base.specs.PlantModel.{PlantModel}
-use Rattle.cca_base.proofs.Members.{all_from}
 use Rattle.formula_syntax.specs.Meanings.{names_unknown, is_deep}
 use Rattle.script_reader.specs.EventCodes.{has_item_twice}
 use Rattle.script_reader.specs.Named.{component_of, mode_pair}

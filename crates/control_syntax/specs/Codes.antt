@@ -133,6 +133,6 @@ IsSaidByWords m ls said = SaidByWords grammar (IsNamed m) (AppliesToWords m) ls 
 abbrev pub IsSaidHere : PlantModel → Reading → List Lexeme → Result Line ℕ → Type 0
 IsSaidHere m r ls said = SaidByWords grammar (IsNamed m) (Applies m r) ls said
 
--- the same where there may be none
+-- what the tokens of a line say, if it has any
 abbrev pub IsSaidByTokens : PlantModel → Reading → List Lexeme → Result (Option Line) ℕ → Type 0
 IsSaidByTokens m r ls said = SaidByTokens grammar (IsNamed m) (Applies m r) ls said

@@ -32,7 +32,7 @@ first_word (Repeat rounds) = word (codes "repeat")
 first_word Done = word (codes "done")
 first_word End = word (codes "end")
 
--- what stands behind that word
+-- what stands behind the first word of an item
 abbrev pub behind : Item → List Lexeme
 behind (Reach pairs) = pair_list_spelled pairs
 behind (Await formula) = spelling formula

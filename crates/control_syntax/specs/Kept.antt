@@ -35,7 +35,7 @@ pub record IsSound (m : PlantModel) (part : Part) : Type 0 where
   pub may_run : MayRun m part
   pub goals : All IsGoal (goals_of part)
 
--- so are the words of an open block, and what stands before its `otherwise`
+-- the words of an open block are sound, and what stands before its `otherwise`
 abbrev pub IsSoundKind : PlantModel → Kind → Type 0
 IsSoundKind m kind.Seq = Unit {0}
 IsSoundKind m kind.Both = Unit {0}
@@ -43,11 +43,11 @@ IsSoundKind m (kind.Choose f) = IsFormula m f
 IsSoundKind m (kind.Otherwise f first) = IsFormula m f × All (IsSound m) first
 IsSoundKind m (kind.Repeat n) = 1 ≤ n
 
--- so is an open block
+-- an open block is sound, with the parts read so far
 abbrev pub IsSoundBlock : PlantModel → Block → Type 0
 IsSoundBlock m b = IsSoundKind m b.kind × All (IsSound m) b.parts
 
--- all that was read is so
+-- all that was read of a program may be run on the model
 pub record MayRunSoFar (m : PlantModel) (r : Reading) : Type 0 where
   pub parts : All (IsSound m) r.place.parts
   pub blocks : All (IsSoundBlock m) r.place.open_blocks

@@ -59,7 +59,7 @@ turned_block kind.Both parts = record { kind = kind.Both; parts = parts }
 turned_block (kind.Otherwise f first) parts = record { kind = kind.Otherwise f first; parts = parts }
 turned_block (kind.Repeat n) parts = record { kind = kind.Repeat n; parts = parts }
 
--- the same, of the innermost open block
+-- the blocks with the innermost of them turned to its otherwise
 abbrev pub turned_in : List Block → List Block
 turned_in [] = []
 turned_in (b ∷ bs) = turned_block b.kind b.parts ∷ bs

@@ -1,9 +1,8 @@
 //! The least code of a line whose words are known.
 
 ghost use Rattle.std.specs.Prelude.{◌≡◌, not, reverse, List};
-ghost use Rattle.std.specs.List.{list_any};
 ghost use Rattle.cca_base.specs.declared.cube.Pair.{Pair};
-ghost use Rattle.script_reader.specs.EventCodes.{has_item_twice, is_broken_pair};
+ghost use Rattle.script_reader.specs.EventCodes.{has_item_twice};
 ghost use Rattle.control_syntax.specs.Tests.{asked_pairs, begins_block, code_of, in_choose, is_choose, is_inside, is_program, is_unmatched, none_open, out_of_place, passes_limit};
 
 use crate::block::{Block, Kind};
@@ -11,7 +10,7 @@ use crate::limits::{MAX_BLOCKS, MAX_LINES};
 use crate::line::Line;
 use cca_base::codes::{BROKEN_GOAL, LIMIT, MALFORMED, REPEATED_PAIR, UNMATCHED};
 use cca_base::{Model, Pair};
-use script_reader::has_item_twice;
+use script_reader::{has_broken, has_item_twice};
 
 /// Whether the line stands between `program` and `end`.
 pub fn is_inside(line: &Line) -> bool
@@ -58,13 +57,6 @@ fn asked_pairs(line: &Line) -> &[Pair]
         Line::Reach(pairs) => pairs.as_slice(),
         _ => &[],
     }
-}
-
-/// Whether a pair has a broken mode.
-fn has_broken(model: &Model, pairs: &[Pair]) -> bool
-    ensures { result ≡ list_any (is_broken_pair model.now) pairs.now }
-{
-    pairs.iter().any(|p| model.broken(p.item, p.value))
 }
 
 /// Whether the block is a `choose` before its `otherwise`.

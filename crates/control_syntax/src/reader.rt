@@ -1,9 +1,8 @@
 //! A control program, read line by line.
 
 ghost use Rattle.std.specs.Prelude.{◌≡◌, ◌∷◌, IfOk, IsSome, None, OnErr, Some, map};
-ghost use Rattle.cca_base.specs.Prelude.{PlantModel};
+ghost use Rattle.cca_base.specs.Prelude.{Answers, PlantModel};
 ghost use Rattle.text_base.specs.Lexemes.{lexeme_of};
-ghost use Rattle.script_reader.specs.SaidLines.{Answers};
 ghost use Rattle.control_syntax.specs.Codes.{IsSaid, IsSaidByTokens, IsSaidHere, Leads};
 ghost use Rattle.control_syntax.specs.Reading.{HasEnded, after, end_of, nothing_read};
 ghost use Rattle.control_syntax.specs.Kept.{MayRunSoFar};

@@ -2,8 +2,8 @@
 
 ghost use Rattle.std.specs.Prelude.{◌≡◌, ◌∷◌, codes, map};
 ghost use Rattle.std.specs.Option.{option_map};
+ghost use Rattle.cca_base.specs.Prelude.{Answers};
 ghost use Rattle.text_base.specs.Lexemes.{lexeme_of, word};
-ghost use Rattle.script_reader.specs.SaidLines.{Answers};
 ghost use Rattle.control_syntax.specs.Codes.{IsSaidByWords};
 ghost use Rattle.control_syntax.specs.Words.{IsAlone, only_digits};
 

@@ -6,8 +6,8 @@ use Rattle.std.proofs.lemmas.List.{get_or_default, get_or-map, drop-take, drop-d
 use Rattle.std.proofs.lemmas.List.Sums.{sum_by-le, sum_by-set}
 use Rattle.std.proofs.lemmas.List.Elements.{All-nil, All-cons, All-head, All-tail}
 use Rattle.std.proofs.lemmas.Slice.Zip.{AllZip-long}
+use Rattle.list_laws.proofs.Members.{contains_cases, contains_here, contains_none}
 use Rattle.cca_base.specs.declared.limits.TheConstants.{MAX_ROWS, MAX_COST}
-use Rattle.cca_base.proofs.Members.{contains_cases, contains_here, contains_none}
 use Rattle.cca_base.specs.declared.choice.Choice.{Choice}
 use Rattle.cost_search.specs.declared.part.Span.{Span}
 use Rattle.cca_base.specs.Choices.{IsRow, AreRows}

@@ -7,7 +7,7 @@ use Rattle.std.proofs.lemmas.Option.{same_Some, none-some}
 use Rattle.std.proofs.lemmas.List.Sums.{sum_by-cons}
 use Rattle.std.proofs.lemmas.List.Elements.{All-nil, All-cons, All-head, All-tail, All-contains}
 use Rattle.std.proofs.lemmas.Slice.Zip.{AllZip-long}
-use Rattle.cca_base.proofs.Members.{contains_cases, contains_here, contains_there, contains_none}
+use Rattle.list_laws.proofs.Members.{contains_cases, contains_here, contains_there, contains_none}
 use Rattle.cca_base.specs.declared.cube.Pair.{Pair}
 use Rattle.cca_base.specs.State.{Extends}
 use Rattle.cca_base.specs.declared.choice.Choice.{Choice}

@@ -2,10 +2,9 @@
 use Rattle.std.proofs.Common.{◌≡◌, inl, inr, ℕ, ◌<◌, ◌≤◌, Bool, true, false, cond, List, [], ◌∷◌, Contains, Some, None, Option, refl, sym, ap, subst, arith}
 use Rattle.std.specs.List.{AllZip, sum_by}
 use Rattle.std.specs.Ordering.{is_lt}
-use Rattle.std.specs.declared.cmp.Ordering.{Ordering}
-use Rattle.std.specs.declared.cmp.Ordering.TheVariants.{Less, Equal, Greater}
 use Rattle.std.proofs.lemmas.List.Sums.{sum_by-cons, sum_by-le-sum_by}
-use Rattle.cca_base.proofs.Members.{contains_cases, contains_none}
+use Rattle.list_laws.proofs.Members.{contains_cases, contains_none}
+use Rattle.list_laws.proofs.Orders.{lt_less}
 use Rattle.cca_base.specs.declared.choice.Choice.{Choice}
 use Rattle.cost_search.specs.declared.costed.Costed.{Costed}
 use Rattle.cost_search.specs.Search.{Searched, IsFirstLeft, IsAfterLast, rank_cmp}
@@ -50,16 +49,11 @@ count-lt (row ∷ rows) test more (y ∷ picks) f has out inside =
     (λ x. count-le rows (λ ps. test (x ∷ ps)) (λ ps. more (x ∷ ps)) (λ ps. f (x ∷ ps))) has.0
     (count-lt rows (λ ps. test (y ∷ ps)) (λ ps. more (y ∷ ps)) picks (λ ps. f (y ∷ ps)) has.1 out inside)
 
-is_less : (o : Ordering) → is_lt o ≡ true → o ≡ Less
-is_less Less e = refl
-is_less Equal e = absurd (cc)
-is_less Greater e = absurd (cc)
-
 after_again : (last : Option Costed) (given : Costed) (picks : List Choice) → IsAfterLast last given.state.modes given.cost → is_after_last (Some given) picks ≡ true → is_after_last last picks ≡ true
 after_again None given picks h e = refl
 after_again (Some l) given picks h e =
     ap is_lt (before-trans l.cost given.cost (cost_of picks) l.state.modes given.state.modes (modes_of picks) h
-    (is_less (rank_cmp given.cost given.state.modes (cost_of picks) (modes_of picks)) e))
+    (lt_less (rank_cmp given.cost given.state.modes (cost_of picks) (modes_of picks)) e))
 
 after_tested : (last : Option Costed) (picks : List Choice) → IsAfterLast last (modes_of picks) (cost_of picks) → is_after_last last picks ≡ true
 after_tested None picks h = refl

@@ -7,7 +7,7 @@ use Rattle.std.proofs.lemmas.List.Sums.{sum_by-le}
 use Rattle.std.proofs.lemmas.List.Elements.{All-nil, All-cons, All-head, All-tail, All-contains, All-set, All-filter}
 use Rattle.std.proofs.lemmas.List.Kept.{AllPairs-filter}
 use Rattle.std.proofs.lemmas.Slice.Zip.{AllZip-long}
-use Rattle.cca_base.proofs.Members.{to_filter, from_filter}
+use Rattle.list_laws.proofs.Members.{to_filter, from_filter}
 use Rattle.cca_base.specs.declared.limits.TheConstants.{MAX_ROWS, MAX_COST}
 use Rattle.cca_base.specs.declared.choice.Choice.{Choice}
 use Rattle.cca_base.specs.Choices.{IsRow, AreRows, choice_cmp}

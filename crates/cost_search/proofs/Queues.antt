@@ -7,8 +7,8 @@ use Rattle.std.proofs.lemmas.Slice.Zip.{AllZip-long}
 use Rattle.std.proofs.lemmas.List.Sums.{sum_by-append}
 use Rattle.std.proofs.lemmas.List.Sorted.{Contains-permutation, All-permutation, sum_by-IsPermutation, sum_by_popped}
 use Rattle.std.proofs.lemmas.List.Elements.{All-append, All-tail, Contains-append_left, Contains-append_right, All-contains}
+use Rattle.list_laws.proofs.Members.{all_from, contains_cases, contains_here, contains_there, contains_none}
 use Rattle.cca_base.specs.declared.limits.TheConstants.{MAX_ROWS}
-use Rattle.cca_base.proofs.Members.{all_from, contains_cases, contains_here, contains_there, contains_none}
 use Rattle.cca_base.specs.declared.cube.Pair.{Pair}
 use Rattle.cca_base.specs.State.{Extends}
 use Rattle.cca_base.specs.declared.choice.Choice.{Choice}

@@ -4,11 +4,11 @@ use Rattle.std.specs.List.{AllZip, slice_range}
 use Rattle.std.specs.Ordering.{nat_cmp}
 use Rattle.std.specs.declared.cmp.Ordering.TheVariants.{Less}
 use Rattle.std.proofs.lemmas.List.{get_or-take, get_or-drop, get_or_default, length-take, length-drop}
-use Rattle.std.proofs.lemmas.List.Elements.{All-nil, All-cons, All-head, All-tail, All-take, All-contains}
+use Rattle.std.proofs.lemmas.List.Elements.{All-nil, All-cons, All-head, All-tail, All-take, All-contains, All-drop}
 use Rattle.std.proofs.lemmas.Map.Lookups.{exact_unsigned}
-use Rattle.cca_base.proofs.Members.{contains_cases, contains_here, contains_none}
 use Rattle.list_laws.proofs.Pairwise.{AllPairs-head, AllPairs-tail, AllPairs-take}
 use Rattle.list_laws.proofs.Orders.{then_cases, cmp_less}
+use Rattle.list_laws.proofs.Members.{contains_cases, contains_here, contains_none}
 use Rattle.cca_base.specs.declared.limits.TheConstants.{MAX_COST}
 use Rattle.cca_base.specs.Choices.{IsRow, choice_cmp}
 use Rattle.cca_base.specs.declared.choice.Choice.{Choice}
@@ -75,16 +75,11 @@ pairs-drop R zero row h = h
 pairs-drop R (suc n) [] h = h
 pairs-drop R (suc n) (x ∷ row) h = pairs-drop R n row (AllPairs-tail R x row h)
 
-all-drop : (P : Choice → Type 0) (n : ℕ) (row : List Choice) → All P row → All P (drop n row)
-all-drop P zero row h = h
-all-drop P (suc n) [] h = h
-all-drop P (suc n) (x ∷ row) h = all-drop P n row (All-tail P x row h)
-
 range_row : (row : List Choice) (from to : ℕ) → IsRow row → IsRow (slice_range row from to)
 range_row row from to is = record {
   rising = AllPairs-take (λ x y. choice_cmp x y ≡ Less) (to - from) (drop from row) (pairs-drop (λ x y. choice_cmp x y ≡ Less) from row is.rising);
   once = AllPairs-take (λ x y. x.mode ≢ y.mode) (to - from) (drop from row) (pairs-drop (λ x y. x.mode ≢ y.mode) from row is.once);
-  cheap = All-take (λ x. x.cost ≤ MAX_COST) (to - from) (drop from row) (all-drop (λ x. x.cost ≤ MAX_COST) from row is.cheap);
+  cheap = All-take (λ x. x.cost ≤ MAX_COST) (to - from) (drop from row) (All-drop (λ x. x.cost ≤ MAX_COST) from row is.cheap);
 }
 
 range-at : (row : List Choice) (from to k : ℕ) (x : Choice) → from + k < to → to ≤ length row → x ≡ get_or row (from + k) x → get_or (slice_range row from to) k nothing ≡ x

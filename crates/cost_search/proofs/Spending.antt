@@ -5,11 +5,11 @@ use Rattle.std.proofs.lemmas.Bool.{false≢true}
 use Rattle.std.proofs.lemmas.Option.{same_Some, none-some, slice_get_within}
 use Rattle.std.proofs.lemmas.Bool.Decides.{eqb_tells}
 use Rattle.std.proofs.lemmas.List.{get_or-set_same, get_or-set_other, take_more}
-use Rattle.std.proofs.lemmas.List.Elements.{All-nil, All-weaker, All-contains, All-more}
+use Rattle.std.proofs.lemmas.List.Elements.{All-nil, All-weaker, All-contains, All-more, Contains-push}
 use Rattle.cca_base.specs.declared.cube.Pair.{Pair}
 use Rattle.cca_base.specs.State.{Extends}
 use Rattle.cca_base.specs.declared.choice.Choice.{Choice}
-use Rattle.cost_search.proofs.Stacks.{contains_last, contains_old}
+use Rattle.cost_search.proofs.Stacks.{contains_old}
 use Rattle.cost_search.specs.Bounds.{AreFree, HasLeft, HasPaid, IsFixed, IsFree, IsLeastLeft, IsTaken, NamesComponent, Spends}
 
 all_same : (xs : List ℕ) → AllZip (λ a n. n ≤ a) xs xs
@@ -89,7 +89,7 @@ names_more cube k c within (p, among, is) = (p, subst (λ l. Contains l p) (sym 
 names_here : (cube : List Pair) (k : ℕ) → k < length cube → NamesComponent (take (k + 1) cube) (item_at cube k)
 names_here cube k within =
     let p = get_or cube k no_pair in
-    (p, subst (λ l. Contains l p) (sym (longer cube k within)) (contains_last (take k cube) p), refl)
+    (p, subst (λ l. Contains l p) (sym (longer cube k within)) (Contains-push (take k cube) p), refl)
 
 -- not each component of a cube that names a free one is fixed
 pub some_free : (b : List (List Choice)) (cube : List Pair) (c : ℕ) → NamesComponent cube c → IsFree b c → All (λ p. IsFree b p.item → ⊥) cube → ⊥

@@ -6,7 +6,7 @@ use Rattle.std.specs.List.Sorted.{IsPermutation}
 use Rattle.std.proofs.lemmas.List.{length-drop, nil_from_length}
 use Rattle.std.proofs.lemmas.List.Sorted.{Contains-permutation, All-permutation, sum_by_pushed}
 use Rattle.std.proofs.lemmas.List.Elements.{All-cons, All-head, All-tail, All-push}
-use Rattle.cca_base.proofs.Members.{contains_here, contains_there, contains_none}
+use Rattle.list_laws.proofs.Members.{contains_here, contains_there, contains_none}
 use Rattle.cca_base.specs.declared.choice.Choice.{Choice}
 use Rattle.cost_search.specs.declared.part.Part.{Part}
 use Rattle.cost_search.specs.SearchParts.{nothing, box_of, heads, size, row_at, IsPart, Gains, IsSplit, AreInstead}

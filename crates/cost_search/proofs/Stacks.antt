@@ -1,9 +1,9 @@
 -- A stack of parts.
-use Rattle.std.proofs.Common.{◌≡◌, ◌⊎◌, inl, inr, ℕ, ◌+◌, ◌-◌, ◌*◌, ◌<◌, ◌≤◌, List, [], ◌∷◌, ◌++◌, length, Contains, All, refl, sym, ap, subst, arith}
+use Rattle.std.proofs.Common.{◌≡◌, ◌⊎◌, inl, inr, ℕ, ◌+◌, ◌-◌, ◌*◌, ◌<◌, ◌≤◌, List, [], ◌∷◌, ◌++◌, length, Contains, All, sym, ap, subst, arith}
 use Rattle.std.specs.List.{AllZip}
 use Rattle.std.proofs.lemmas.List.Sums.{sum_by_push}
-use Rattle.std.proofs.lemmas.List.Elements.{All-push}
-use Rattle.cca_base.proofs.Members.{contains_cases, contains_here, contains_there, contains_none}
+use Rattle.std.proofs.lemmas.List.Elements.{All-push, Contains-push, Contains-push_cases}
+use Rattle.list_laws.proofs.Members.{contains_cases, contains_here, contains_there, contains_none}
 use Rattle.cca_base.specs.declared.choice.Choice.{Choice}
 use Rattle.cost_search.specs.declared.part.Part.{Part}
 use Rattle.cost_search.specs.SearchParts.{IsIn, IsPart, box_of, size}
@@ -19,34 +19,17 @@ contains_old (z ∷ xs) x y h = elim (contains_cases z y xs h) [
   | inr there ↦ contains_there z y (xs ++ x ∷ []) (contains_old xs x y there)
 ]
 
-pub contains_last : {X : Type 0} (xs : List X) (x : X) → Contains (xs ++ x ∷ []) x
-contains_last [] x = contains_here x x [] refl
-contains_last (z ∷ xs) x = contains_there z x (xs ++ x ∷ []) (contains_last xs x)
-
-contains_pushed : {X : Type 0} (xs : List X) (x y : X) → Contains (xs ++ x ∷ []) y → Contains xs y ⊎ (x ≡ y)
-contains_pushed [] x y h = elim (contains_cases x y [] h) [
-  | inl e ↦ inr e
-  | inr there ↦ absurd (contains_none y there)
-]
-contains_pushed (z ∷ xs) x y h = elim (contains_cases z y (xs ++ x ∷ []) h) [
-  | inl e ↦ inl (contains_here z y xs e)
-  | inr there ↦ elim (contains_pushed xs x y there) [
-    | inl before ↦ inl (contains_there z y xs before)
-    | inr e ↦ inr e
-  ]
-]
-
 -- ---- states in a stack
 
 in_old : (rows : List (List Choice)) (parts : List Part) (p : Part) (picks : List Choice) → IsIn rows parts picks → IsIn rows (parts ++ p ∷ []) picks
 in_old rows parts p picks (q, among, inside) = (q, contains_old parts p q among, inside)
 
 in_last : (rows : List (List Choice)) (parts : List Part) (p : Part) (picks : List Choice) → AllZip Contains (box_of rows p) picks → IsIn rows (parts ++ p ∷ []) picks
-in_last rows parts p picks inside = (p, contains_last parts p, inside)
+in_last rows parts p picks inside = (p, Contains-push parts p, inside)
 
 in_pushed : (rows : List (List Choice)) (parts : List Part) (p : Part) (picks : List Choice) → IsIn rows (parts ++ p ∷ []) picks
     → IsIn rows parts picks ⊎ AllZip Contains (box_of rows p) picks
-in_pushed rows parts p picks (q, among, inside) = elim (contains_pushed parts p q among) [
+in_pushed rows parts p picks (q, among, inside) = elim (Contains-push_cases parts p q among) [
   | inl before ↦ inl (q, before, inside)
   | inr e ↦ inr (subst (λ (z : Part). AllZip Contains (box_of rows z) picks) (sym e) inside)
 ]

@@ -9,8 +9,8 @@ use Rattle.std.proofs.lemmas.Map.Made.{IsDistinct-from_AllPairs}
 use Rattle.std.proofs.lemmas.Map.Steps.{length-le_from_distinct_below}
 use Rattle.std.proofs.lemmas.Map.Views.{Contains-from_any}
 use Rattle.list_laws.proofs.Pairwise.{AllPairs-take}
+use Rattle.list_laws.proofs.Members.{contains_none}
 use Rattle.std.proofs.lemmas.List.Sums.{sum_by_push}
-use Rattle.cca_base.proofs.Members.{contains_none}
 use Rattle.cca_base.specs.declared.choice.Choice.{Choice}
 use Rattle.cost_search.specs.declared.part.Span.{Span}
 use Rattle.cost_search.specs.SearchParts.{nothing, box, head_of, heads, IsSpan, AreSpans}

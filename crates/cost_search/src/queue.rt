@@ -2,7 +2,7 @@
 
 ghost use Rattle.std.specs.Prelude.{◌≡◌, ◌<◌, ◌≤◌, ◌↔◌, map, IsTrue, IfOk, OnOk, IfSome, IsNone, All, Contains, length, ℕ};
 ghost use Rattle.std.specs.BinaryHeap.{IsHeap, heap_items, heap_len};
-ghost use Rattle.cca_base.specs.Prelude.{numbers_below, AreRows};
+ghost use Rattle.cca_base.specs.Prelude.{AreRows};
 ghost use Rattle.cca_base.specs.declared.limits.TheConstants.{MAX_ROWS};
 ghost use Rattle.cost_search.specs.SearchParts.{IsPart, part_cmp};
 ghost use Rattle.cost_search.specs.Queue.{Covers, IsBlocked, MayBeGiven, IsQueue, Replaces, TopMayBeGiven};
@@ -11,7 +11,7 @@ ghost use Rattle.cost_search.specs.Search.{IsAfterLast};
 use crate::costed::Costed;
 use crate::part::Part;
 use crate::split::{pieces_of, replace_top};
-use cca_base::{Choice, Cube, List, Pair};
+use cca_base::{Choice, Cube, List, Pair, numbers_below};
 use std::alloc::{AllocError, Global};
 use std::collections::BinaryHeap;
 
@@ -43,18 +43,6 @@ fn components_of(alloc: Global, cube: &[Pair]) -> Result<Vec<u16>, AllocError>
     Ok(components)
 }
 
-/// The numbers below this.
-fn all_below(alloc: Global, count: usize) -> Result<Vec<u16>, AllocError>
-    requires { count ≤ MAX_ROWS }
-    ensures { IfOk result (λ v. v.items ≡ numbers_below count) }
-{
-    let mut numbers = Vec::new(alloc);
-    for c in 0..count {
-        numbers.push(c as u16)?;
-    }
-    Ok(numbers)
-}
-
 /// Components of which one has to choose anew, where the part's first state was given or is cut.
 fn blocked_by(
     alloc: Global,
@@ -77,7 +65,7 @@ fn blocked_by(
         }
     }
     if !is_after(last, part) {
-        return Ok(Some(all_below(alloc, modes.len())?));
+        return Ok(Some(numbers_below(alloc, modes.len())?));
     }
     Ok(None)
 }

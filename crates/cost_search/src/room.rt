@@ -3,6 +3,7 @@
 ghost use Rattle.std.specs.Prelude.{◌≡◌, ◌<◌, ◌≤◌, ◌⊎◌, ◌↔◌, ℕ, true, false, Some, All, length, IfOk, IfSome, IsTrue, slice_index_or};
 ghost use Rattle.std.specs.List.{AllZip};
 ghost use Rattle.cca_base.specs.Prelude.{AreRows};
+ghost use Rattle.cca_base.specs.declared.limits.TheConstants.{MAX_ROWS};
 ghost use Rattle.cost_search.specs.SearchParts.{IsPart, box_of, row_at};
 ghost use Rattle.cost_search.specs.Bounds.{AreFree, IsStep, HasLeft, IsLeastLeft, IsTaken, NamesComponent};
 
@@ -132,7 +133,7 @@ pub fn count_names(named: &mut List<u32>, cube: &[Pair])
 /// Of the free components with nothing left, the one that most held cuts name, and of these the last; one that is given
 /// where none has.
 pub fn most_named(free: &[bool], left: &[u64], named: &[u32], given: u16) -> u16
-    requires few { length free.now ≤ 65536 }
+    requires few { length free.now ≤ MAX_ROWS }
     requires left { length left.now ≡ length free.now }
     requires named { length named.now ≡ length free.now }
     requires given { given < length free.now }

@@ -4,8 +4,8 @@ use Rattle.std.specs.Cmp.{both_ways}
 use Rattle.std.proofs.lemmas.Bool.{or_cases, or_left, or_right}
 use Rattle.std.proofs.lemmas.List.Elements.{All-contains}
 use Rattle.std.proofs.lemmas.List.Sums.{AllPass-from_list_all, list_all-from_AllPass}
+use Rattle.list_laws.proofs.Members.{all_from}
 use Rattle.cca_base.specs.Orders.{numbers_below}
-use Rattle.cca_base.proofs.Members.{all_from}
 use Rattle.cca_base.proofs.PathLaws.{below_contains, numbers_within}
 use Rattle.reversibility.specs.ClassParts.{ClassParts, in_row}
 use Rattle.reversibility.specs.Promises.{StandsAt, StandsByChain}

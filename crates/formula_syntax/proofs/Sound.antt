@@ -21,6 +21,9 @@ use Rattle.formula_syntax.specs.FormulaParser.{State, start, nots, more_or_one, 
 use Rattle.formula_syntax.proofs.TextReadings.{with_values, factor_read, conjunction_read, disjunction_read, whole_read}
 use Rattle.formula_syntax.proofs.Complete.{here, level}
 
+pub no_reading : {P : Type 0} (x : ReadPart) → ◌≡◌ {A = Option ReadPart} None (Some x) → P
+no_reading x e = absurd cc
+
 -- the text read so far between two parentheses, where a factor has to come
 pub record Frame : Type 0 where
   pub left : Option (Connective × Disjunction)
@@ -377,9 +380,6 @@ module _ (strict : Bool) (m : PlantModel) where
     pub text : Whole
     pub spelled : ls ≡ whole_spelled text []
     pub says : x ≡ whole_read strict m text
-
-  no_reading : {P : Type 0} (x : ReadPart) → ◌≡◌ {A = Option ReadPart} None (Some x) → P
-  no_reading x e = absurd cc
 
   ends_whole : (outer : List Frame) (place : Reached) (x : ReadPart) → ended (state_of outer place) ≡ Some x → IsRead (text_of outer place []) x
   unfolding ended

@@ -2,6 +2,7 @@
 use Rattle.std.proofs.Common.{◌≡◌, ℕ, ◌≤◌, Bool, true, false, ◌&&◌, List, Option, Some, None, inl, inr, refl, sym, ap, subst, ◌∙◌, arith}
 use Rattle.std.specs.Prelude.{Result, Ok, Err, if◌then◌else◌}
 use Rattle.std.proofs.lemmas.Bool.{ltb-false}
+use Rattle.std.proofs.lemmas.Option.{same_Some}
 use Rattle.cca_base.specs.declared.codes.TheConstants.{MALFORMED, NAME_UNKNOWN, LIMIT}
 use Rattle.cca_base.specs.declared.formula.Formula.{Formula}
 use Rattle.cca_base.specs.declared.limits.TheConstants.{MAX_DEPTH}
@@ -16,14 +17,7 @@ use Rattle.formula_syntax.specs.Meanings.{verdict, names_unknown, lists_twice, i
 use Rattle.formula_syntax.specs.Answers.{formula_or_code, IsFormulaOf, AnswerOneWay}
 use Rattle.formula_syntax.proofs.TextFormulas.{whole_fits}
 use Rattle.formula_syntax.proofs.TextDepths.{whole_printed}
-
--- ---- what was read
-
-pub same_reading : (r s : ReadPart) → Some r ≡ Some s → r ≡ s
-same_reading r s e = cc
-
-pub no_reading : {P : Type 0} (r : ReadPart) → ◌≡◌ {A = Option ReadPart} None (Some r) → P
-no_reading r e = absurd cc
+use Rattle.formula_syntax.proofs.Sound.{no_reading}
 
 -- ---- sound readings
 
@@ -51,7 +45,7 @@ formula_of_text strict m text f d e =
 pub sound_is_formula : (strict : Bool) (m : PlantModel) (ls : List Lexeme) (f : Formula) (d : ℕ) → IsReadingOf strict m ls (Some (Sound f d)) → IsFormula m f
 sound_is_formula strict m ls f d h =
     let s = h.spelled (Sound f d) refl in
-    formula_of_text strict m s.0 f d (same_reading (Sound f d) (reading_of strict m s.0) (h.read_of s.0 s.1))
+    formula_of_text strict m s.0 f d (same_Some (Sound f d) (reading_of strict m s.0) (h.read_of s.0 s.1))
 
 -- ---- what is answered
 

@@ -1,12 +1,11 @@
 -- Commands that are looked up and aren't there.
-use Rattle.std.proofs.Common.{◌≡◌, ℕ, ◌<◌, false, List, length, None}
+use Rattle.std.proofs.Common.{◌≡◌, ℕ, ◌<◌, false, List, length, None, IsTrue}
 use Rattle.std.proofs.lemmas.List.Elements.{All-weaker}
 use Rattle.std.specs.Str.{bytes_eq}
 use Rattle.cca_base.specs.PlantModel.{PlantModel}
 use Rattle.cca_base.specs.Model.{WellFormed}
 use Rattle.formula_syntax.specs.Lookups.{place_of}
 use Rattle.formula_syntax.proofs.UnknownNames.{not_long, position_none}
-use Rattle.std.proofs.Common.{IsTrue}
 use Rattle.cca_base.specs.declared.limits.TheConstants.{MAX_NAME}
 use Rattle.cca_base.specs.Names.{is_name}
 

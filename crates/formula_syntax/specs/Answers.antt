@@ -1,9 +1,6 @@
 -- What reading a formula's tokens answers.
 use Rattle.std.specs.Prelude.{◌≡◌, ◌≢◌, ◌⊎◌, ℕ, if◌then◌else◌, List, Result, Ok, Err}
 use Rattle.cca_base.specs.declared.codes.TheConstants.{MALFORMED, NAME_UNKNOWN, LIMIT}
-use Rattle.cca_base.specs.declared.events.Detail.TheVariants.{Nothing}
-use Rattle.cca_base.specs.declared.events.Stop.{Stop}
-use Rattle.cca_base.specs.declared.events.Stop.TheVariants as stops
 use Rattle.cca_base.specs.declared.formula.Formula.{Formula}
 use Rattle.cca_base.specs.PlantModel.{PlantModel}
 use Rattle.text_base.specs.Lexemes.{Lexeme}
@@ -22,9 +19,3 @@ pub record IsFormulaOf (m : PlantModel) (ls : List Lexeme) (read : Result Formul
 -- tokens have one formula, or one code
 abbrev pub AnswerOneWay : Type 0
 AnswerOneWay = (m : PlantModel) (ls : List Lexeme) (a b : Result Formula ℕ) → IsFormulaOf m ls a → IsFormulaOf m ls b → a ≡ b
-
--- what a call answered is this formula, or a refusal with this code alone; out of memory says nothing
-abbrev pub AnswersFormula : Result Formula Stop → (Result Formula ℕ → Type 0) → Type 0
-AnswersFormula (Ok formula) Is = Is (Ok formula)
-AnswersFormula (Err stops.Memory) Is = Unit {0}
-AnswersFormula (Err (stops.Refused refusal)) Is = Is (Err refusal.code) × (refusal.detail ≡ Nothing)

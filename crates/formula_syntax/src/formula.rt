@@ -3,10 +3,10 @@
 ghost use Rattle.std.specs.Prelude.{◌≡◌, Bool, true, false, map, IfOk};
 ghost use Rattle.text_base.specs.Lexemes.{lexeme_of};
 ghost use Rattle.formula_syntax.specs.FormulaParser.{start, state_of, ended, run};
-ghost use Rattle.cca_base.specs.Prelude.{IsFormula, PlantModel};
+ghost use Rattle.cca_base.specs.Prelude.{Answers, IsFormula, PlantModel};
 ghost use Rattle.formula_syntax.specs.Grammar.{Whole, spelling};
 ghost use Rattle.formula_syntax.specs.Meanings.{IsReadingOf, reading_of};
-ghost use Rattle.formula_syntax.specs.Answers.{AnswersFormula, AnswerOneWay, IsFormulaOf};
+ghost use Rattle.formula_syntax.specs.Answers.{AnswerOneWay, IsFormulaOf};
 
 use crate::formula_parser::{Expected, FormulaParser};
 use crate::level::level_read;
@@ -110,7 +110,7 @@ fn read_freely(
 /// The formula that all tokens make, where a list that has a name twice is the set of its names; or a refusal with the least
 /// code that applies: malformed, unknown names, too deep.
 pub fn read_formula(alloc: Global, model: &Model, tokens: &[Token]) -> Result<Formula, Stop>
-    ensures answer { AnswersFormula result (IsFormulaOf model.now (map lexeme_of tokens.now)) }
+    ensures answer { Answers result (IsFormulaOf model.now (map lexeme_of tokens.now)) }
     ensures formula { IfOk result (IsFormula model.now) }
 {
     match read_freely(alloc, model, tokens)? {

@@ -16,6 +16,6 @@ mod steps;
 mod transitions;
 
 pub use formula::{read_formula, read_strictly, texts_are_read_one_way};
-pub use lookup::value_of;
+pub use lookup::{place_of, value_of};
 pub use named_model::NamedModel;
 pub use read_part::ReadPart;

@@ -6,10 +6,10 @@ use Rattle.std.specs.declared.cmp.Ordering.TheVariants.{Less, Equal, Greater}
 use Rattle.std.proofs.lemmas.Cmp.{nat_list_cmp_total}
 use Rattle.std.proofs.lemmas.Map.Lookups.{exact_bytes}
 use Rattle.std.proofs.lemmas.List.Elements.{All-push, Contains-append_left, Contains-append_right}
+use Rattle.list_laws.proofs.Members.{contains_here}
 use Rattle.cca_base.specs.declared.cube.Pair.{Pair}
 use Rattle.cca_base.specs.PlantModel.{PlantModel}
 use Rattle.cca_base.specs.Estimates.{IsEarlier}
-use Rattle.cca_base.proofs.Members.{contains_here}
 use Rattle.reach_laws.specs.Classes.{Test}
 use Rattle.wish_laws.specs.Settled.{weight_of}
 use Rattle.wish_laws.specs.Lightest.{IsBarred, IsLighter}

@@ -2,21 +2,21 @@
 use Rattle.std.proofs.Common.{◌≡◌, ◌≤◌, ℕ, false, List, length, Option, None, Some, All, sym, ap, subst, ◌∙◌, arith}
 use Rattle.std.proofs.lemmas.List.Elements.{All-contains}
 use Rattle.std.proofs.lemmas.Option.{slice_get-get_or}
+use Rattle.list_laws.proofs.Members.{all_from}
 use Rattle.cca_base.specs.declared.cube.Pair.{Pair}
 use Rattle.cca_base.specs.declared.formula.Formula.{Formula}
 use Rattle.cca_base.specs.PlantModel.{PlantModel}
 use Rattle.cca_base.specs.Accepted.{CompiledModel}
 use Rattle.cca_base.specs.Model.{HasMode, is_broken}
 use Rattle.cca_base.specs.State.{IsState}
-use Rattle.cca_base.specs.Steps.{Reach}
-use Rattle.cca_base.proofs.Members.{all_from}
+use Rattle.cca_base.specs.Steps.{Reach, AreReached}
 use Rattle.reach_laws.specs.Classes.{Test}
 use Rattle.prime_implicants.specs.Primes.{IfEvery}
 use Rattle.prime_implicants.specs.declared.answer.Primes.{Primes}
 use Rattle.prime_implicants.specs.declared.answer.Primes.TheVariants.{Every}
 use Rattle.reversibility.specs.ClassParts.{ClassParts, CoversState, in_row}
 use Rattle.policy_tables.specs.Tables.{TableParts, IsTables}
-use Rattle.planner_step.specs.Planning.{AreReached, IsGoal, cells_of, member_of}
+use Rattle.planner_step.specs.Planning.{IsGoal, cells_of, member_of}
 use Rattle.planner_step.proofs.Covered.{setting}
 use Rattle.guard_compiler.specs.Wishes.{AreImplicants, HasFewImplicants}
 use Rattle.wish_laws.specs.Settled.{IsGoalOf, IsTarget, NoneHolds, PlansEndIn, Settled}

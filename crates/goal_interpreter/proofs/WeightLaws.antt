@@ -7,7 +7,7 @@ use Rattle.cca_base.specs.Model.{mode_counts}
 use Rattle.cca_base.specs.State.{IsState}
 use Rattle.wish_laws.specs.Settled.{weight_of}
 use Rattle.goal_interpreter.specs.Weights.{AreWeights}
-use Rattle.goal_interpreter.specs.declared.weights.TheConstants.{MAX_WEIGHT}
+use Rattle.cca_base.specs.declared.limits.TheConstants.{MAX_WEIGHT}
 
 -- one mode more
 weight_more : (weights : List (List ℕ)) (t : List ℕ) (c : ℕ) → c < length weights → c < length t

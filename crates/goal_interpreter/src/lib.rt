@@ -12,7 +12,7 @@ mod weights;
 mod wish;
 
 pub use target::{MAX_IMPLICANTS, Target};
-pub use weights::{MAX_WEIGHT, Weights};
+pub use weights::Weights;
 pub use wish::{interpret, interpret_by};
 
 /// A wish has one answer.

@@ -7,9 +7,6 @@ ghost use Rattle.goal_interpreter.specs.Weights.{AreWeights};
 
 use cca_base::{List, Model, State};
 
-/// The greatest weight of a mode; the least is 0.
-pub const MAX_WEIGHT: u32 = 1_000_000;
-
 /// A weight for each mode of each component.
 #[derive(Debug, Drop)]
 pub struct Weights {

@@ -1,10 +1,10 @@
 //! The lightest settled state that holds a wish.
 
 ghost use Rattle.std.specs.Prelude.{IfOk};
-ghost use Rattle.cca_base.specs.Prelude.{IsFormula, IsState};
+ghost use Rattle.cca_base.specs.Prelude.{AreReached, IsFormula, IsState};
 ghost use Rattle.guard_compiler.specs.Rules.{AreRulesOf};
 ghost use Rattle.reversibility.specs.ClassParts.{CoversState};
-ghost use Rattle.planner_step.specs.Planning.{AreReached, IsGoal};
+ghost use Rattle.planner_step.specs.Planning.{IsGoal};
 ghost use Rattle.wish_laws.specs.Settled.{PlansEndIn};
 ghost use Rattle.goal_interpreter.specs.Targets.{IfFound, IsTargetFor};
 ghost use Rattle.goal_interpreter.specs.Weights.{AreWeights};

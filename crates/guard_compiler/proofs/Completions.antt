@@ -6,7 +6,7 @@ use Rattle.std.proofs.lemmas.List.{length-append}
 use Rattle.std.proofs.lemmas.List.Folds.{list_all-map}
 use Rattle.std.proofs.lemmas.List.Sums.{AllPass-from_list_all}
 use Rattle.std.proofs.lemmas.List.Elements.{All-contains}
-use Rattle.cca_base.proofs.Members.{all_from}
+use Rattle.list_laws.proofs.Members.{all_from}
 use Rattle.prime_implicants.proofs.FoundKeys.{list_all_if}
 use Rattle.clause_form.specs.Clauses.{AreValues, meets, all_met}
 use Rattle.elimination.proofs.KeptSubjects.{rest_of_values, same_front}

@@ -1,9 +1,9 @@
 -- The minimal cubes of which two things hold are the least over a minimal cube of each.
 use Rattle.std.proofs.Common.{◌++◌, List, All, Contains, inl, inr}
 use Rattle.std.proofs.lemmas.List.Elements.{All-append, All-contains, Contains-append_cases, Contains-append_left, Contains-append_right}
+use Rattle.list_laws.proofs.Members.{all_from}
 use Rattle.cca_base.specs.declared.cube.Pair.{Pair}
 use Rattle.cca_base.specs.Cube.{AreInCubeOrder, IsPart, IsRising}
-use Rattle.cca_base.proofs.Members.{all_from}
 use Rattle.guard_compiler.specs.Cover.{IsCovered}
 use Rattle.guard_compiler.specs.LeastUnions.{AreLeastUnions, IsLeastOverBoth, IsOverBoth}
 use Rattle.guard_compiler.proofs.CoverLaws.{part_of_part}

@@ -5,6 +5,7 @@ use Rattle.std.proofs.lemmas.Bool.{and_parts}
 use Rattle.std.proofs.lemmas.List.{map_push, take_all, take_more}
 use Rattle.std.proofs.lemmas.List.Folds.{list_all-append}
 use Rattle.std.proofs.lemmas.List.Elements.{All-cons, All-head, All-nil}
+use Rattle.list_laws.proofs.Members.{all_from, contains_cases, contains_here, contains_none}
 use mathlib.Core.Bool.{and-true}
 use Rattle.cca_base.specs.declared.cube.Pair.{Pair}
 use Rattle.cca_base.specs.declared.model.Move.{Move}
@@ -19,7 +20,6 @@ use Rattle.cca_base.specs.Formula.{is_within, truth, truth_step, within_step}
 use Rattle.cca_base.specs.Cube.{IsRising}
 use Rattle.cca_base.specs.Implicants.{PrimeImplicant, Suffices}
 use Rattle.cca_base.specs.Accepted.{AreWays}
-use Rattle.cca_base.proofs.Members.{all_from, contains_cases, contains_here, contains_none}
 use Rattle.guard_compiler.specs.Conjunctions.{AddsPart, AreWaysOfBoth, IsConjunction, all_of, with_guard}
 
 -- a formula of the variant `All`

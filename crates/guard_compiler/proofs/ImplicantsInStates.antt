@@ -1,13 +1,14 @@
 -- A state holds a wish where an implicant stands in it.
 use Rattle.std.proofs.Common.{◌≡◌, ◌<◌, ℕ, List, length, slice_get, Some, sym, subst, ◌∙◌, arith}
 use Rattle.std.proofs.lemmas.Option.{slice_get_within, get_or_from_slice_get}
+use Rattle.list_laws.proofs.Members.{all_from}
 use Rattle.cca_base.specs.declared.cube.Pair.{Pair}
 use Rattle.cca_base.specs.declared.formula.Formula.{Formula}
 use Rattle.cca_base.specs.PlantModel.{PlantModel}
 use Rattle.cca_base.specs.Model.{HasMode}
 use Rattle.cca_base.specs.Repairs.{pairs_of}
 use Rattle.cca_base.specs.State.{IsState, Extends, Holds}
-use Rattle.cca_base.proofs.Members.{all_from, stands_in}
+use Rattle.cca_base.proofs.Members.{stands_in}
 use Rattle.cca_base.proofs.StateLaws.{same_state}
 use Rattle.cca_laws.proofs.Minimal.{pairs_rise}
 use Rattle.guard_compiler.specs.Wishes.{IsImplicant}

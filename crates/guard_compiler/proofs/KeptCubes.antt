@@ -9,12 +9,12 @@ use Rattle.std.proofs.lemmas.List.Elements.{All-append, All-contains, All-contai
 use Rattle.std.proofs.lemmas.List.Kept.{AllPairs-filter}
 use Rattle.std.proofs.lemmas.List.Sorted.{Contains-permutation, IsPermutation-insert, IsPermutation-sym}
 use Rattle.list_laws.proofs.Orders.{less_greater}
+use Rattle.list_laws.proofs.Members.{all_from, contains_cases, contains_here, contains_there, contains_none, from_filter, to_filter}
 use Rattle.cca_base.specs.declared.cube.Pair.{Pair}
 use Rattle.cca_base.specs.Cube.{AreInCubeOrder, IsBeforeCube, IsPart, IsRising, cube_cmp}
-use Rattle.cca_base.proofs.Members.{all_from, contains_cases, contains_here, contains_there, contains_none, from_filter, to_filter}
 use Rattle.cca_laws.proofs.OneOrder.{cube_total, neither_cube}
 use Rattle.guard_compiler.specs.Cover.{AreApart, IsCovered, is_subsequence}
-use Rattle.cca_laws.proofs.Between.{AllPairs-insert}
+use Rattle.list_laws.proofs.Between.{AllPairs-insert}
 use Rattle.guard_compiler.proofs.CoverLaws.{covered_whole, part_itself, part_of_part}
 use Rattle.guard_compiler.proofs.Subsequences.{subsequence_part, part_subsequence}
 

@@ -1,16 +1,16 @@
 -- Two rising cubes that are merged pair by pair.
 use Rattle.std.proofs.Common.{◌≡◌, ◌≢◌, ◌<◌, ◌++◌, [], ◌∷◌, ◌⊎◌, ◌↔◌, ℕ, suc, List, length, get_or, take, drop, All, Contains, inl, inr, refl, ap, sym, subst, ◌∙◌, append_assoc, drop-cons, arith}
-use Rattle.std.proofs.lemmas.List.{append-nil, take-append-drop}
+use Rattle.std.proofs.lemmas.List.{append-nil, take-append-drop, nil_from_length}
 use Rattle.std.proofs.lemmas.List.Elements.{All-cons, All-head, All-append, All-contains}
 use Rattle.list_laws.proofs.Elements.{all_left, all_right}
 use Rattle.cca_base.specs.declared.cube.Pair.{Pair}
 use Rattle.cca_base.specs.Cube.{IsPart, IsRising, Lacks}
-use Rattle.cca_base.proofs.Members.{all_from}
 use Rattle.list_laws.proofs.Pairwise.{AllPairs-head, AllPairs-right}
+use Rattle.list_laws.proofs.Members.{all_from}
 use Rattle.prime_implicants.proofs.PartialPairs.{one_of_each}
 use Rattle.prime_implicants.proofs.ListedPairs.{lacks_seam as lacks_next}
 use Rattle.guard_compiler.specs.Cover.{IsOver, IsLeastOver}
-use Rattle.cca_laws.proofs.Between.{AllPairs-between, all_before}
+use Rattle.list_laws.proofs.Between.{AllPairs-between, all_before}
 use Rattle.guard_compiler.proofs.CoverLaws.{part_itself}
 
 -- the cubes over the two are those over what was merged with what is left of each, both of which rise
@@ -36,14 +36,11 @@ swap a b merged left right m = record {
   );
 }
 
-moved : (merged rest : List Pair) (p : Pair) → (merged ++ p ∷ []) ++ rest ≡ merged ++ p ∷ rest
-moved merged rest p = append_assoc merged (p ∷ []) rest
-
 -- the pair that comes first is merged
 take_left : (a b merged ps qs : List Pair) (p q : Pair) → IsMerged a b merged (p ∷ ps) (q ∷ qs) → p.item < q.item → IsMerged a b (merged ++ p ∷ []) ps (q ∷ qs)
 take_left a b merged ps qs p q m less =
-    let left = moved merged ps p in
-    let right = moved merged (q ∷ qs) p in
+    let left = append_assoc merged (p ∷ []) ps in
+    let right = append_assoc merged (p ∷ []) (q ∷ qs) in
     let after : All (later p) (q ∷ qs) =
     All-cons (later p) q qs less (all_from (later p) qs (λ r among.
     let next : q.item < r.item = All-contains (later q) qs r (AllPairs-head later q qs (AllPairs-right later merged (q ∷ qs) m.right_rises)) among in
@@ -80,8 +77,8 @@ take_right a b merged ps qs p q m less = swap b a (merged ++ q ∷ []) qs (p ∷
 -- a pair of both is merged once
 take_both : (a b merged ps qs : List Pair) (p q : Pair) → IsMerged a b merged (p ∷ ps) (q ∷ qs) → p ≡ q → IsMerged a b (merged ++ p ∷ []) ps qs
 take_both a b merged ps qs p q m e =
-    let left = moved merged ps p in
-    let right : (merged ++ p ∷ []) ++ qs ≡ merged ++ q ∷ qs = moved merged qs p ∙ ap (λ z. merged ++ z ∷ qs) e in
+    let left = append_assoc merged (p ∷ []) ps in
+    let right : (merged ++ p ∷ []) ++ qs ≡ merged ++ q ∷ qs = append_assoc merged (p ∷ []) qs ∙ ap (λ z. merged ++ z ∷ qs) e in
     record {
       left_rises = subst IsRising (sym left) m.left_rises;
       right_rises = subst IsRising (sym right) m.right_rises;
@@ -128,17 +125,13 @@ right_left a b merged right m = record {
 swap_least : (a b cube : List Pair) → IsLeastOver a b cube → IsLeastOver b a cube
 swap_least a b cube l = record { over = swap_over a b cube l.over; least = λ other o. l.least other (swap_over b a other o) }
 
-none_left : (xs : List Pair) → length xs ≡ 0 → xs ≡ []
-none_left [] e = refl
-none_left (x ∷ xs) e = absurd (omega arith)
-
 -- nothing is left of one of the two
 pub all_merged : (a b merged left right : List Pair) → IsMerged a b merged left right → ((length left ≡ 0) ⊎ (length right ≡ 0)) → IsLeastOver a b ((merged ++ left) ++ right)
 all_merged a b merged left right m (inl none) =
-    let e = none_left left none in
+    let e = nil_from_length left none in
     subst (λ z. IsLeastOver a b (z ++ right)) (sym (append-nil merged) ∙ ap (λ z. merged ++ z) (sym e)) (right_left a b merged right (subst (λ z. IsMerged a b merged z right) e m))
 all_merged a b merged left right m (inr none) =
-    let e = none_left right none in
+    let e = nil_from_length right none in
     subst (λ z. IsLeastOver a b ((merged ++ left) ++ z)) (sym e)
     (subst (IsLeastOver a b) (sym (append-nil (merged ++ left))) (swap_least b a (merged ++ left) (right_left b a merged left (swap a b merged left [] (subst (IsMerged a b merged left) e m)))))
 

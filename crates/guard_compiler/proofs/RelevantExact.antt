@@ -6,15 +6,14 @@ use Rattle.std.proofs.lemmas.Bool.{cases_lt, cases_Bool, and_parts, and_from, fa
 use Rattle.std.proofs.lemmas.List.{get_or_append_left, get_or-append-add}
 use Rattle.std.proofs.lemmas.List.Folds.{list_all-append}
 use Rattle.std.proofs.lemmas.List.Elements.{All-contains}
+use Rattle.list_laws.proofs.Members.{from_filter, to_filter}
 use Rattle.cca_base.specs.Sets.{has}
-use Rattle.cca_base.proofs.Members.{from_filter, to_filter}
 use Rattle.clause_form.proofs.ModelSizes.{both_values}
 use Rattle.clause_form.specs.declared.clause.Literal.{Literal}
 use Rattle.clause_form.specs.declared.clause.Clause.{Clause}
-use Rattle.clause_form.specs.Clauses.{AreValues, is_true, is_met, meets, all_met}
+use Rattle.clause_form.specs.Clauses.{AreValues, is_true, is_met, meets, all_met, names_one}
 use Rattle.guard_compiler.proofs.Completions.{met_one, all_of_them, completed_world}
 use Rattle.guard_compiler.specs.Naming.{IsOver}
-use Rattle.clause_form.specs.Clauses.{names_one}
 use Rattle.guard_compiler.specs.Relevant.{bears, bears_by, IsWithRelevant}
 use Rattle.guard_compiler.specs.Rules.{clauses_in, is_one_of, is_none_or_one_of, AreCompletable}
 use Rattle.guard_compiler.specs.declared.rules.RuleClause.{RuleClause}

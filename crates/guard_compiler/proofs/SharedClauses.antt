@@ -9,20 +9,20 @@ use Rattle.std.proofs.lemmas.List.Folds.{list_all-append, list_all-map}
 use Rattle.std.proofs.lemmas.List.Filters.{length-filter_both}
 use Rattle.std.proofs.lemmas.List.Sums.{list_all-from_AllPass}
 use Rattle.std.proofs.lemmas.Option.{same_Some, none-some}
+use Rattle.std.proofs.Math.Bool.{and_assoc}
 use Rattle.list_laws.proofs.Elements.{contains_map, all_left, all_right}
+use Rattle.list_laws.proofs.Members.{all_from, to_filter, contains_here}
 use mathlib.Core.Bool.{and-true}
 use Rattle.cca_base.specs.Sets.{has}
 use Rattle.cca_base.specs.PlantModel.{PlantModel}
 use Rattle.cca_base.specs.Formula.{truth}
-use Rattle.cca_base.proofs.Members.{all_from, to_filter, contains_here}
 use Rattle.clause_form.specs.declared.clause.Literal.{Literal}
 use Rattle.clause_form.specs.declared.clause.Clause.{Clause}
-use Rattle.clause_form.specs.Clauses.{AreValues, AreBelow, AllBelow, is_true, is_met, meets, all_met}
+use Rattle.clause_form.specs.Clauses.{AreValues, AreBelow, AllBelow, is_true, is_met, meets, all_met, names_one}
 use Rattle.clause_form.specs.declared.clause.Clauses.{Clauses}
 use Rattle.clause_form.specs.Formulas.{AreClausesOf}
 use Rattle.guard_compiler.specs.declared.rules.RuleClause.{RuleClause}
 use Rattle.guard_compiler.specs.Naming.{IsOver}
-use Rattle.clause_form.specs.Clauses.{names_one}
 use Rattle.guard_compiler.specs.Rules.{clauses_in, AreRulesBelow, AreRulesOf, AreCompletable, DifferAtOwners, is_one_of, is_none_or_one_of}
 use Rattle.guard_compiler.specs.Shared.{unowned, owned_by, AreShared, AreSharedOut}
 
@@ -38,17 +38,13 @@ all_met_one xs (b ∷ clauses) c h (suc i, k, e) = all_met_one xs clauses c (and
 
 -- ---- clauses that are true together with those of two parts
 
-first_last : (m a b : Bool) → ((m && a) && b) ≡ (m && (a && b))
-first_last true a b = refl
-first_last false a b = refl
-
 middle_last : (m a b : Bool) → (a && (m && b)) ≡ (m && (a && b))
 middle_last true a b = refl
 middle_last false true b = refl
 middle_last false false b = refl
 
 met_step : (xs : List ℕ) (c : Clause) (w o : List Clause) (b : Bool) → (all_met xs (cond b (c ∷ w) w) && all_met xs (cond (not b) (c ∷ o) o)) ≡ (meets xs c && (all_met xs w && all_met xs o))
-met_step xs c w o true = first_last (meets xs c) (all_met xs w) (all_met xs o)
+met_step xs c w o true = and_assoc (meets xs c) (all_met xs w) (all_met xs o)
 met_step xs c w o false = middle_last (meets xs c) (all_met xs w) (all_met xs o)
 
 met_parts : (test : Clause → Bool) (xs : List ℕ) (clauses : List Clause) → (all_met xs (filter test clauses) && all_met xs (filter (λ c. not (test c)) clauses)) ≡ all_met xs clauses
@@ -128,7 +124,7 @@ module _ (sizes : List ℕ) (n : ℕ) (given : List Clause) (rules : List RuleCl
       met_both xs more (unowned without) ∙ ap (λ b. b && all_met xs (clauses_in (unowned without))) (met_both xs rules (owned_by x with))
       ∙ ap (λ b. (all_met xs (clauses_in rules) && b) && all_met xs (clauses_in (unowned without))) (met_as xs own (λ c. refl) with)
       ∙ ap (λ b. (all_met xs (clauses_in rules) && all_met xs with) && b) (met_unowned xs without)
-      ∙ first_last (all_met xs (clauses_in rules)) (all_met xs with) (all_met xs without)
+      ∙ and_assoc (all_met xs (clauses_in rules)) (all_met xs with) (all_met xs without)
       ∙ ap (λ b. all_met xs (clauses_in rules) && b) (met_parts test xs left ∙ sym (met_unowned xs left))
       ∙ sym (met_both xs rules (unowned left))
 

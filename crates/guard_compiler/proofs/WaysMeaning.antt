@@ -7,6 +7,7 @@ use Rattle.std.proofs.lemmas.List.Elements.{All-weaker, All-cons, All-contains}
 use Rattle.std.proofs.lemmas.Option.{get_or_from_slice_get, slice_get_within}
 use Rattle.std.proofs.lemmas.Bool.Decides.{nat_tests}
 use Rattle.std.proofs.lemmas.Bool.{and_parts, true_from_ne_false}
+use Rattle.list_laws.proofs.Members.{all_from, to_filter, from_filter}
 use Rattle.cca_base.specs.declared.cube.Pair.{Pair}
 use Rattle.cca_base.specs.declared.model.Move.{Move}
 use Rattle.cca_base.specs.declared.formula.Formula.{Formula}
@@ -18,7 +19,6 @@ use Rattle.cca_base.specs.State.{IsState, IsWorld, Extends}
 use Rattle.cca_base.specs.Implicants.{source_pair, Suffices, PrimeImplicant}
 use Rattle.cca_base.specs.Accepted.{AreWays}
 use Rattle.cca_base.specs.declared.limits.TheConstants.{MAX_WAYS}
-use Rattle.cca_base.proofs.Members.{all_from, to_filter, from_filter}
 use Rattle.cca_base.proofs.Within.{place_within, fits_within}
 use Rattle.clause_form.specs.declared.clause.Clauses.{Clauses}
 use Rattle.clause_form.specs.Clauses.{AreValues, all_met}

@@ -1,13 +1,13 @@
 -- The prime implicants of a wish that is a conjunction, and minimal parts of cubes from which a wish follows.
 use Rattle.std.proofs.Common.{◌≡◌, List, [], ◌∷◌, ◌++◌, slice_get, Some, All, Contains, refl, subst, inl, inr, arith}
 use Rattle.std.proofs.lemmas.List.Elements.{All-contains, All-head, All-nil}
+use Rattle.list_laws.proofs.Members.{all_from, contains_cases, contains_here, contains_none}
 use Rattle.cca_base.specs.declared.cube.Pair.{Pair}
 use Rattle.cca_base.specs.declared.formula.Formula.{Formula}
 use Rattle.cca_base.specs.PlantModel.{PlantModel}
 use Rattle.cca_base.specs.Cube.{IsRising}
 use Rattle.cca_base.specs.Model.{HasMode}
 use Rattle.cca_base.specs.State.{Follows}
-use Rattle.cca_base.proofs.Members.{all_from, contains_cases, contains_here, contains_none}
 use Rattle.cca_laws.proofs.Decided.{dec_follows}
 use Rattle.cca_laws.proofs.Minimal.{least_part}
 use Rattle.guard_compiler.specs.Conjunctions.{AddsWish, all_of, IsConjunction}

@@ -6,11 +6,11 @@ use Rattle.std.specs.Option.{ForSome}
 use Rattle.std.proofs.lemmas.List.{length-map}
 use Rattle.std.proofs.lemmas.List.Sums.{AllPass-from_list_all}
 use Rattle.std.proofs.Math.Seq.{take-append_seam, drop-append_seam}
+use Rattle.list_laws.proofs.Members.{from_filter, to_filter}
 use Rattle.cca_base.specs.PlantModel.{PlantModel}
 use Rattle.cca_base.specs.Model.{mode_counts, value_counts}
 use Rattle.cca_base.specs.Formula.{truth}
 use Rattle.cca_base.specs.State.{IsState, IsWorld}
-use Rattle.cca_base.proofs.Members.{from_filter, to_filter}
 use Rattle.clause_form.specs.declared.clause.Clauses.{Clauses}
 use Rattle.clause_form.specs.Clauses.{AreClauses, AreValues, all_met}
 use Rattle.clause_form.proofs.ModelSizes.{both_values, state_values}

@@ -10,7 +10,7 @@ use Rattle.cca_base.specs.PlantModel.{PlantModel}
 use Rattle.cca_base.specs.Implicants.{PrimeImplicant}
 use Rattle.prime_implicants.specs.Many.{AreMoreCubes}
 
--- so it is of the model's move with that number
+-- the model's move with this number is so
 abbrev pub AtMove : PlantModel → ℕ → (Move → Type 0) → Type 0
 AtMove m i P = (move : Move) → slice_get m.moves i ≡ Some move → P move
 

@@ -19,9 +19,6 @@ module _ {S : Type 0} (m : Ghosts S) (first : S) where
     pub count : n ≡ length whole
     pub runs : Runs m (GoesOn first) 0 whole (GoesOn s) text
 
-  pub at_first : IsAt [] 0 first []
-  at_first = record { whole = []; lines = refl; count = refl; runs = (refl, refl) }
-
   one_more : (s : S) (n : ℕ) (l : List ℕ) (u : Next S) (p : List ℕ) → Transition m s (n + 1) l u p → Runs m (GoesOn s) n (l ∷ []) u p
   one_more s n l u p h = (u, p, [], h, (refl, refl), sym (append-nil p))
 

@@ -1,6 +1,7 @@
 -- Calls that follow one another, and what they brought.
 use Rattle.std.proofs.Common.{◌≡◌, ℕ, ◌⊎◌, inl, inr, List, [], ◌∷◌, ◌++◌, length, Option, Some, None, Result, Ok, Err, refl, sym, ap, subst, ◌∙◌, append_assoc, append-nil}
 use Rattle.std.specs.Prelude.{⊤}
+use Rattle.std.proofs.KnownBytes.{prepend_known-nil}
 use Rattle.std.specs.Io.KnownBytes.{prepend_known}
 use Rattle.line_machine.specs.Call.{Call, bytes_of, with_calls, Notes, AllCame}
 use Rattle.line_machine.specs.Found.{IsShort, Fills, Waits, Came}
@@ -10,10 +11,6 @@ use Rattle.line_machine.specs.declared.buffer.FillStop.TheVariants.{Fault, Memor
 pub prepend_twice : (o : Option (List ℕ)) (a b : List ℕ) → prepend_known a (prepend_known b o) ≡ prepend_known (a ++ b) o
 prepend_twice None a b = refl
 prepend_twice (Some x) a b = ap (λ (l : List ℕ). Some l) (sym (append_assoc a b x))
-
-pub prepend_nothing : (o : Option (List ℕ)) → o ≡ prepend_known [] o
-prepend_nothing None = refl
-prepend_nothing (Some x) = refl
 
 calls_none : (o : Option (List Call)) → o ≡ with_calls o []
 calls_none None = refl
@@ -62,7 +59,7 @@ live_on over calls written (b ∷ came) all h = inl (all_came-append calls (reco
 
 -- no call yet
 pub came_none : {limit : ℕ} {written : Option (List ℕ)} {old : List ℕ} {left : Option (List ℕ)} {calls : Option (List Call)} → Came ⊥ limit written old old left left calls calls
-came_none {limit} {written} {old} {left} {calls} = record { asked = []; held = sym (append-nil old); moved = prepend_nothing left; noted = notes_none calls; waits = tt; live = inl tt }
+came_none {limit} {written} {old} {left} {calls} = record { asked = []; held = sym (append-nil old); moved = sym (prepend_known-nil left); noted = notes_none calls; waits = tt; live = inl tt }
 
 module _ {limit : ℕ} {written : Option (List ℕ)} {old mid : List ℕ} {left left1 : Option (List ℕ)} {calls calls1 : Option (List Call)} where
   module _ (c : Came ⊥ limit written old mid left left1 calls calls1) (short : IsShort limit mid) {new : List ℕ} {left2 : Option (List ℕ)} {calls2 : Option (List Call)} where
@@ -86,7 +83,7 @@ module _ {limit : ℕ} {written : Option (List ℕ)} {old mid : List ℕ} {left 
     -- the last call, whatever it brought
     pub came_last : (r : Result ℕ FillStop) → Fills written mid new left1 left2 calls1 calls2 r → Came ⊤ limit written old new left left2 calls calls2
     came_last (Ok n) (bytes, count, held, moved, noted) = came_more ⊤ (record { came = bytes; held = held; moved = moved; noted = noted }) (λ _. tt)
-    came_last (Err Fault) (same, still, noted) = came_more ⊤ (record { came = []; held = same ∙ sym (append-nil mid); moved = sym still ∙ prepend_nothing left2; noted = noted }) (λ _. tt)
+    came_last (Err Fault) (same, still, noted) = came_more ⊤ (record { came = []; held = same ∙ sym (append-nil mid); moved = sym still ∙ sym (prepend_known-nil left2); noted = noted }) (λ _. tt)
     came_last (Err Memory) (same, still, none) =
         record {
           asked = c.asked;

@@ -154,14 +154,14 @@ module _ {S : Type 0} {m : Ghosts S} {first : S} {left0 out0 : Option (List ℕ)
       pub line_cut : (c : Cut) (out' : Option (List ℕ)) → SentCut c (MayPrint m s (n + 1) l) out out' → OutputBy m first (d.given ++ held) left out0 out' (Err c)
       line_cut c out' h = cut_says out0 c (MayPrint m s (n + 1) l) (d.given ++ held) d.text left out out' d.written now_prints line_prints h
 
-      pub line_stops : (e : End) {out' : Option (List ℕ)} {space' : Option ℕ} → Sent (Transition m s (n + 1) l (Stops e)) out out' space space' → OutputBy m first (d.given ++ held) left out0 out' (Ok e)
+      line_stops : (e : End) {out' : Option (List ℕ)} {space' : Option ℕ} → Sent (Transition m s (n + 1) l (Stops e)) out out' space space' → OutputBy m first (d.given ++ held) left out0 out' (Ok e)
       line_stops e {out'} {space'} h = record {
         text = d.text ++ h.text;
         written = write_on out0 out out' d.text h.text d.written h.written;
         whole = inr (subst (λ (b : List ℕ). IsSure m first b (Stops e) (d.text ++ h.text)) rest_joined (stays_decided m first (d.given ++ take (k + 1) held) (drop (k + 1) held) (d.text ++ h.text) e (line_taken m first d.given held n s d.text d.at k (Stops e) h.text line (subst (λ y. Transition m s (n + 1) y (Stops e) h.text) is h.is))));
       }
 
-      pub line_goes_on : (t : S) {out' : Option (List ℕ)} {space' : Option ℕ} → Sent (Transition m s (n + 1) l (GoesOn t)) out out' space space' → IsDriving m first left0 out0 space0 calls0 over (n + 1) t (drop (k + 1) held) left out' space' calls
+      line_goes_on : (t : S) {out' : Option (List ℕ)} {space' : Option ℕ} → Sent (Transition m s (n + 1) l (GoesOn t)) out out' space space' → IsDriving m first left0 out0 space0 calls0 over (n + 1) t (drop (k + 1) held) left out' space' calls
       line_goes_on t {out'} {space'} h = record {
         given = d.given ++ take (k + 1) held;
         text = d.text ++ h.text;

@@ -63,7 +63,7 @@ module _ {S : Type 0} (m : Ghosts S) (first : S) (fixed : IsFixed m) (out out' :
   by_left input taken (Some left) r moved says = tells_by taken left input r (told input taken left moved) says
 
   -- what was written, for a known input
-  pub tells : (input : List ℕ) (left : Option (List ℕ)) (r : Result End Cut) → Driven m first (Some input) left out out' r → OutputFor m first input out out' r
+  tells : (input : List ℕ) (left : Option (List ℕ)) (r : Result End Cut) → Driven m first (Some input) left out out' r → OutputFor m first input out out' r
   tells input left r d = by_left input d.taken left r d.moved d.says
 
   -- what was written is a front of what the taken bytes decide

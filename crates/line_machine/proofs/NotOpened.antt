@@ -1,6 +1,7 @@
 -- Memory ran out before the machine was there: then nothing was taken and nothing written.
 use Rattle.std.proofs.Common.{ℕ, List, [], Option, Some, None, Err, refl, sym}
 use Rattle.std.specs.Prelude.{IfSome}
+use Rattle.std.proofs.KnownBytes.{prepend_known-nil}
 use Rattle.line_machine.specs.Call.{Call}
 use Rattle.line_machine.specs.Calls.{DrivenInTurn}
 use Rattle.line_machine.specs.Driven.{Driven, BySure}
@@ -10,7 +11,7 @@ use Rattle.line_machine.specs.Next.{GoesOn}
 use Rattle.line_machine.specs.Runs.{IsSure}
 use Rattle.line_machine.specs.declared.machine.Machine.{Ghosts}
 use Rattle.line_machine.specs.declared.send.Cut.TheVariants as cuts
-use Rattle.line_machine.proofs.Calls.{notes_none, prepend_nothing}
+use Rattle.line_machine.proofs.Calls.{notes_none}
 use Rattle.line_machine.proofs.SentPieces.{append_known-nil}
 use Rattle.line_machine.specs.IsDriven.{EndsFor, IsDriven}
 
@@ -21,11 +22,11 @@ module _ {S : Type 0} (m : Ghosts S) (first : S) (left out : Option (List ℕ)) 
   unfoldable nothing_driven : Driven m first left left out out (Err cuts.Memory)
   nothing_driven =
       let sure : IsSure m first [] (GoesOn first) [] = record { here = GoesOn first; lines = []; runs = (refl, refl); last = []; tail = (refl, refl); parts = refl } in
-      record { taken = []; moved = prepend_nothing left; says = record { text = []; rest = []; is = BySure [] [] (GoesOn first) refl sure; written = sym (append_known-nil out) } }
+      record { taken = []; moved = sym (prepend_known-nil left); says = record { text = []; rest = []; is = BySure [] [] (GoesOn first) refl sure; written = sym (append_known-nil out) } }
 
   no_order : DrivenInTurn m first left left out out calls calls (Err cuts.Memory)
   unfolding nothing_driven
-  no_order = record { driven = nothing_driven; order = record { asked = []; noted = notes_none calls; moved = prepend_nothing left; turns = tt }; came = refl }
+  no_order = record { driven = nothing_driven; order = record { asked = []; noted = notes_none calls; moved = sym (prepend_known-nil left); turns = tt }; came = refl }
 
 module _ {S : Type 0} (m : Ghosts S) where
   no_text : (first : S) (left out : Option (List ℕ)) → IfSome left (λ input. OutputFor m first input out out (Err cuts.Memory))

@@ -6,7 +6,7 @@ use Rattle.line_machine.specs.Completes.{Completes}
 use Rattle.line_machine.specs.Runs.{Transition, Closes, IsText}
 use Rattle.line_machine.specs.declared.machine.End.{End}
 use Rattle.line_machine.specs.declared.machine.Machine.{Ghosts}
-use Rattle.line_machine.proofs.RunsAreOne.{IsFixed, stopped, stays, runs_are_one}
+use Rattle.line_machine.proofs.RunsAreOne.{stopped, stays}
 
 -- a line leads here, and the others complete it
 pub record Steps {S : Type 0} (m : Ghosts S) (s : S) (n : ℕ) (l : List ℕ) (ls : List (List ℕ)) (e : End) (text : List ℕ) : Type 0 where
@@ -77,15 +77,3 @@ module _ {S : Type 0} (m : Ghosts S) where
   ends u n e text h =
       let count : n ≡ n + length (let none : List (List ℕ) = [] in none) = omega arith in
       record { here = u; lines = []; runs = (refl, refl); last = text; closes = subst (λ (k : ℕ). Closes m u k e text) count h; parts = refl }
-
-  -- a run to the end is one
-  module _ (fixed : IsFixed m) where
-    closes_one : (u : Next S) (n : ℕ) (e f : End) (a c : List ℕ) → Closes m u n e a → Closes m u n f c → (e ≡ f) × (a ≡ c)
-    closes_one (Stops x) n e f a c h k = (h.0 ∙ sym k.0, h.1 ∙ sym k.1)
-    closes_one (GoesOn s) n e f a c h k = fixed.closes s n e f a c h k
-
-    pub completes_once : (u : Next S) (n : ℕ) (ls : List (List ℕ)) (e f : End) (a c : List ℕ) → Completes m u n ls e a → Completes m u n ls f c → (e ≡ f) × (a ≡ c)
-    completes_once u n ls e f a c h k =
-        let p = runs_are_one m fixed u h.here k.here n ls h.lines k.lines h.runs k.runs in
-        let q = closes_one k.here (n + length ls) e f h.last k.last (subst (λ (v : Next S). Closes m v (n + length ls) e h.last) p.0 h.closes) k.closes in
-        (q.0, h.parts ∙ rw (p.1, q.1) refl ∙ sym k.parts)

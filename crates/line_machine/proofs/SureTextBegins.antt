@@ -10,6 +10,7 @@ use Rattle.line_machine.specs.declared.machine.Machine.{Ghosts}
 use Rattle.line_machine.specs.declared.machine.TheConstants.{MAX_LINES}
 use Rattle.line_machine.proofs.JoinedLines.{with_lines, lines-append, grown}
 use Rattle.line_machine.proofs.RunsAreOne.{IsFixed, stopped, stays, runs_on, runs_apart, runs_are_one}
+use Rattle.line_machine.proofs.EndsSo.{not_end}
 
 code_kept : (b t u : Bool) (x y code : ℕ) → (t ≡ true → u ≡ true) → cond b (Some x) (cond t (Some y) None) ≡ Some code → cond b (Some x) (cond u (Some y) None) ≡ Some code
 code_kept true t u x y code grows e = e
@@ -19,9 +20,6 @@ code_kept false false u x y code grows e = absurd cc
 -- a line that has the code still has it when it is longer
 code_grows : (limit n j k code : ℕ) → j ≤ k → length_code limit n j ≡ Some code → length_code limit n k ≡ Some code
 code_grows limit n j k code le e = code_kept (ltb MAX_LINES n) (ltb limit j) (ltb limit k) 19 18 code (λ h. lt-ltb limit k (let lt : limit < j = ltb-true limit j h in omega arith)) e
-
-goes_or_stops : {S : Type 0} (s : S) (e : End) → Stops e ≡ GoesOn s → ⊥
-goes_or_stops s e h = absurd cc
 
 module _ {S : Type 0} (m : Ghosts S) where
   pub takes_long : (s : S) (n code : ℕ) (l : List ℕ) → length_code (m.limit_of s) n (length l) ≡ Some code → Transition m s n l (Stops Refused) (m.refusal s n code)
@@ -49,10 +47,10 @@ module _ {S : Type 0} (m : Ghosts S) where
 
   long_by : (o : Option ℕ) (s : S) (n : ℕ) (l : List ℕ) (e : End) (a : List ℕ) → 0 < length l → length_code (m.limit_of s) n (length l) ≡ o → TailByCode m o s n (Stops e) a → IsLong s n l e a
   long_by (Some code) s n l e a some has h = record { code = code; some = some; has = has; end = cc; text = h.1 }
-  long_by None s n l e a some has h = absurd (goes_or_stops s e h.0)
+  long_by None s n l e a some has h = absurd (not_end e s h.0)
 
   long : (s : S) (n : ℕ) (l : List ℕ) (e : End) (a : List ℕ) → TailTransition m (GoesOn s) n l (Stops e) a → IsLong s n l e a
-  long s n [] e a h = absurd (goes_or_stops s e h.0)
+  long s n [] e a h = absurd (not_end e s h.0)
   long s n (b ∷ l) e a h = long_by (length_code (m.limit_of s) n (length (b ∷ l))) s n (b ∷ l) e a (omega arith) refl h
 
   -- whatever stands behind a tail that decides the end, the program ends so
@@ -116,13 +114,13 @@ module _ {S : Type 0} (m : Ghosts S) where
       refused_soon s n tail g.first g.others x.whole x.tail e a k g.longer g.all
 
   by_code : (o : Option ℕ) (s : S) (n : ℕ) (u : S) (a : List ℕ) → TailByCode m o s n (GoesOn u) a → (s ≡ u) × (a ≡ [])
-  by_code (Some code) s n u a h = absurd (goes_or_stops u Refused (sym h.0))
+  by_code (Some code) s n u a h = absurd (not_end Refused u (sym h.0))
   by_code None s n u a h = (cc, h.1)
 
   -- a tail that leaves the program going is not looked at
   pub goes_on : (here : Next S) (n : ℕ) (tail : List ℕ) (s : S) (a : List ℕ) → TailTransition m here n tail (GoesOn s) a → (here ≡ GoesOn s) × (a ≡ [])
   goes_on here n [] s a h = (sym h.0, h.1)
-  goes_on (Stops e) n (b ∷ l) s a h = absurd (goes_or_stops s e (sym h.0))
+  goes_on (Stops e) n (b ∷ l) s a h = absurd (not_end e s (sym h.0))
   goes_on (GoesOn u) n (b ∷ l) s a h = let p = by_code (length_code (m.limit_of u) n (length (b ∷ l))) u n s a h in (ap (λ v. GoesOn v) p.0, p.1)
 
   module _ (first : S) where
@@ -226,12 +224,12 @@ module _ {S : Type 0} (m : Ghosts S) where
 -- a machine that prints nothing while it goes on
 module _ {S : Type 0} (m : Ghosts S) (quiet : IsQuiet m) where
   quiet_by : (o : Option ℕ) (s : S) (n : ℕ) (l : List ℕ) (t : S) (a : List ℕ) → TransitionByCode m o s n l (GoesOn t) a → a ≡ []
-  quiet_by (Some code) s n l t a h = absurd (goes_or_stops t Refused (sym h.0))
+  quiet_by (Some code) s n l t a h = absurd (not_end Refused t (sym h.0))
   quiet_by None s n l t a h = quiet s n l t a h
 
   quiet_run : (s : S) (n : ℕ) (ls : List (List ℕ)) (t : S) (a : List ℕ) → Runs m (GoesOn s) n ls (GoesOn t) a → a ≡ []
   quiet_run s n [] t a h = h.1
-  quiet_run s n (l ∷ ls) t a (Stops e, x, y, takes, rest, parts) = absurd (goes_or_stops t e (sym (stopped m e (n + 1) ls (GoesOn t) y rest).0))
+  quiet_run s n (l ∷ ls) t a (Stops e, x, y, takes, rest, parts) = absurd (not_end e t (sym (stopped m e (n + 1) ls (GoesOn t) y rest).0))
   quiet_run s n (l ∷ ls) t a (GoesOn v, x, y, takes, rest, parts) = parts ∙ rw (quiet_by (length_code (m.limit_of s) (n + 1) (length l)) s (n + 1) l v x takes, quiet_run v (n + 1) ls t y rest) refl
 
   pub quiet_sure : (first : S) (a x : List ℕ) (t : S) → IsSure m first a (GoesOn t) x → x ≡ []

@@ -20,7 +20,7 @@ TransitionByCode m None s n l u text = m.steps s n l u text
 abbrev pub Transition : {S : Type 0} → Ghosts S → S → ℕ → List ℕ → Next S → List ℕ → Type 0
 Transition m s n l u text = TransitionByCode m (length_code (m.limit_of s) n (length l)) s n l u text
 
--- it may lead somewhere, with this text
+-- a machine may lead somewhere at this line, with this text
 abbrev pub MayPrint : {S : Type 0} → Ghosts S → S → ℕ → List ℕ → List ℕ → Type 0
 MayPrint {S} m s n l text = (u : Next S) × Transition m s n l u text
 

@@ -8,7 +8,7 @@ ghost use Rattle.line_machine.specs.Lines.{HasNoLf, HasLine};
 use crate::intake::Intake;
 use std::alloc::Global;
 use std::marker::Model;
-use titan_wire::{Failed, Sink, append_within};
+use titan_wire::{Failed, Sink, append_within, drop_front};
 
 /// Bytes that are asked of a source at a time.
 pub const TAKE: usize = 4096;
@@ -32,7 +32,7 @@ pub enum Found {
 }
 
 /// Where the first LF stands.
-pub(crate) fn lf_place(bytes: &[u8]) -> Option<usize>
+pub fn lf_place(bytes: &[u8]) -> Option<usize>
     ensures place { result ≡ position (λ b. b == 10) bytes.now }
     ensures within { IfSome result (λ k. k < length bytes.now) }
 {
@@ -115,9 +115,7 @@ impl LineBuffer {
         ensures { self.new ≡ self.old }
     {
         if self.start > 0 {
-            let len = self.bytes.len() - self.start;
-            self.bytes.as_mut_slice().rotate_left(self.start);
-            self.bytes.truncate(len);
+            drop_front(&mut self.bytes, self.start);
             self.start = 0;
         }
     }

@@ -12,6 +12,7 @@ mod machine;
 mod opened;
 mod send;
 
+pub use buffer::lf_place;
 pub use driver::drive;
 pub use intake::{Intake, Unwatched};
 pub use laws::sure_text_laws;

@@ -1,9 +1,14 @@
 pub mod Places
 pub mod Elements
 pub mod Kept
+pub mod Members
 pub mod Passing
 pub mod Tests
 pub mod Orders
 pub mod GoneThrough
 pub mod WordsByPlace
 pub mod Pairwise
+pub mod TestedLists
+pub mod Permutations
+pub mod Between
+pub mod Few

@@ -1,6 +1,6 @@
 -- Numbers in order, and answers of comparisons.
-use Rattle.std.proofs.Common.{◌≡◌, ◌⊎◌, ◌<◌, ◌+◌, ℕ, List, [], ◌∷◌, inl, inr, refl, sym, arith}
-use Rattle.std.specs.Ordering.{nat_cmp, ordering_then}
+use Rattle.std.proofs.Common.{◌≡◌, ◌⊎◌, ◌<◌, ◌+◌, ℕ, true, List, [], ◌∷◌, inl, inr, refl, sym, arith}
+use Rattle.std.specs.Ordering.{nat_cmp, ordering_then, is_lt}
 use Rattle.std.specs.Cmp.{nat_cmp_is}
 use Rattle.std.specs.Cmp.Lexicographic.{slice_cmp}
 use Rattle.std.specs.declared.cmp.Ordering.{Ordering}
@@ -20,6 +20,11 @@ below_next m n h = grind arith
 
 pub less_greater : ◌≡◌ {A = Ordering} Less Greater → ⊥
 less_greater h = cc
+
+pub lt_less : (o : Ordering) → is_lt o ≡ true → o ≡ Less
+lt_less Less e = refl
+lt_less Equal e = absurd cc
+lt_less Greater e = absurd cc
 
 -- two answers that are equal together are each
 pub then_equal : (a b : Ordering) → ordering_then a b ≡ Equal → (a ≡ Equal) × (b ≡ Equal)
@@ -41,6 +46,9 @@ less_cmp x y h = grind (arith, nat_tests)
 
 pub cmp_less : (x y : ℕ) → nat_cmp x y ≡ Less → x < y
 cmp_less x y e = grind (arith, nat_tests)
+
+pub greater_cmp : (x y : ℕ) → y < x → nat_cmp x y ≡ Greater
+greater_cmp x y h = grind (arith, nat_tests)
 
 pub same_list : (xs ys : List ℕ) → slice_cmp nat_cmp xs ys ≡ Equal → xs ≡ ys
 same_list [] [] e = refl

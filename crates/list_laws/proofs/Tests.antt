@@ -12,10 +12,6 @@ pub either : {P : Type 0} (a b : Bool) → (a || b) ≡ true → (a ≡ true →
 either true b e f g = f refl
 either false b e f g = g e
 
--- neither test holds
-pub neither : (a b : Bool) → a ≡ false → b ≡ false → (a || b) ≡ false
-neither a b h k = ap (λ t. t || b) h ∙ k
-
 -- two tests that exclude each other
 pub no_and : (a b : Bool) → (a ≡ true → b ≡ true → ⊥) → (a && b) ≡ false
 no_and true true h = absurd (h refl refl)
@@ -55,3 +51,10 @@ some_none x e = absurd cc
 -- results that are equal hold one value
 pub same_ok : {X E : Type 0} (x y : X) → ◌≡◌ {A = Result X E} (Ok x) (Ok y) → x ≡ y
 same_ok x y h = cc
+
+-- a test has one answer
+pub true_false : {P : Type 0} → true ≡ false → P
+true_false e = absurd cc
+
+pub false_true : {P : Type 0} → false ≡ true → P
+false_true e = absurd cc

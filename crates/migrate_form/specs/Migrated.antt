@@ -11,7 +11,7 @@ use Rattle.run_form.specs.Summaries.{counts_of}
 use Rattle.run_form.specs.declared.notation.Notation.TheVariants.{Words}
 use Rattle.text_base.specs.Tokens.{Tok, tokens_of}
 
--- something was read
+-- a line says something
 abbrev pub is_something : Result (List Tok) ℕ → Bool
 is_something (Ok []) = false
 is_something (Ok (t ∷ ts)) = true

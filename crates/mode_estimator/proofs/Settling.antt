@@ -1,6 +1,6 @@
 -- Parts that are settled, and what a turn of the search keeps.
 use Rattle.std.proofs.Common.{◌≡◌, ℕ, ◌<◌, ◌≤◌, List, [], ◌∷◌, ◌++◌, All, Contains, Option, Some, None, slice_get, length, IfSome, IsNone, refl, subst, arith}
-use Rattle.std.proofs.lemmas.List.Elements.{All-push, All-weaker}
+use Rattle.std.proofs.lemmas.List.Elements.{All-push, All-weaker, Contains-push}
 use Rattle.cca_base.specs.declared.cube.Pair.{Pair}
 use Rattle.cca_base.specs.PlantModel.{PlantModel}
 use Rattle.cca_base.specs.State.{IsState, Extends}
@@ -19,7 +19,7 @@ use Rattle.cost_search.specs.Pending.{AreHalves, IsSettled}
 use Rattle.cost_search.specs.Queue.{cost_of, modes_of}
 use Rattle.cost_search.proofs.Charged.{uncut_at}
 use Rattle.cost_search.proofs.Ranks.{heads_chosen, heads_upto, upto_cost}
-use Rattle.cost_search.proofs.Stacks.{contains_last, halved, pending_drops, pending_ends, pending_splits, weights-fall}
+use Rattle.cost_search.proofs.Stacks.{halved, pending_drops, pending_ends, pending_splits, weights-fall}
 use Rattle.mode_estimator.specs.declared.turn.Best.{Best}
 use Rattle.mode_estimator.specs.First.{AreClashes, AreStates, IsLeastShown, NoneBelow}
 use Rattle.mode_estimator.specs.declared.turn.PartVerdict.{PartVerdict}
@@ -136,7 +136,7 @@ pub holds_clash : (m : PlantModel) (s : List ℕ) (seen cube : List Pair) → Is
 holds_clash m s seen cube h = All-weaker (Contains (pairs_of s)) (λ p. slice_get s p.item ≡ Some p.value) (λ p among. stands_in s p among) cube h.part
 
 pub cut_holds : (s : List ℕ) (cuts : List (List Pair)) (cube : List Pair) → Extends s cube → IsUncut (cuts ++ cube ∷ []) s → ⊥
-cut_holds s cuts cube held uncut = uncut_at (cuts ++ cube ∷ []) cube s uncut (contains_last cuts cube) held
+cut_holds s cuts cube held uncut = uncut_at (cuts ++ cube ∷ []) cube s uncut (Contains-push cuts cube) held
 
 -- with the conflict each cut is a clash
 pub grown_clashes : (m : PlantModel) (s : List ℕ) (seen : List Pair) (cuts : List (List Pair)) (cube : List Pair) → AreClashes m seen cuts → IsMinimalClash m s seen cube

@@ -9,7 +9,7 @@ use crate::query::Query;
 use crate::turn::{Best, turn};
 use cca_base::{Choice, Cube, List};
 use cost_search::{Costed, full_stack};
-use std::alloc::{AllocError, Global};
+use std::alloc::AllocError;
 
 /// A least-cost state that has a world agreeing with what is seen, if one costs less than the limit. None costs less than
 /// the floor, so that the first of that cost will do. Conflicts on the way join the cuts. The error is out of memory.

@@ -9,7 +9,7 @@ use crate::find::find;
 use crate::lower::lower;
 use crate::query::Query;
 use cca_base::{Choices, Cube, List};
-use std::alloc::{AllocError, Global};
+use std::alloc::AllocError;
 
 /// The first of the states that may be chosen and that have a world agreeing with what is seen. The error is out of memory.
 pub(crate) fn first_shown(

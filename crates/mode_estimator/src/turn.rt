@@ -11,7 +11,7 @@ ghost use Rattle.mode_estimator.specs.Turns.{IsJudged, IsTurned};
 use crate::query::Query;
 use cca_base::{Choice, Cube, List, State};
 use cost_search::{Costed, Part, part_bound, push_halves};
-use std::alloc::{AllocError, Global};
+use std::alloc::AllocError;
 
 /// The best state so far, and the cost below which another one is looked for.
 #[derive(Debug, Drop)]

@@ -35,7 +35,7 @@ abbrev pub reading_lines : {S : Type 0} → (CompiledModel → S) → Ghosts S �
 reading_lines first m Says EndsSo =
     reading (form_machine (form_of_lines first) m) (form_first (record {})) (AnswersByEnd false Says) (IsReadWhole EndsSo) (HasRefusedLine EndsSo)
 
--- its texts are what it says, both ways; each line leads one way; and its end tells what was refused or rejected, both ways
+-- a form's texts are what it says, both ways; each line leads one way; and its end tells what was refused or rejected, both ways
 pub record FormAgrees (k : FormMeaning) : Type 0 where
   pub says : (input : List ℕ) (e : End) (text : List ℕ) → IsText k.machine k.first input e text → (end : ModelText) × EndsModel input end × k.says end e text
   pub comes : (input : List ℕ) (e : End) (text : List ℕ) (end : ModelText) → EndsModel input end → k.says end e text → IsText k.machine k.first input e text

@@ -29,7 +29,7 @@ pub use Rattle.std.proofs.lemmas.Bool.{or_parts, not-false as not_parts}
 pub below : (a b : ℕ) → nat_le a b ≡ false → b < a
 below a b e = grind (arith, nat_tests)
 
-pub at_most : (a b : ℕ) → nat_lt a b ≡ false → b ≤ a
+at_most : (a b : ℕ) → nat_lt a b ≡ false → b ≤ a
 at_most a b e = grind (arith, nat_tests)
 
 -- ---- names

@@ -1,5 +1,6 @@
 -- What a line with a formula leads to, by what was read of its text.
 use Rattle.std.proofs.Common.{◌≡◌, ℕ, Bool, true, false, cond, ◌||◌, List, [], ◌∷◌, length, Option, Some, None, inl, refl, sym, ap, ◌∙◌}
+use Rattle.std.proofs.lemmas.Option.{same_Some}
 use Rattle.std.specs.Prelude.{nat_le}
 use Rattle.cca_base.specs.declared.formula.Formula.{Formula}
 use Rattle.cca_base.specs.declared.limits.TheConstants.{MAX_RULES, MAX_MOVES}
@@ -15,14 +16,14 @@ use Rattle.model_syntax.specs.Codes.{least, is_long, rule_code, move_code_from, 
 use Rattle.model_syntax.specs.Lines.{Next, Goes, Refused, IsNextOfText, rule_next, unless}
 use Rattle.model_syntax.specs.ReadCodes.{rule_code_read, move_code_read}
 use Rattle.model_syntax.proofs.AddedParts.{below}
-use Rattle.formula_syntax.proofs.SoundReadings.{same_reading, sound_formula, sound_is_formula}
+use Rattle.formula_syntax.proofs.SoundReadings.{sound_formula, sound_is_formula}
 
 -- ---- what was read
 
 -- something was read, and it leads there
 pub some_read : (m : PlantModel) (ls : List Lexeme) (f : Whole → Next) (r : ReadPart) (next : Next) → IsReadingOf true m ls (Some r) → ((text : Whole) → r ≡ reading_of true m text → next ≡ f text) → IsNextOfText ls f next
 some_read m ls f r next h leads = record {
-  of_text = λ text e. leads text (same_reading r (reading_of true m text) (h.read_of text e));
+  of_text = λ text e. leads text (same_Some r (reading_of true m text) (h.read_of text e));
   or_none = inl (h.spelled r refl);
 }
 

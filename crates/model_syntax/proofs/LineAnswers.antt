@@ -1,11 +1,12 @@
 -- What lines answer, from what their items answer.
 use Rattle.std.proofs.Common.{◌≡◌, Bool, true, false, ◌==◌, length, List, [], ◌∷◌, map, Option, Some, None, Result, Ok, Err, refl, sym, ap, subst, ◌∙◌}
+use Rattle.text_base.proofs.LexemesOfTokens.{lexemes_of}
 use Rattle.cca_base.specs.declared.events.Stop.{Stop}
 use Rattle.cca_base.specs.declared.events.Stop.TheVariants as stops
 use Rattle.cca_base.specs.PlantModel.{PlantModel}
 use Rattle.text_base.specs.declared.token.Token.{Token}
 use Rattle.text_base.specs.Tokens.{token_view}
-use Rattle.text_base.specs.Lexemes.{lexeme, lexeme_of}
+use Rattle.text_base.specs.Lexemes.{lexeme_of}
 use Rattle.model_syntax.specs.declared.line_end.LineEnd.{LineEnd}
 use Rattle.model_syntax.specs.declared.line_end.LineEnd.TheVariants as ends
 use Rattle.model_syntax.specs.Items.{Item, item_of}
@@ -24,11 +25,6 @@ pub item_answers : (r : Result LineEnd Stop) (item : Item) (old new : PlantModel
 item_answers (Ok ends.Going) item old new h = (Goes new, h, refl)
 item_answers (Ok ends.Script) item old new h = ((Ended, h.0, refl), ap begun h.1)
 item_answers (Err e) item old new h = fails_item e item old new h
-
--- the lexemes of tokens, apart from where they stand
-pub lexemes_of : (ts : List Token) → map lexeme (map token_view ts) ≡ map lexeme_of ts
-lexemes_of [] = refl
-lexemes_of (t ∷ ts) = ap (λ ls. lexeme_of t ∷ ls) (lexemes_of ts)
 
 -- what tokens that are some lead to is what their form leads to
 some_tokens : (s : ModelSoFar) (t : Token) (ts : List Token) (form : Option Item) → form ≡ item_of (map lexeme_of (t ∷ ts)) → (o : LineOutcome) → LeadsByForm s.begun s.model form o → LeadsByTokens s (Ok (map token_view (t ∷ ts))) o

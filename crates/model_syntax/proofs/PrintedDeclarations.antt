@@ -7,7 +7,6 @@ use Rattle.std.proofs.lemmas.Bool.{le-ltb, lt-leb, or_from}
 use Rattle.std.proofs.lemmas.List.{map-append}
 use Rattle.std.proofs.lemmas.List.Elements.{All-head, All-tail, All-cons, All-nil}
 use Rattle.list_laws.proofs.Elements.{all_left, all_right}
-use Rattle.list_laws.proofs.Pairwise.{AllPairs-right}
 use Rattle.cca_base.specs.declared.formula.Subject.TheVariants as subjects
 use Rattle.cca_base.specs.declared.model.Component.{Component}
 use Rattle.cca_base.specs.declared.model.Variable.{Variable}
@@ -123,9 +122,6 @@ module _ (version : ℕ) (cs : List Component) (all : List Variable) (names : Ar
 
     divided : map name_of_quantity front ++ x.name ∷ map name_of_quantity rest ≡ map name_of_quantity all
     divided = sym (map-append name_of_quantity front (x ∷ rest)) ∙ ap (map name_of_quantity) e
-
-    own : AreDifferent (map name_of_quantity front ++ x.name ∷ map name_of_quantity rest)
-    own = subst AreDifferent (sym divided) (AllPairs-right (λ a b. a ≢ b) part_names (map name_of_quantity all) names.different)
 
     whole : AreDifferent ((part_names ++ map name_of_quantity front) ++ x.name ∷ map name_of_quantity rest)
     whole = subst AreDifferent (sym (append_assoc part_names (map name_of_quantity front) (x.name ∷ map name_of_quantity rest) ∙ ap (λ ns. part_names ++ ns) divided)) names.different

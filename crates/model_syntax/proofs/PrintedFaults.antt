@@ -1,6 +1,5 @@
 -- A move of a well-formed model has no fault behind the moves before it.
-use Rattle.std.proofs.Common.{◌≡◌, ◌≢◌, ℕ, Bool, true, false, not, ◌&&◌, ◌||◌, List, [], ◌∷◌, ◌++◌, get_or, refl, ap, eqb}
-use Rattle.std.specs.List.{list_any}
+use Rattle.std.proofs.Common.{◌≡◌, ◌≢◌, ℕ, false, not, ◌&&◌, ◌||◌, List, ◌∷◌, ◌++◌, get_or, refl, eqb}
 use Rattle.std.proofs.lemmas.Bool.{eqb-true, eq-eqb, not-true, both_ways}
 use Rattle.std.proofs.lemmas.List.Folds.{list_any_none}
 use Rattle.list_laws.proofs.Tests.{either, no_and}
@@ -8,14 +7,6 @@ use Rattle.cca_base.specs.declared.model.Move.{Move}
 use Rattle.cca_base.specs.Model.{CommandsFit}
 use Rattle.model_syntax.specs.Codes.{is_ambiguous}
 use Rattle.model_syntax.proofs.PrintedNames.{pairs_across}
-
-any_at : {X : Type 0} (p : X → Bool) (xs : List X) (y : X) (ys : List X) → p y ≡ true → list_any p (xs ++ y ∷ ys) ≡ true
-any_at p [] y ys h = ap (λ b. b || list_any p ys) h
-any_at p (x ∷ xs) y ys h = go (p x) (any_at p xs y ys h)
-  where
-    go : (b : Bool) → list_any p (xs ++ y ∷ ys) ≡ true → (b || list_any p (xs ++ y ∷ ys)) ≡ true
-    go true e = refl
-    go false e = e
 
 module _ (front : List Move) (x : Move) (rest : List Move) (commands : CommandsFit (front ++ x ∷ rest)) where
   abbrev moves : List Move

@@ -2,8 +2,7 @@
 use Rattle.std.proofs.Common.{◌≡◌, ℕ, Bool, true, false, ◌||◌, codes, List, [], ◌∷◌, ◌++◌, length, map, refl, sym, ap, subst, ◌∙◌, arith}
 use Rattle.std.specs.Prelude.{nat_le}
 use Rattle.std.specs.List.{list_all, list_any}
-use Rattle.std.proofs.lemmas.Bool.{and_parts}
-use Rattle.list_laws.proofs.Tests.{neither}
+use Rattle.std.proofs.lemmas.Bool.{and_parts, or_from}
 use Rattle.cca_base.specs.declared.formula.Formula.{Formula, roll-Formula}
 use Rattle.cca_base.specs.declared.formula.Formula.TheOpen.{Formula-F}
 use Rattle.cca_base.specs.declared.formula.Formula.TheFolds.{fold-roll-Formula, ind-Formula, map-Formula}
@@ -51,10 +50,10 @@ module _ (m : PlantModel) where
       means_set = ap (λ o. has_among m o names) h.subject ∙ ap (λ n. roll-Formula (Formula-F.Among s n)) h.gives
 
       is_known : list_any (is_unknown m) (record { name = name; values = names } ∷ []) ≡ false
-      is_known = neither _ false (ap (λ o. lacks_value m o names) h.subject ∙ h.known) refl
+      is_known = or_from _ false (ap (λ o. lacks_value m o names) h.subject ∙ h.known) refl
 
       is_once : list_any (λ c. has_twice c.values) (let c : Comparison = record { name = name; values = names } in c ∷ []) ≡ false
-      is_once = neither _ false h.once refl
+      is_once = or_from _ false h.once refl
 
     among_text : (names : List (List ℕ)) → IsAtom m s set names → IsPrintedAs m (among_said name names) (record { precedence = 0; depth = 1 }) atom
     among_text [] h = let e = h.gives in let k = h.some in absurd (omega (arith, e, k))

@@ -1,10 +1,9 @@
 -- Printed parts with a word between them are the text of the formula that the word makes of them.
 use Rattle.std.proofs.Common.{◌≡◌, ℕ, ◌+◌, Bool, true, false, codes, List, [], ◌∷◌, ◌++◌, map, refl, sym, ap, subst, ◌∙◌, arith, append_assoc, max}
 use Rattle.std.specs.List.{list_any}
-use Rattle.std.proofs.lemmas.Bool.{and_from}
+use Rattle.std.proofs.lemmas.Bool.{and_from, or_from}
 use Rattle.std.proofs.lemmas.List.{append-nil}
 use Rattle.std.proofs.lemmas.List.Folds.{list_any-append}
-use Rattle.list_laws.proofs.Tests.{neither}
 use Rattle.cca_base.specs.declared.formula.Formula.{Formula, roll-Formula}
 use Rattle.cca_base.specs.declared.formula.Formula.TheOpen.{Formula-F}
 use Rattle.cca_base.specs.PlantModel.{PlantModel}
@@ -73,7 +72,7 @@ module _ (m : PlantModel) where
         }
 
     none_more : (p : Comparison → Bool) (r : R) (t : P) → list_any p (r_comparisons r) ≡ false → list_any p (p_comparisons t) ≡ false → list_any p (r_comparisons (add r t)) ≡ false
-    none_more p r t h k = ap (list_any p) (add_comparisons r t) ∙ list_any-append p (r_comparisons r) (p_comparisons t) ∙ neither _ _ h k
+    none_more p r t h k = ap (list_any p) (add_comparisons r t) ∙ list_any-append p (r_comparisons r) (p_comparisons t) ∙ or_from _ _ h k
 
     more : (r : R) (ts : List Lexeme) (fs : List Formula) (d : ℕ) → Row r ts fs d → (e : Part)
         → Row (add r (text e).0) (ts ++ between ∷ part_said allowed (said m e.0)) (fs ++ e.0 ∷ []) (max d (part_depth allowed (printed e.0)))
@@ -158,7 +157,7 @@ module _ (m : PlantModel) where
     side e = in_side m (said m e.0) (printed e.0) e.0 e.1
 
     none_joined : (p : Comparison → Bool) (x y : Disjunction) → list_any p (disjunction_comparisons x) ≡ false → list_any p (disjunction_comparisons y) ≡ false → list_any p (whole_comparisons (join x y)) ≡ false
-    none_joined p x y h k = ap (list_any p) (join_comparisons x y) ∙ list_any-append p (disjunction_comparisons x) (disjunction_comparisons y) ∙ neither _ _ h k
+    none_joined p x y h k = ap (list_any p) (join_comparisons x y) ∙ list_any-append p (disjunction_comparisons x) (disjunction_comparisons y) ∙ or_from _ _ h k
 
     pub sides : WholeText m (part_said 2 (said m a.0) ++ between ∷ part_said 2 (said m b.0)) (means a.0 b.0) (1 + max (part_depth 2 (printed a.0)) (part_depth 2 (printed b.0)))
     sides =

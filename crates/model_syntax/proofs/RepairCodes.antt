@@ -6,10 +6,10 @@ use Rattle.std.proofs.lemmas.List.Elements.{All-contains, Contains-push_cases, C
 use Rattle.std.proofs.lemmas.List.Folds.{Any-from_list_any}
 use Rattle.list_laws.proofs.Tests.{no_and, and_false}
 use Rattle.list_laws.proofs.Passing.{some_passes}
+use Rattle.list_laws.proofs.Members.{all_from, contains_here}
 use Rattle.cca_base.specs.declared.model.Move.{Move}
 use Rattle.cca_base.specs.PlantModel.{PlantModel}
 use Rattle.cca_base.specs.Model.{WellFormed, IsNext, RepairChain, RepairsFit, MendsAtOnce, mode_counts, is_broken, is_repair_of}
-use Rattle.cca_base.proofs.Members.{all_from, contains_here}
 use Rattle.cca_base.proofs.NextModes.{repair_of, repair_parts, next_broken}
 use Rattle.cca_base.proofs.Growth.{ordinary_fits}
 use Rattle.model_syntax.specs.Codes.{leads_to, mends_elsewhere, is_move_into_broken, is_repair_into_broken, is_into_broken, is_unmarked_exit, mends_twice, is_repair_cycle, stands_in_chain}
@@ -293,15 +293,11 @@ module _ (m : PlantModel) (x : Move) (rest : List Move) (h : RepairsFit m.versio
       let chain = to_chain m.moves x.component (slice_index (mode_counts m) x.component) x.target x.source parts.1 in
       h.no_cycle x.component x.source chain.0 (x.target, own_next x here parts.0, chain_whole x.component x.target x.source chain.0 chain.1))
 
-  pub no_code : (is_into_broken m x ≡ false) × (is_unmarked_exit m.moves x ≡ false) × (mends_twice m.moves x ≡ false) × (is_repair_cycle m x ≡ false)
-  no_code = (
+  pub rules_give_no_code : (is_into_broken m x ≡ false) × (is_unmarked_exit m.moves x ≡ false) × (mends_twice m.moves x ≡ false) × (is_repair_cycle m x ≡ false)
+  rules_give_no_code = (
     or_from (is_move_into_broken m.moves x) _ not_move_into (no_and (m.version == 1) (is_repair_into_broken m.moves x) (λ first some.
         both_ways (is_repair_into_broken m.moves x) (not_repair_into (eqb-true m.version 1 first)) some)),
     not_exit,
     not_twice,
     not_cycle,
   )
-
-pub rules_give_no_code : (m : PlantModel) (x : Move) (rest : List Move) → RepairsFit m.version (m.moves ++ x ∷ rest)
-    → (is_into_broken m x ≡ false) × (is_unmarked_exit m.moves x ≡ false) × (mends_twice m.moves x ≡ false) × (is_repair_cycle m x ≡ false)
-rules_give_no_code m x rest h = no_code m x rest h

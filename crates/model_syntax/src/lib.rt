@@ -28,4 +28,5 @@ pub use line_end::LineEnd;
 pub use model_reader::ModelReader;
 pub use print::print_model;
 pub use print_laws::{joined_are_tokens, printed_models_read_back};
+pub use print_names::name_at;
 pub use shorter::lines_are_no_longer;

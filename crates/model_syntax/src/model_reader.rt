@@ -1,8 +1,7 @@
 //! The reader of a model, line by line.
 
-ghost use Rattle.std.specs.Prelude.{◌≡◌, false, IfOk};
+ghost use Rattle.std.specs.Prelude.{◌≡◌, false, map, Ok, IfOk};
 ghost use Rattle.cca_base.specs.Prelude.{empty_model, IsComplete};
-ghost use Rattle.std.specs.Prelude.{Ok, map};
 ghost use Rattle.std.specs.List.{AllByRecursion};
 ghost use Rattle.text_base.specs.Tokens.{IsOfItsKind, token_view};
 ghost use Rattle.formula_syntax.specs.Lookups.{NamesFit};

@@ -1,65 +1,20 @@
--- Least costs of failures one by one, and sums of what the components cost.
-use Rattle.std.proofs.Common.{◌≡◌, ◌≢◌, ◌<◌, ◌≤◌, ◌+◌, ◌*◌, ◌^◌, ℕ, List, [], ◌∷◌, ◌++◌, length, sum, min, slice_get, slice_index, Option, Some, None, All, Contains, refl, sym, ap, subst, ◌∙◌, inl, inr, arith}
-use Rattle.std.proofs.lemmas.Bool.{cases_lt, cases_eq}
+-- What a change costs, and sums of what the components cost.
+use Rattle.std.proofs.Common.{◌≡◌, ◌≢◌, ◌<◌, ◌≤◌, ◌+◌, ◌*◌, ℕ, List, [], ◌∷◌, ◌++◌, length, sum, slice_get, slice_index, Option, Some, None, Contains, sym, subst, ◌∙◌, inl, inr, arith}
+use Rattle.std.proofs.lemmas.Bool.{cases_eq}
 use Rattle.std.proofs.lemmas.List.{length-append, get_or_append_left}
 use Rattle.std.proofs.Math.Seq.{get_or-append_seam}
-use Rattle.std.proofs.lemmas.List.Elements.{All-contains, All-from_get_or, Contains-append_left, Contains-push, Contains-push_cases}
-use Rattle.std.proofs.lemmas.List.Sums.{sum_by-append, sum_by-le}
+use Rattle.std.proofs.lemmas.List.Sums.{sum_by-append}
 use Rattle.list_laws.proofs.Places.{value_at}
-use Rattle.cca_base.specs.declared.limits.TheConstants.{MAX_COMPONENTS, MAX_COST}
-use Rattle.cca_base.specs.declared.model.Failure.{Failure}
+use Rattle.cca_base.specs.declared.limits.TheConstants.{MAX_COST}
 use Rattle.cca_base.specs.PlantModel.{PlantModel}
-use Rattle.cca_base.specs.Model.{WellFormed, IsFailure}
+use Rattle.cca_base.specs.Model.{WellFormed}
 use Rattle.cca_base.specs.State.{IsState}
 use Rattle.cca_base.specs.Successors.{Costs, ChangeCosts, Nominal}
 use Rattle.cca_base.proofs.NominalLaws.{one_nominal}
+use Rattle.cca_base.proofs.CheapCosts.{change_cheap}
 use Rattle.cca_laws.proofs.CostLaws.{one_cost}
-use Rattle.cca_base.specs.LeastCosts.{failing, lesser_of, IsLeast, IsChange}
+use Rattle.cca_base.specs.LeastCosts.{failing, IsLeast, IsChange}
 use Rattle.plan_checker.specs.Costs.{AreParts, IsTotal}
-
--- ---- least costs
-
-module _ (failures : List Failure) (x : Failure) (c from to : ℕ) where
-  -- a failure of this kind
-  pub least_more : (known : Option ℕ) → x.component ≡ c → x.source ≡ from → x.target ≡ to → IsLeast failures c from to known
-      → IsLeast (failures ++ x ∷ []) c from to (Some (lesser_of known x.cost))
-  least_more None own leaves leads none =
-      let is : x ≡ failing c from to x.cost = λ i. record { component = own i; source = leaves i; target = leads i; cost = x.cost } in (
-        subst (Contains (failures ++ x ∷ [])) is (Contains-push failures x),
-        λ cost among. elim (Contains-push_cases failures x (failing c from to cost) among) [
-          | inl before ↦ absurd (none cost before)
-          | inr e ↦ omega (arith, ap (λ (f : Failure). f.cost) e)
-        ],
-      )
-  least_more (Some known) own leaves leads (has, least) =
-      let is : x ≡ failing c from to x.cost = λ i. record { component = own i; source = leaves i; target = leads i; cost = x.cost } in (
-        elim (cases_lt known x.cost) [
-          | inl below ↦
-              let e : known ≡ min known x.cost = omega arith in
-              subst (λ k. Contains (failures ++ x ∷ []) (failing c from to k)) e (Contains-append_left failures (x ∷ []) (failing c from to known) has)
-          | inr above ↦
-              let e : x.cost ≡ min known x.cost = omega arith in
-              subst (λ k. Contains (failures ++ x ∷ []) (failing c from to k)) e (subst (Contains (failures ++ x ∷ [])) is (Contains-push failures x))
-        ],
-        λ cost among. elim (Contains-push_cases failures x (failing c from to cost) among) [
-          | inl before ↦ (let low : known ≤ cost = least cost before in omega arith)
-          | inr e ↦ omega (arith, ap (λ (f : Failure). f.cost) e)
-        ],
-      )
-
-  -- a failure of another kind
-  pub least_same : (known : Option ℕ) → ((cost : ℕ) → x ≡ failing c from to cost → ⊥) → IsLeast failures c from to known → IsLeast (failures ++ x ∷ []) c from to known
-  least_same None other none = λ cost among. elim (Contains-push_cases failures x (failing c from to cost) among) [
-    | inl before ↦ none cost before
-    | inr e ↦ other cost e
-  ]
-  least_same (Some known) other (has, least) = (
-    Contains-append_left failures (x ∷ []) (failing c from to known) has,
-    λ cost among. elim (Contains-push_cases failures x (failing c from to cost) among) [
-      | inl before ↦ least cost before
-      | inr e ↦ absurd (other cost e)
-    ],
-  )
 
 -- ---- changes
 
@@ -71,16 +26,9 @@ pub change_of : (m : PlantModel) (c from nominal to : ℕ) (known : Option ℕ) 
 change_of m c from nominal to None other none = λ cost h. no_change m c from nominal to cost other (none cost) h
 change_of m c from nominal to (Some known) other (has, least) = inr (other, has, least)
 
-pub change_cheap : (m : PlantModel) → WellFormed m → (c from nominal to cost : ℕ) → ChangeCosts m c from nominal to cost → cost ≤ MAX_COST
-change_cheap m good c from nominal to cost (inl (same, nothing)) = omega (arith, nothing)
-change_cheap m good c from nominal to cost (inr (other, failure, least)) = (All-contains (IsFailure m) m.failures (failing c from to cost) good.failures failure).cheap
-
 -- ---- sums
 
 module _ (m : PlantModel) (s nominal s2 : List ℕ) where
-  pub no_parts : AreParts m s nominal s2 0 []
-  no_parts = record { full = refl; each = λ c within. absurd (omega arith) }
-
   more_parts : (count cost : ℕ) (parts : List ℕ) → AreParts m s nominal s2 count parts
       → ChangeCosts m count (slice_index s count) (slice_index nominal count) (slice_index s2 count) cost → AreParts m s nominal s2 (count + 1) (parts ++ cost ∷ [])
   more_parts count cost parts h more = record {
@@ -139,15 +87,3 @@ pub along : (P : ℕ → ℕ → ℕ → Type 0) (s t u : List ℕ) (i x y z : �
     → P (slice_index s i) (slice_index t i) (slice_index u i)
 along P s t u i x y z e f g h =
     subst (λ n. P n (slice_index t i) (slice_index u i)) (sym (value_at s i x e)) (subst (λ n. P x n (slice_index u i)) (sym (value_at t i y f)) (subst (P x y) (sym (value_at u i z g)) h))
-
--- ---- a cost has its bits
-
--- each component's part is cheap, and there are not many
-pub cost_fits : (m : PlantModel) → WellFormed m → (s s2 : List ℕ) (k : Option ℕ) (cost : ℕ) → Costs m s k s2 cost → cost < 2 ^ 64
-cost_fits m wf s s2 k cost h =
-    let cheap : All (λ part. part ≤ MAX_COST) h.parts =
-    All-from_get_or (λ part. part ≤ MAX_COST) h.parts 0 (λ c lt. change_cheap m wf c (slice_index s c) (slice_index h.nominal c) (slice_index s2 c) (slice_index h.parts c) (h.each c (omega (arith, lt, h.full)))) in
-    let whole : sum h.parts ≤ length h.parts * MAX_COST = sum_by-le (λ (n : ℕ). n) MAX_COST h.parts cheap in
-    let few : length m.components ≤ MAX_COMPONENTS = wf.limits.components in
-    let full : length s2 ≡ length m.components = h.state.full in
-    omega (arith, whole, few, full, h.full, h.total)

@@ -3,6 +3,7 @@ use Rattle.std.proofs.Common.{◌≡◌, ◌≢◌, ◌<◌, ◌||◌, ℕ, fals
 use Rattle.std.proofs.lemmas.Bool.{false≢true, cases_eq, ne_eqb}
 use Rattle.std.proofs.lemmas.List.Elements.{All-nil, All-contains}
 use Rattle.std.proofs.lemmas.Option.{slice_get_within}
+use Rattle.list_laws.proofs.Members.{all_from}
 use Rattle.cca_base.specs.declared.cube.Pair.{Pair}
 use Rattle.cca_base.specs.declared.events.Event.{Event}
 use Rattle.cca_base.specs.declared.events.Event.TheVariants as event
@@ -12,11 +13,11 @@ use Rattle.cca_base.specs.Model.{WellFormed, HasMode}
 use Rattle.cca_base.specs.Sets.{has, with_number}
 use Rattle.cca_base.specs.State.{HasValue}
 use Rattle.cca_base.specs.Trace.{ExecutiveState, start, Changes, MayCome, MayBeSeen, MayBeObserved}
-use Rattle.cca_base.proofs.Members.{all_from}
 use Rattle.cca_base.proofs.NominalLaws.{moved}
 use Rattle.cca_base.proofs.SetLaws.{has-empty, has-with_number}
 use Rattle.cca_base.proofs.StartLaws.{start_state}
 use Rattle.trace_laws.specs.Events.{AsGiven}
+use Rattle.consistency.proofs.ObservedPairs.{observed_values}
 use Rattle.plan_checker.specs.Standing.{FitsModel, KeepsPending}
 
 pub start_fits : (m : PlantModel) (ticks : ℕ) → WellFormed m → FitsModel m (start m ticks)
@@ -38,13 +39,6 @@ nothing_pending x none = record {
 -- ---- what is pending and mirrored
 
 module _ (m : PlantModel) (pending : List Pair) (mirrored : ℕ) where
-  both_values : (pairs both : List Pair) → MayBeObserved m pending mirrored pairs → IsUnion (Contains pending) (Contains pairs) both
-      → All (λ p. HasValue m p.item p.value) pending → All (λ p. HasValue m p.item p.value) both
-  both_values pairs both may union old = all_from (λ p. HasValue m p.item p.value) both (λ p among. elim ((union.each p).0 among) [
-    | inl before ↦ All-contains (λ q. HasValue m q.item q.value) pending p old before
-    | inr new ↦ All-contains (λ q. HasValue m q.item q.value) pairs p may.values new
-  ])
-
   both_unmirrored : (pairs both : List Pair) → MayBeObserved m pending mirrored pairs → IsUnion (Contains pending) (Contains pairs) both
       → All (λ p. has mirrored p.item ≡ false) pending → All (λ p. has mirrored p.item ≡ false) both
   both_unmirrored pairs both may union old = all_from (λ p. has mirrored p.item ≡ false) both (λ p among. elim ((union.each p).0 among) [
@@ -80,7 +74,7 @@ event_fits m x (event.Goal pairs) y good h may (goal, given, e) =
     subst (FitsModel m) (sym e) (wants m x (Some goal) h (subst (All (λ p. HasMode m p.item p.value)) (sym given) may.modes))
 event_fits m x event.Clear y good h may e = subst (FitsModel m) (sym e) (wants m x None h tt)
 event_fits m x (event.Observe pairs) y good h may (both, union, e) =
-    subst (FitsModel m) (sym e) (knows m x both x.mirrored h (both_values m x.pending x.mirrored pairs both may union h.pending) h.mirrored)
+    subst (FitsModel m) (sym e) (knows m x both x.mirrored h (observed_values m x.pending pairs both h.pending may.values union) h.mirrored)
 event_fits m x (event.Fault p) y good h may e = subst (FitsModel m) (sym e)
     (record { estimate = h.estimate; plant = moved m x.plant p.item p.value h.plant may; command = h.command; pending = h.pending; mirrored = h.mirrored; goal = h.goal })
 event_fits m x (event.Mirror v) y good h may e =

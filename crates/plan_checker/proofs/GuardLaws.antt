@@ -5,6 +5,7 @@ use Rattle.std.proofs.lemmas.List.{length-map}
 use Rattle.std.proofs.lemmas.List.Elements.{All-contains, Contains-append_left, Contains-push, Contains-push_cases}
 use Rattle.std.proofs.lemmas.Option.{same_Some, slice_get_within}
 use Rattle.list_laws.proofs.Places.{value_at}
+use Rattle.list_laws.proofs.Members.{all_from, contains_cases, contains_here, contains_there, to_filter, from_filter}
 use Rattle.cca_base.specs.declared.cube.Pair.{Pair}
 use Rattle.cca_base.specs.declared.formula.Formula.{Formula}
 use Rattle.cca_base.specs.declared.model.Move.{Move}
@@ -13,12 +14,10 @@ use Rattle.cca_base.specs.Formula.{is_within}
 use Rattle.cca_base.specs.Implicants.{source_pair}
 use Rattle.cca_base.specs.Model.{WellFormed, IsMove, HasMode, is_broken, mode_counts, value_counts}
 use Rattle.cca_base.specs.Repairs.{pairs_of, sound_pairs}
-use Rattle.cca_base.specs.State.{IsState, Extends, Follows, Holds}
+use Rattle.cca_base.specs.State.{IsState, Extends, Follows}
 use Rattle.cca_base.specs.Steps.{support}
-use Rattle.cca_base.proofs.Members.{all_from, contains_cases, contains_here, contains_there, to_filter, from_filter, in_pairs, stands_in}
-use Rattle.cca_base.proofs.StateLaws.{same_state}
+use Rattle.cca_base.proofs.Members.{in_pairs, stands_in}
 use Rattle.cca_base.proofs.Within.{fits_within}
-use Rattle.cca_base.proofs.StatePairs.{extends_own}
 use Rattle.plan_checker.specs.Steps.{AreSupport, IsLeanedOn, HasSupport}
 
 -- a move's guard speaks only of what the model has
@@ -62,13 +61,6 @@ module _ (m : PlantModel) (s : List ℕ) (move : Move) (pairs : List Pair) (at :
             let parts = from_filter test (pairs_of s) p there in
             All-contains Has pairs p extends ((are p).1 (stands_in s p parts.1, inr (not-true (is_broken m.moves p.item p.value) parts.0)))
       ])
-
-module _ (m : PlantModel) (s : List ℕ) (f : Formula) (state : IsState m s) where
-  pub follows_holds : Follows m (pairs_of s) f → Holds m s f
-  follows_holds follows = follows s state (extends_own s)
-
-  pub holds_follows : Holds m s f → Follows m (pairs_of s) f
-  holds_follows holds t is extends = subst (λ z. Holds m z f) (sym (same_state s t (is.full ∙ sym state.full) extends)) holds
 
 -- what stands in a state is a mode of the model
 stands_mode : (m : PlantModel) (s : List ℕ) (p : Pair) → IsState m s → slice_get s p.item ≡ Some p.value → HasMode m p.item p.value

@@ -58,9 +58,6 @@ module _ (m : PlantModel) (s : List ℕ) (goal : Option (List Pair)) (k : ℕ) (
   no_step plan none = inl (refl, λ h. none h.0 h.1)
 
   module _ (mid : List ℕ) (step : Step m s k mid) where
-    pub long_plan : IsRouteVerdict m s goal k (route Long back) Yes
-    long_plan = ((mid, step), tt, tt, tt)
-
     pub not_begun : (ks : List ℕ) → ((others : List ℕ) → ks ≡ k ∷ others → ⊥) → IsRouteVerdict m s goal k (route (Plan ks) back) (No PLAN)
     not_begun ks other = inr (inl (refl, (mid, step), λ h. other h.0.0 h.0.1))
 

@@ -1,5 +1,5 @@
 -- How far a run has come, and what is left of it.
-use Rattle.std.proofs.Common.{◌≡◌, ℕ, List, [], ◌∷◌, refl, sym, subst}
+use Rattle.std.proofs.Common.{ℕ, List, ◌∷◌, subst}
 use Rattle.cca_base.specs.PlantModel.{PlantModel}
 use Rattle.cca_base.specs.Model.{CommandsFit}
 use Rattle.cca_base.specs.Steps.{Step, Run}
@@ -12,9 +12,6 @@ pub record IsOnWay (m : PlantModel) (start ks here left : List ℕ) : Type 0 whe
   pub back : (last : List ℕ) → Run m here left last → Run m start ks last
 
 module _ (m : PlantModel) (start ks : List ℕ) where
-  pub begins : IsOnWay m start ks start ks
-  begins = record { forth = λ last r. r; back = λ last r. r }
-
   pub goes_on : CommandsFit m.moves → (here next : List ℕ) (k : ℕ) (left : List ℕ) → IsOnWay m start ks here (k ∷ left) → Step m here k next → IsOnWay m start ks next left
   goes_on fit here next k left h step = record {
     forth = λ last r.
@@ -25,6 +22,3 @@ module _ (m : PlantModel) (start ks : List ℕ) where
 
   pub stops : (here : List ℕ) (k : ℕ) (left : List ℕ) → IsOnWay m start ks here (k ∷ left) → NoStep m here k → NoRun m start ks
   stops here k left h none last r = let p = h.forth last r in none p.0 p.1
-
-  pub ends : (here left : List ℕ) → left ≡ [] → IsOnWay m start ks here left → Run m start ks here
-  ends here left e h = h.back here (subst (λ l. Run m here l here) (sym e) refl)

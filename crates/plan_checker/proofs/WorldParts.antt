@@ -1,8 +1,8 @@
 -- A world is values that keep the rules, and what a tick sees is what stands in a list.
-use Rattle.std.proofs.Common.{◌≡◌, ℕ, true, false, IsTrue, List, [], length, slice_get, Some, sym, subst, ◌∙◌}
-use Rattle.std.proofs.lemmas.Bool.{both_ways}
+use Rattle.std.proofs.Common.{◌≡◌, ℕ, true, false, IsTrue, List, length, slice_get, Some, sym, subst, ◌∙◌}
 use Rattle.std.proofs.lemmas.List.{length-map}
 use Rattle.std.proofs.lemmas.List.Elements.{All-contains}
+use Rattle.list_laws.proofs.Members.{all_from}
 use Rattle.cca_base.specs.declared.cube.Pair.{Pair}
 use Rattle.cca_base.specs.declared.formula.Formula.{Formula}
 use Rattle.cca_base.specs.PlantModel.{PlantModel}
@@ -10,25 +10,11 @@ use Rattle.cca_base.specs.Formula.{is_within}
 use Rattle.cca_base.specs.Model.{IsFormula, mode_counts, value_counts}
 use Rattle.cca_base.specs.State.{IsState, IsWorld, Extends}
 use Rattle.cca_base.specs.Trace.{ExecutiveState, Observed}
-use Rattle.cca_base.proofs.Members.{all_from, contains_none}
 use Rattle.cca_base.proofs.Within.{fits_within}
 use Rattle.plan_checker.specs.Reasons.{ExplainsTick}
-use Rattle.plan_checker.specs.Worlds.{AreValues, KeepsRules, AreSeen}
-
-module _ (m : PlantModel) (s w : List ℕ) where
-  pub world_of : AreValues m w → KeepsRules m s w → IsWorld m s w
-  world_of values rules = record { full = values.full; values = values.values; rules = rules }
-
-  pub values_of : IsWorld m s w → AreValues m w
-  values_of world = record { full = world.full; values = world.values }
+use Rattle.plan_checker.specs.Worlds.{AreValues, AreSeen}
 
 module _ (m : PlantModel) (x : ExecutiveState) where
-  pub nothing_seen : x.holding ≡ true → AreSeen m x []
-  nothing_seen holds = record {
-    each = λ p. ((λ among. absurd (contains_none p among)), (λ sees. absurd (both_ways x.holding sees.0 holds)));
-    observed = λ going. absurd (both_ways x.holding going holds);
-  }
-
   pub observed_seen : (seen : List Pair) → x.holding ≡ false → Observed m x seen → AreSeen m x seen
   observed_seen seen going observed = record {
     each = λ p. ((λ among. (going, (observed.each p).0 among)), (λ sees. (observed.each p).1 sees.1));

@@ -1,25 +1,15 @@
 //! What the estimate costs from the last one and the last command.
 
-ghost use Rattle.std.specs.Prelude.{◌≡◌, ◌↔◌, ◌++◌, ◌∷◌, [], IsTrue, IfOk, List};
-ghost use Rattle.cca_base.specs.Prelude.{lesser_of, Costs, IsChange, IsLeast, IsState};
+ghost use Rattle.std.specs.Prelude.{◌↔◌, ◌++◌, ◌∷◌, [], IsTrue, IfOk, List};
+ghost use Rattle.cca_base.specs.Prelude.{Costs, IsChange, IsLeast, IsState};
 ghost use Rattle.cca_base.specs.declared.model.Failure.{Failure};
 ghost use Rattle.plan_checker.specs.Costs.{IsTotal};
 
 use crate::states::is_state;
 use crate::step::make_nominal;
-use cca_base::{Failure, Model, State};
+use cca_base::{Failure, Model, State, lesser};
 use consistency::Rules;
 use std::alloc::AllocError;
-
-/// The lesser of a cost and one that may be known.
-fn lesser(known: Option<u32>, cost: u32) -> u32
-    ensures { result ≡ lesser_of known cost }
-{
-    match known {
-        None => cost,
-        Some(least) => least.min(cost),
-    }
-}
 
 /// The least cost of the component's failures between two modes, with one more failure taken in.
 fn with_failure(

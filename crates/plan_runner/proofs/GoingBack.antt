@@ -4,13 +4,13 @@ use Rattle.std.proofs.lemmas.Bool.{cases_Bool, both_ways}
 use Rattle.std.proofs.lemmas.List.{take_all}
 use Rattle.std.proofs.lemmas.Option.{slice_get_within, get_or_from_slice_get, same_Some}
 use Rattle.std.proofs.lemmas.List.Elements.{All-contains, Contains-append_left, Contains-push, Contains-push_cases}
+use Rattle.list_laws.proofs.Members.{all_from, contains_here, contains_there, contains_none}
 use Rattle.cca_base.specs.declared.cube.Pair.{Pair}
 use Rattle.cca_base.specs.Accepted.{CompiledModel}
 use Rattle.cca_base.specs.Flags.{is_set}
 use Rattle.cca_base.specs.Model.{HasMode, IsMended, is_broken}
 use Rattle.cca_base.specs.Orders.{AreInOrder}
 use Rattle.cca_base.specs.Plans.{IsWanted, IsBackGoal}
-use Rattle.cca_base.proofs.Members.{all_from, contains_here, contains_there, contains_none}
 use Rattle.reach_laws.specs.Classes.{AreInside}
 use Rattle.reach_laws.proofs.Facts.{get_at}
 use Rattle.reach_laws.proofs.Order.{Among, IsOrder, repair_rules, order_from}

@@ -2,6 +2,7 @@
 use Rattle.std.proofs.Common.{◌≡◌, ◌<◌, ℕ, true, List, [], ◌∷◌, ◌++◌, length, Contains, refl, sym, subst, arith, length-append}
 use Rattle.std.proofs.lemmas.Bool.{both_ways}
 use Rattle.std.proofs.lemmas.List.Elements.{All-contains, Contains-append_right}
+use Rattle.list_laws.proofs.Members.{contains_here}
 use Rattle.cca_base.specs.declared.cube.Pair.{Pair}
 use Rattle.cca_base.specs.Accepted.{CompiledModel}
 use Rattle.cca_base.specs.Orders.{AreInOrder}
@@ -9,7 +10,6 @@ use Rattle.cca_base.specs.State.{Extends}
 use Rattle.cca_base.specs.Steps.{Step}
 use Rattle.cca_base.specs.Choice.{PicksForGoal}
 use Rattle.cca_base.specs.Plans.{Whole}
-use Rattle.cca_base.proofs.Members.{contains_here}
 use Rattle.reach_laws.specs.Classes.{AreInside}
 use Rattle.reach_laws.specs.Plans.{IsFirstOutside}
 use Rattle.reach_laws.proofs.PlanLaws.{serialisation}

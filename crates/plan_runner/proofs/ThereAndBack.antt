@@ -6,11 +6,12 @@ use Rattle.cca_base.specs.declared.events.PlanEnd.TheVariants.{Plan, Long}
 use Rattle.cca_base.specs.declared.limits.TheConstants.{MAX_PLAN}
 use Rattle.cca_base.specs.Accepted.{CompiledModel}
 use Rattle.cca_base.specs.Plans.{Whole, IsBackGoal, IsRoute}
+use Rattle.cca_base.specs.Steps.{AreReached}
 use Rattle.reach_laws.specs.Classes.{AreInside}
 use Rattle.reach_laws.proofs.Answered as reach
 use Rattle.reversibility.specs.ClassParts.{CoversState}
 use Rattle.policy_tables.specs.Tables.{TableParts, IsTables}
-use Rattle.planner_step.specs.Planning.{member_of, IsGoal, AreReached}
+use Rattle.planner_step.specs.Planning.{member_of, IsGoal}
 use Rattle.planner_step.proofs.Covered.{setting}
 use Rattle.planner_step.proofs.Stuck.{stuck_empty}
 use Rattle.plan_runner.proofs.StillStuck.{stays_on_chain}

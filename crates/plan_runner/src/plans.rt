@@ -1,9 +1,9 @@
 //! Whole plans, and the ways back from where they lead.
 
 ghost use Rattle.std.specs.Prelude.{IfOk};
-ghost use Rattle.cca_base.specs.Prelude.{IsRoute};
+ghost use Rattle.cca_base.specs.Prelude.{AreReached, IsRoute};
 ghost use Rattle.reversibility.specs.ClassParts.{CoversState};
-ghost use Rattle.planner_step.specs.Planning.{AreReached, IsGoal};
+ghost use Rattle.planner_step.specs.Planning.{IsGoal};
 ghost use Rattle.plan_runner.specs.Plans.{IsWholePlan};
 ghost use Rattle.plan_runner.specs.WaysBack.{IsThereAndBack, IsWholeWayBack, StaysStuck};
 

@@ -2,6 +2,7 @@
 use Rattle.std.proofs.Common.{◌≡◌, ◌≤◌, ◌<◌, ◌↔◌, ℕ, true, false, List, [], ◌∷◌, length, slice_get, Some, All, Contains, refl, sym, subst, ◌∙◌, inl, inr, arith}
 use Rattle.std.proofs.lemmas.Bool.{false_from_ne_true}
 use Rattle.std.proofs.lemmas.List.Elements.{All-contains, Contains-append_left, Contains-append_right}
+use Rattle.list_laws.proofs.Members.{all_from, contains_here}
 use Rattle.cca_base.specs.declared.cube.Pair.{Pair}
 use Rattle.cca_base.specs.declared.events.Reply.TheVariants as reply
 use Rattle.cca_base.specs.Accepted.{CompiledModel}
@@ -11,9 +12,8 @@ use Rattle.cca_base.specs.Orders.{IsFirstMissing}
 use Rattle.cca_base.specs.Plans.{Promising, CanBeServed}
 use Rattle.cca_base.specs.Runs.{is_unreachable}
 use Rattle.cca_base.specs.State.{Extends}
-use Rattle.cca_base.specs.Steps.{Reach}
+use Rattle.cca_base.specs.Steps.{Reach, AreReached}
 use Rattle.cca_base.specs.Choice.{IsChosenReply}
-use Rattle.cca_base.proofs.Members.{all_from, contains_here}
 use Rattle.cca_base.proofs.Within.{mode_within}
 use Rattle.cca_laws.proofs.GoalLaws.{same_split}
 use Rattle.reach_laws.specs.Classes.{AreInside}
@@ -29,7 +29,7 @@ use Rattle.reversibility.specs.ClassParts.{CoversState}
 use Rattle.policy_tables.specs.Tables.{TableParts, IsTables}
 use Rattle.planner_step.specs.declared.answer.Answer.{Answer}
 use Rattle.planner_step.specs.declared.answer.Answer.TheVariants.{Send, Achieved, Unreachable}
-use Rattle.planner_step.specs.Planning.{cells_of, member_of, reply_of, AreReached, IsGoal}
+use Rattle.planner_step.specs.Planning.{cells_of, member_of, reply_of, IsGoal}
 use Rattle.planner_step.specs.Toward.{IsWantedPair}
 use Rattle.planner_step.proofs.Covered.{setting, reach_from, reach_inside}
 use Rattle.reach_laws.proofs.Later.{in_order_few}

@@ -1,11 +1,11 @@
 -- What the cell of a wanted pair leads to.
-use Rattle.std.proofs.Common.{◌≡◌, ◌≢◌, ◌<◌, ℕ, List, length, slice_get, slice_index, Some, All, refl, sym, ap, ◌∙◌, inl, inr}
+use Rattle.std.proofs.Common.{◌≡◌, ◌<◌, ℕ, List, length, slice_get, slice_index, Some, All, refl, sym, ap, ◌∙◌, inl, inr}
 use Rattle.list_laws.proofs.Places.{value_at}
+use Rattle.list_laws.proofs.Members.{all_from}
 use Rattle.cca_base.specs.declared.cube.Pair.{Pair}
 use Rattle.cca_base.specs.Accepted.{CompiledModel}
 use Rattle.cca_base.specs.Orders.{IsFirstMissing}
 use Rattle.cca_base.specs.State.{Extends}
-use Rattle.cca_base.proofs.Members.{all_from}
 use Rattle.reach_laws.specs.declared.cell.Cell.{Cell}
 use Rattle.reach_laws.specs.declared.cell.Cell.TheVariants as cell
 use Rattle.reach_laws.specs.Cells.{cell_at, IsStep, IsCell, Finds}
@@ -24,9 +24,6 @@ module _ (t : TableParts) (is : IsTables t) (s : List ℕ) (cov : CoversState t.
 
   -- the cell of a wanted pair
   module _ (p : Pair) (wanted : IsWantedPair t s p) (mode : ℕ) (at : slice_get s p.item ≡ Some mode) where
-    pub not_there : mode ≢ p.value
-    not_there e = wanted.missing (at ∙ ap (λ v. Some v) e)
-
     module _ (x : Cell) (place : x ≡ cell_at b.model t.cells p.item mode p.value) (right : IsCell b (member_of t) p.item mode p.value x)
         (number command : ℕ) (cube : List Pair) (left : ℕ) (is_step : x ≡ cell.Step number command cube left) where
       the_step : IsStep b (member_of t) p.item mode p.value number command cube left

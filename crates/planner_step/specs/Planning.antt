@@ -1,13 +1,11 @@
 -- What is answered for a goal.
-use Rattle.std.specs.Prelude.{ℕ, List, All}
+use Rattle.std.specs.Prelude.{List, All}
 use Rattle.cca_base.specs.declared.cube.Pair.{Pair}
 use Rattle.cca_base.specs.declared.events.Reply.{Reply}
 use Rattle.cca_base.specs.declared.events.Reply.TheVariants as reply
-use Rattle.cca_base.specs.PlantModel.{PlantModel}
 use Rattle.cca_base.specs.Accepted.{CompiledModel}
 use Rattle.cca_base.specs.Model.{HasMode}
 use Rattle.cca_base.specs.Orders.{AreInOrder}
-use Rattle.cca_base.specs.Steps.{Reach}
 use Rattle.reach_laws.specs.Cells.{Cells, cell_at}
 use Rattle.reach_laws.specs.Classes.{Test}
 use Rattle.reach_laws.specs.Plans.{IsSoundGoal}
@@ -29,10 +27,6 @@ abbrev pub reply_of : Answer → Reply
 reply_of (Send k) = reply.Send k
 reply_of Achieved = reply.Achieved
 reply_of (Unreachable c mode) = reply.Unreachable c mode
-
--- allowed plans reach each of the pairs
-abbrev pub AreReached : PlantModel → List ℕ → List Pair → Type 0
-AreReached m s pairs = All (λ p. Reach m s p.item p.value) pairs
 
 -- a sorted goal of modes that are not broken
 pub record IsGoal (b : CompiledModel) (goal : List Pair) : Type 0 where

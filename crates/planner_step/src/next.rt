@@ -1,12 +1,12 @@
 //! The answer for a goal.
 
 ghost use Rattle.std.specs.Prelude.{◌≡◌, ◌↔◌, ◌+◌, ◌*◌, ◌≤◌, ℕ, List, false, length, Some};
-ghost use Rattle.cca_base.specs.Prelude.{is_unreachable, Extends, IsFirstUnreached, Promising};
+ghost use Rattle.cca_base.specs.Prelude.{is_unreachable, AreReached, Extends, IsFirstUnreached, Promising};
 ghost use Rattle.cca_base.specs.declared.cube.Pair.{Pair};
 ghost use Rattle.reach_laws.specs.Plans.{IsAnswer};
 ghost use Rattle.reversibility.specs.ClassParts.{CoversState};
 ghost use Rattle.planner_step.specs.declared.answer.Answer.TheVariants.{Achieved, Unreachable};
-ghost use Rattle.planner_step.specs.Planning.{cells_of, member_of, reply_of, AreReached, IsGoal};
+ghost use Rattle.planner_step.specs.Planning.{cells_of, member_of, reply_of, IsGoal};
 ghost use Rattle.planner_step.specs.Served.{IsPlanTo};
 
 use crate::answer::Answer;

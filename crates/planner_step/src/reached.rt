@@ -1,10 +1,9 @@
 //! The first pair that no allowed plan reaches.
 
 ghost use Rattle.std.specs.Prelude.{◌<◌, ◌≤◌, ◌+◌, All, MatchOption, length};
-ghost use Rattle.cca_base.specs.Prelude.{IsFirstUnreached};
+ghost use Rattle.cca_base.specs.Prelude.{AreReached, IsFirstUnreached};
 ghost use Rattle.reach_laws.specs.Plans.{IsSoundGoal};
 ghost use Rattle.reversibility.specs.ClassParts.{CoversState};
-ghost use Rattle.planner_step.specs.Planning.{AreReached};
 
 use cca_base::{Pair, State, Steps};
 use policy_tables::Tables;

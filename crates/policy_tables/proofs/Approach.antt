@@ -18,9 +18,6 @@ module _ (m : PlantModel) (w : WellFormed m) (member : Test) (c : ℕ) where
   modes = slice_index (mode_counts m) c
 
   module _ (levels : List (List ℕ)) (of : AreLevelsOf m member c levels) where
-    pub levels_full : (from : ℕ) → HasMode m c from → (k : ℕ) (level : List ℕ) → slice_get levels k ≡ Some level → from < length level
-    levels_full from has_from k level at = let l : IsLevel (OpenMove m member c) modes k level = of.each k level at in omega (arith, has_from, l.full)
-
     -- what is joined is in the last level
     pub no_level : (from to : ℕ) → HasMode m c from → Joined m member c from to → IsNoLevel levels from to → ⊥
     no_level from to has_from joined none =

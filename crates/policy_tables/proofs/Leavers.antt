@@ -11,12 +11,11 @@ use Rattle.cca_base.specs.PlantModel.{PlantModel}
 use Rattle.cca_base.specs.Implicants.{PrimeImplicant}
 use Rattle.cca_base.specs.Model.{WellFormed, IsMove, HasMode, mode_counts}
 use Rattle.cca_base.specs.Relations.{AreExactly}
-use Rattle.reach_laws.specs.Classes.{Test}
+use Rattle.reach_laws.specs.Classes.{Test, OpenMove}
 use Rattle.reach_laws.specs.Cells.{IsShortest, IsStep}
 use Rattle.reach_laws.proofs.Needed.{move_in}
 use Rattle.reversibility.specs.ClassParts.{in_row}
 use Rattle.reversibility.specs.Levels.{IsOpenNumber, AreOpenMoves, AreMovesWithin, IsLevel, IsAmong}
-use Rattle.reach_laws.specs.Classes.{OpenMove}
 use Rattle.reversibility.proofs.Exactly.{exactly_here, exactly_place, exactly_earlier}
 use Rattle.policy_tables.specs.Distances.{NearAt, IsFirstPlace, LeadsNear, IsFirstNear}
 use Rattle.policy_tables.specs.Leaving.{LeavesMode, IsLeaving, AreLeaving, IsOpenAt, IsCubeOf, AreCubesTo}

@@ -2,7 +2,7 @@
 use Rattle.prime_implicants.specs.Partial.{IsWithin, HasFrom, IsTotal}
 use Rattle.prime_implicants.specs.DenseClauses.{fits, row_unfalsified, all_unfalsified, mentions}
 use Rattle.clause_form.specs.Clauses.{any_below}
-use Rattle.clause_form.proofs.SomeValue.{none_below}
+use Rattle.clause_form.proofs.SomeValue.{none_below, some_below}
 use Rattle.prime_implicants.specs.Found.{CoversAt, Covers, IsBlockedByRows}
 use Rattle.std.proofs.Common.{◌≡◌, ℕ, zero, suc, ◌<◌, ◌≤◌, Bool, true, false, not, cond, ◌&&◌, ◌||◌, eqb, List, [], ◌∷◌, length, Option, Some, None, refl, sym, ◌∙◌, ap, subst, arith, set, get_or, ◌⊎◌, inl, inr}
 use Rattle.std.specs.List.{filter}
@@ -10,10 +10,8 @@ use Rattle.std.proofs.lemmas.Bool.{and_parts, eqb-true, not-false}
 use Rattle.list_laws.proofs.Passing.{all_pass_too}
 use Rattle.cca_base.specs.Sets.{has}
 use Rattle.cca_base.proofs.SetLaws.{has-empty}
-use Rattle.prime_implicants.proofs.DenseClauseLaws.{list_all-filter, either_so}
-use Rattle.prime_implicants.proofs.DenseClauseLaws.{length-within}
+use Rattle.prime_implicants.proofs.DenseClauseLaws.{list_all-filter, either_so, length-within}
 use Rattle.prime_implicants.proofs.PartialValueLaws.{within-set}
-use Rattle.clause_form.proofs.SomeValue.{some_below}
 
 -- ---- the cases of a subject's value
 

@@ -2,11 +2,10 @@
 use Rattle.prime_implicants.specs.Partial.{IsWithin}
 use Rattle.prime_implicants.specs.DenseClauses.{fits, row_unfalsified, all_unfalsified, is_zero}
 use Rattle.prime_implicants.specs.Found.{AreComplete, CoversAt, Covers, all_below, is_needed, IsFoundable, AgreesTo, IsChoice, IsChoiceFrom, IsPrimeByRows, Key, key_of}
-use Rattle.std.proofs.Common.{◌≡◌, ℕ, zero, suc, ◌+◌, ◌<◌, ◌≤◌, ◌≢◌, Bool, true, false, ◌&&◌, ◌||◌, eqb, List, [], ◌∷◌, length, Option, Some, None, refl, sym, ◌∙◌, ap, subst, arith, set, get_or, ◌⊎◌, inl, inr}
+use Rattle.std.proofs.Common.{◌≡◌, ℕ, zero, suc, ◌+◌, ◌<◌, ◌≤◌, ◌≢◌, Bool, true, false, ◌&&◌, ◌||◌, eqb, List, [], ◌∷◌, length, Option, Some, None, refl, sym, ◌∙◌, ap, subst, arith, set, get_or, ◌⊎◌, inl, inr, get_or-set_other, get_or-set_same, replicate}
 use Rattle.std.specs.List.{list_all}
 use Rattle.std.specs.Option.{is_none}
 use Rattle.std.specs.Prelude.{MatchOption}
-use Rattle.std.proofs.Common.{get_or-set_other, get_or-set_same}
 use Rattle.prime_implicants.proofs.DenseClauseLaws.{length-within}
 use Rattle.cca_base.specs.Sets.{has}
 use Rattle.prime_implicants.proofs.PartialValueLaws.{within_nothing}
@@ -14,7 +13,6 @@ use Rattle.prime_implicants.proofs.Completeness.{all_unfalsified_wider, false_if
 use Rattle.std.proofs.lemmas.List.Folds.{list_all_at}
 use Rattle.std.proofs.lemmas.Bool.{cases_Bool, not-false, or_parts, and_parts, eqb-true}
 use Rattle.std.proofs.lemmas.List.{ext_get_or}
-use Rattle.std.proofs.Common.{replicate}
 
 pub passes_below : (n : ℕ) (t : ℕ → Bool) (i : ℕ) → i < n → all_below n t ≡ true → t i ≡ true
 passes_below zero t i h e = absurd (omega arith)

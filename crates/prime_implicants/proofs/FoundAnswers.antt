@@ -7,8 +7,8 @@ use Rattle.cca_base.specs.declared.limits.TheConstants.{MAX_ROWS, MAX_CHOICES}
 use Rattle.std.proofs.lemmas.Bool.{and_parts, eqb-true, cases_lt}
 use Rattle.list_laws.proofs.Places.{place_inside}
 use Rattle.list_laws.proofs.Elements.{contains_map}
+use Rattle.list_laws.proofs.Members.{all_from, contains_cases, contains_here, contains_there, contains_none}
 use Rattle.cca_base.specs.declared.cube.Pair.{Pair}
-use Rattle.cca_base.proofs.Members.{all_from, contains_cases, contains_here, contains_there, contains_none}
 use Rattle.clause_form.specs.declared.clause.Clauses.{Clauses}
 use Rattle.prime_implicants.specs.DenseClauses.{all_unfalsified, row_unfalsified, is_zero}
 use Rattle.prime_implicants.proofs.DenseClauseLaws.{list_all_get}

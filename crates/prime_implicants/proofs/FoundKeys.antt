@@ -11,9 +11,9 @@ use Rattle.std.proofs.lemmas.List.Kept.{AllPairs-cons}
 use Rattle.std.proofs.lemmas.List.Elements.{All-cons}
 use Rattle.std.proofs.lemmas.Bool.{and_parts, eqb-true, ltb-true, not-true}
 use Rattle.list_laws.proofs.Passing.{some_passes, passes_some, each_passes}
+use Rattle.list_laws.proofs.Members.{all_from, contains_here, contains_there}
 use Rattle.cca_base.specs.declared.cube.Pair.{Pair}
 use Rattle.cca_base.specs.Cube.{IsBeforeCube, AreInCubeOrder, cube_cmp, pair_cmp}
-use Rattle.cca_base.proofs.Members.{all_from, contains_here, contains_there}
 use Rattle.prime_implicants.specs.Partial.{IsWithin}
 use Rattle.prime_implicants.specs.DenseClauses.{all_unfalsified}
 use Rattle.prime_implicants.proofs.DenseClauseLaws.{length-within}

@@ -4,9 +4,9 @@ use Rattle.std.specs.List.{list_any}
 use Rattle.std.proofs.lemmas.Bool.{eq-eqb, eqb-true, or_cases, or_left, or_right}
 use Rattle.std.proofs.lemmas.List.Elements.{All-contains}
 use Rattle.std.proofs.lemmas.List.Kept.{AllPairs-filter}
+use Rattle.list_laws.proofs.Members.{all_from, contains_cases, contains_here, contains_there, contains_none, from_filter, to_filter}
 use Rattle.cca_base.specs.declared.cube.Pair.{Pair}
 use Rattle.cca_base.specs.Cube.{IsPart, IsRising}
-use Rattle.cca_base.proofs.Members.{all_from, contains_cases, contains_here, contains_there, contains_none, from_filter, to_filter}
 use Rattle.prime_implicants.proofs.PartialPairs.{one_of_each}
 
 -- whether a pair is of this component

@@ -1,5 +1,6 @@
 -- Values for all subjects, as lists of numbers and as partial values.
 use Rattle.std.proofs.Common.{◌≡◌, ℕ, zero, suc, ◌+◌, ◌<◌, Bool, true, false, ◌||◌, List, [], ◌∷◌, ◌++◌, length, Option, Some, None, refl, ◌∙◌, ap, arith, bit_or, set, get_or, take, replicate, add-one}
+use Rattle.list_laws.proofs.TestedLists.{or_swap}
 use Rattle.cca_base.specs.Sets.{has}
 use Rattle.cca_base.proofs.SetLaws.{has-or}
 use Rattle.clause_form.specs.Clauses.{AreValues}
@@ -23,18 +24,11 @@ pub shifted : (a b c d : Bool) → b ≡ (c || d) → (a || b) ≡ ((a || c) || 
 shifted true b c d e = refl
 shifted false b c d e = e
 
-turned : (f r d : Bool) → ((f || d) || r) ≡ ((f || r) || d)
-turned true r d = refl
-turned false true true = refl
-turned false true false = refl
-turned false false true = refl
-turned false false false = refl
-
 pub row_unfalsified-widened : (xs row : List ℕ) (i s : ℕ) → length xs ≡ length row → i < length row
     → row_unfalsified (given xs) (set row i (bit_or (get_or row i 0) s)) ≡ (row_unfalsified (given xs) row || has s (get_or xs i 0))
 row_unfalsified-widened xs [] i s e h = absurd (omega arith)
 row_unfalsified-widened [] (t ∷ row) i s e h = absurd (omega arith)
-row_unfalsified-widened (x ∷ xs) (t ∷ row) zero s e h = ap (λ b. b || row_unfalsified (given xs) row) (has-or t s x) ∙ turned (has t x) (row_unfalsified (given xs) row) (has s x)
+row_unfalsified-widened (x ∷ xs) (t ∷ row) zero s e h = ap (λ b. b || row_unfalsified (given xs) row) (has-or t s x) ∙ or_swap (has t x) (has s x) (row_unfalsified (given xs) row)
 row_unfalsified-widened (x ∷ xs) (t ∷ row) (suc i) s e h =
     let l : length xs ≡ length row = omega arith in
     let k : i < length row = omega arith in

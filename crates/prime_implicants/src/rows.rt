@@ -9,7 +9,6 @@ ghost use Rattle.prime_implicants.specs.DenseClauses.{AreDense, row_unfalsified,
 
 use crate::dense_clause::{DenseClause, never};
 use crate::dense_clauses::add_all;
-use cca_base::{List, ValueSet};
 use clause_form::{Clause, Clauses, Literal};
 use std::alloc::{AllocError, Global};
 

@@ -21,7 +21,7 @@ use Rattle.model_form.specs.Limits.{line_code}
 use Rattle.model_form.specs.ModelTexts.{ModelText, WholeModel, RefusedModel}
 use Rattle.trace_laws.proofs.EventsJoin.{trace_is_made}
 use Rattle.trace_laws.proofs.PromisesKept.{promising_traces_keep, promising_traces_hold}
-use Rattle.trace_laws.proofs.WeakerReplies.{chosen_ticks_are_good}
+use Rattle.cca_laws.proofs.WeakerReplies.{chosen_ticks_are_good}
 use Rattle.program_form.specs.Headline.{IsFixedRun, IsRunOf, SaysTraced}
 use Rattle.program_form.specs.Printed.{RunsTo, SaysRun, reports_of}
 use Rattle.program_form.specs.ProgramMeaning.{ProgramsAreTraced}

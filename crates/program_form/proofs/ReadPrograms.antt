@@ -2,7 +2,7 @@
 use Rattle.std.proofs.Common.{◌≡◌, ◌+◌, false, [], List, ℕ, Option, Some, None, Result, Ok, Err, sym, ap, subst, ◌∙◌, arith}
 use Rattle.std.specs.Prelude.{IfOk, IfSome}
 use Rattle.cca_base.specs.PlantModel.{PlantModel}
-use Rattle.cca_base.specs.Refusals.{bare, stop_code}
+use Rattle.cca_base.specs.Refusals.{bare, stop_code, Answers}
 use Rattle.cca_base.specs.declared.events.Stop.{Stop}
 use Rattle.cca_base.specs.declared.events.Stop.TheVariants as stops
 use Rattle.control_laws.specs.Turns.{Control}
@@ -11,7 +11,6 @@ use Rattle.line_machine.specs.Next.{GoesOn, next_of}
 use Rattle.line_machine.specs.declared.machine.End.{End}
 use Rattle.line_machine.specs.declared.machine.End.TheVariants.{Refused}
 use Rattle.line_machine.specs.declared.machine.Said.{Said}
-use Rattle.script_reader.specs.SaidLines.{Answers}
 use Rattle.trace_text.specs.Json.{refusal_text}
 use Rattle.program_form.specs.ProgramMachine.{IsProperStage, ProgramAwaits, ProgramState, ProgramSteps, Reads, Runs, Stage, StepsIn, stage_by}
 use Rattle.program_form.specs.Stages.{ReadsTo, RunsWell, begun}

@@ -2,12 +2,12 @@
 use Rattle.std.proofs.Common.{◌≡◌, ℕ, Bool, true, false, not, ◌&&◌, is_some, is_none, List, [], ◌∷◌, Option, Some, None, Result, Ok, Err, All, Contains, refl, sym, ap, subst, ◌∙◌, arith}
 use Rattle.std.specs.Prelude.{◌↔◌, IfOk, IsNone, IsTrue}
 use Rattle.std.proofs.lemmas.List.Elements.{All-contains}
+use Rattle.list_laws.proofs.Members.{all_from}
 use Rattle.cca_base.specs.declared.cube.Pair.{Pair}
 use Rattle.cca_base.specs.Cube.{IsCube}
 use Rattle.cca_base.specs.Model.{HasMode, IsFormula, is_broken}
 use Rattle.cca_base.specs.PlantModel.{PlantModel}
 use Rattle.cca_base.specs.Trace.{MayCome}
-use Rattle.cca_base.proofs.Members.{all_from}
 use Rattle.control_laws.specs.Asked.{pairs_left, pairs_of_left}
 use Rattle.control_laws.specs.Rest.{Rest, whole}
 use Rattle.control_laws.specs.Turns.{Control, TurnsBy, fresh}

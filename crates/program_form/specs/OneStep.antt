@@ -57,7 +57,7 @@ pub record AreSame (y z : ExecutiveState) (next then_ : Control) (own other : Op
   pub left : next ≡ then_
   pub told : own ≡ other
 
-pub event_once : (b : CompiledModel) (compiled : IsCompiled b) (x : ExecutiveState) (c : Control) (e : Event) (y z : ExecutiveState) (next then_ : Control) (own other : Option Told)
+event_once : (b : CompiledModel) (compiled : IsCompiled b) (x : ExecutiveState) (c : Control) (e : Event) (y z : ExecutiveState) (next then_ : Control) (own other : Option Told)
     → MakesEvent b x c e y next own → MakesEvent b x c e z then_ other → AreSame y z next then_ own other
 event_once b compiled x c e y z next then_ own other h k =
     let first = puts_once b.model e (sequencer x c) h.put k.put next then_ h.puts k.puts in

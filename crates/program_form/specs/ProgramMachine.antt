@@ -52,11 +52,11 @@ abbrev pub stage_by : Option Part → Reading → Stage
 stage_by None y = Reads y
 stage_by (Some part) y = Runs (fresh (whole part))
 
--- the same state, with the program read so far
+-- a state behind a line of its program, with what is read of it so far
 abbrev pub behind_line : ProgramState → Reading → ProgramState
 behind_line x y = record { compiled = x.compiled; state = x.state; stage = stage_by y.whole y }
 
--- the same model, with its executive and what is left of its program
+-- a program that runs: its model, its executive and what is left of it
 abbrev pub running : CompiledModel → ExecutiveState → Control → ProgramState
 running b y next = record { compiled = b; state = y; stage = Runs next }
 

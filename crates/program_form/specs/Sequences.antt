@@ -35,7 +35,7 @@ abbrev pub line_says : PlantModel → List Pair → ℕ → ℕ → List ℕ →
 line_says m pending mirrored n l = unless_long (line_code n l) (event_line m pending mirrored l)
 
 module _ (m : PlantModel) (part : Part) where
-  -- no event, and the lines end so
+  -- what lines say that have no event more, and how they end
   abbrev pub ended : LinesEnd → Sequence
   ended ending = record { program = Some part; events = []; ending = ending }
 

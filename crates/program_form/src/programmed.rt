@@ -1,7 +1,7 @@
 //! The lines behind an accepted model: a control program, and the events behind it.
 
 ghost use Rattle.std.specs.Prelude.{◌≡◌, ◌+◌, ◌<◌, ◌≤◌, ◌^◌, None, Option, Some, IfOk, IfSome};
-ghost use Rattle.cca_base.specs.Prelude.{IsCompiled};
+ghost use Rattle.cca_base.specs.Prelude.{Answers, IsCompiled};
 ghost use Rattle.cca_base.specs.declared.events.Event.{Event};
 ghost use Rattle.formula_syntax.specs.Lookups.{NamesFit};
 ghost use Rattle.line_machine.specs.Next.{next_of};
@@ -9,7 +9,6 @@ ghost use Rattle.line_machine.specs.declared.machine.TheConstants.{MAX_LINES};
 ghost use Rattle.model_form.specs.FormStates.{form_first};
 ghost use Rattle.control_syntax.specs.Kept.{MayRunSoFar};
 ghost use Rattle.script_reader.specs.EventLines.{AnswersAs, AnswersWhatMayCome};
-ghost use Rattle.script_reader.specs.SaidLines.{Answers};
 ghost use Rattle.program_form.specs.ProgramMachine.{MakesBy, ProgramAwaits, ProgramSteps, running};
 ghost use Rattle.program_form.specs.Sequences.{event_line};
 ghost use Rattle.program_form.specs.Stages.{ReadsTo, RunsWell, begun};

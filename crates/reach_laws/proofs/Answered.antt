@@ -3,6 +3,7 @@ use Rattle.std.proofs.Common.{◌≡◌, ◌<◌, ◌⊎◌, ℕ, true, false, z
 use Rattle.std.proofs.lemmas.Bool.{cases_Bool, both_ways}
 use Rattle.std.proofs.lemmas.List.Elements.{All-contains, Contains-append_right}
 use Rattle.list_laws.proofs.Places.{value_at}
+use Rattle.list_laws.proofs.Members.{all_from, contains_here}
 use Rattle.cca_base.specs.declared.cube.Pair.{Pair}
 use Rattle.cca_base.specs.declared.events.Reply.{Reply}
 use Rattle.cca_base.specs.declared.events.Reply.TheVariants.{Idle, Send, Achieved, Unreachable}
@@ -16,7 +17,6 @@ use Rattle.cca_base.specs.State.{IsState, Extends}
 use Rattle.cca_base.specs.Steps.{Step, AllowedPlan, Reach}
 use Rattle.cca_base.specs.Choice.{PicksForGoal, IsChosenReply}
 use Rattle.cca_base.specs.Plans.{Whole, IsWanted, IsBackGoal}
-use Rattle.cca_base.proofs.Members.{all_from, contains_here}
 use Rattle.cca_base.proofs.Replies.{same_send, achieved_send, unreachable_send}
 use Rattle.reach_laws.specs.declared.cell.Cell.TheVariants as cell
 use Rattle.reach_laws.specs.Classes.{Test, AreInside, OpenRepairs, IsHome, IsOnWay, Covers}
@@ -30,6 +30,7 @@ use Rattle.reach_laws.proofs.Sound.{Inner, HasNone, inner_covers, find_home, all
 use Rattle.reach_laws.proofs.Cells.{missing_among, found_picks}
 use Rattle.reach_laws.proofs.Serial.{Done, Led, led_inner, led_end, whole_led}
 use Rattle.cca_laws.proofs.GoalLaws.{one_first_missing, Held}
+use Rattle.cca_laws.proofs.PlanLaws.{whole_stands}
 use Rattle.reach_laws.proofs.Needed.{Landed, landed, landed_inner, picks_are_needed}
 
 -- ---- one command at most is found
@@ -168,15 +169,11 @@ whole_inner b base member goal inside s (k ∷ ks) last g whole =
           ∙ step_other b.model s next k step d (λ e. none h.to (subst (λ c. member c h.to ≡ true) (sym e) made.1));
     }
 
-whole_stands : (b : CompiledModel) (goal : List Pair) (s ks last : List ℕ) → Whole b goal s ks last → Extends last goal
-whole_stands b goal s [] last whole = subst (λ x. Extends x goal) (sym whole.1) whole.0
-whole_stands b goal s (k ∷ ks) last whole = whole_stands b goal whole.2 ks last whole.4
-
 pub whole_is_allowed : WholeIsAllowed
 whole_is_allowed b base member s g goal ks last inside whole =
     let made : WholeInner b base member s ks last = whole_inner b base member goal inside s ks last g whole in (
       allowed_plan b.model b.order base member s g s last ks made.run,
-      whole_stands b goal s ks last whole,
+      whole_stands b goal ks s last whole,
       record { well_formed = g.well_formed; ordered = g.ordered; grounded = g.grounded; classes = g.classes; state = made.state; covers = made.covers },
     )
 
@@ -230,7 +227,7 @@ module _ (b : CompiledModel) (base : List ℕ) (member : Test) (from s : List �
   back_mends ks last whole =
       let g_from : Setting b.model b.order base member from = record { well_formed = g.well_formed; ordered = g.ordered; grounded = g.grounded; classes = g.classes; state = state; covers = covers } in
       let made : WholeInner b base member from ks last = whole_inner b base member goal back_inside from ks last g_from whole in
-      let stands : Extends last goal = whole_stands b goal from ks last whole in
+      let stands : Extends last goal = whole_stands b goal ks from last whole in
       record {
         full = made.state.full ∙ sym g.state.full;
         each = λ c lt.

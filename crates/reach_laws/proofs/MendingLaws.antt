@@ -4,6 +4,7 @@ use Rattle.std.proofs.lemmas.Bool.{cases_eq, not-true}
 use Rattle.std.proofs.lemmas.List.Elements.{All-contains}
 use Rattle.std.proofs.lemmas.Option.{slice_get_within}
 use Rattle.list_laws.proofs.Places.{value_at, get_at}
+use Rattle.list_laws.proofs.Members.{all_from, contains_cases, contains_here, contains_there, to_filter, from_filter}
 use Rattle.cca_base.specs.declared.cube.Pair.{Pair}
 use Rattle.cca_base.specs.declared.model.Move.{Move}
 use Rattle.cca_base.specs.PlantModel.{PlantModel}
@@ -12,14 +13,11 @@ use Rattle.cca_base.specs.Implicants.{source_pair}
 use Rattle.cca_base.specs.State.{Follows}
 use Rattle.cca_base.specs.Repairs.{pairs_of, sound_pairs, Mending}
 use Rattle.cca_base.specs.Steps.{support, Step}
-use Rattle.cca_base.proofs.Members.{all_from, contains_cases, contains_here, contains_there, to_filter, from_filter, in_pairs, stands_in}
+use Rattle.cca_base.proofs.Members.{in_pairs, stands_in}
 use Rattle.cca_base.proofs.NextModes.{repair_of, chain_one, chain_join, sound_chain}
 use Rattle.reach_laws.proofs.Facts.{step_source, step_target, step_other, step_length}
 
 module _ (m : PlantModel) where
-  pub mending_same : (s : List ℕ) → Mending m s s
-  mending_same s = record { full = refl; each = λ c within. (0, refl) }
-
   pub mending_join : (s u w : List ℕ) → Mending m s u → Mending m u w → Mending m s w
   mending_join s u w h g = record {
     full = g.full ∙ h.full;

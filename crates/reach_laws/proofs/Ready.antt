@@ -5,6 +5,7 @@ use Rattle.std.proofs.lemmas.List.Elements.{All-contains}
 use Rattle.std.proofs.lemmas.Option.{slice_get_within, same_Some}
 use Rattle.std.proofs.lemmas.List.Kept.{AllPairs-filter}
 use Rattle.list_laws.proofs.Places.{value_at}
+use Rattle.list_laws.proofs.Members.{all_from, contains_cases, contains_here, contains_there, to_filter, from_filter}
 use Rattle.cca_base.specs.declared.cube.Pair.{Pair}
 use Rattle.cca_base.specs.PlantModel.{PlantModel}
 use Rattle.cca_base.specs.Model.{HasMode, is_broken}
@@ -12,7 +13,7 @@ use Rattle.cca_base.specs.Implicants.{source_pair}
 use Rattle.cca_base.specs.Repairs.{pairs_of, sound_pairs}
 use Rattle.cca_base.specs.Steps.{support}
 use Rattle.reach_laws.specs.Laws.{EachStepIsReady}
-use Rattle.cca_base.proofs.Members.{all_from, contains_cases, contains_here, contains_there, to_filter, from_filter, stands_in}
+use Rattle.cca_base.proofs.Members.{stands_in}
 use Rattle.cca_laws.proofs.Minimal.{Candidate, minimal_part, pairs_rise}
 
 -- the pairs of a state that a step of c may lean on, but for those of c

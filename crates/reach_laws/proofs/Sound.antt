@@ -4,6 +4,7 @@ use Rattle.std.proofs.lemmas.Bool.{cases_eq, cases_Bool, both_ways, cond-true, c
 use Rattle.std.proofs.lemmas.List.Elements.{All-contains}
 use Rattle.std.proofs.lemmas.Option.{slice_get_within, same_Some, none-some}
 use Rattle.list_laws.proofs.Places.{value_at, get_at}
+use Rattle.list_laws.proofs.Members.{all_from, contains_cases, contains_here, contains_there, contains_none}
 use Rattle.cca_base.specs.declared.cube.Pair.{Pair}
 use Rattle.cca_base.specs.PlantModel.{PlantModel}
 use Rattle.cca_base.specs.Cube.{IsRising}
@@ -13,7 +14,6 @@ use Rattle.cca_base.specs.State.{IsState}
 use Rattle.cca_base.specs.Repairs.{Mending}
 use Rattle.cca_base.specs.Steps.{Step, Run, Allowed, AllowedPlan, Reach}
 use Rattle.cca_base.specs.Relations.{numbers_below}
-use Rattle.cca_base.proofs.Members.{all_from, contains_cases, contains_here, contains_there, contains_none}
 use Rattle.cca_base.proofs.PathLaws.{below_contains}
 use Rattle.reach_laws.specs.Classes.{Test, IsOpen, OpenMove, OpenWalk, Joined, OpenRepairs, IsHome, InClass, AreClasses, IsOnWay, Stands, Covers}
 use Rattle.reach_laws.specs.Laws.{Setting, Ready, ClassIsReach, OneClasses, Returns, ReturnsInside, RepairsLeadIn, StaysCovered}
@@ -364,7 +364,7 @@ module _ (m : PlantModel) (base : List ℕ) (member : Test) (rules : RepairRules
     -- ---- what steps are inner
 
     -- a step from a covered state is an open move
-    pub step_open : (s t : List ℕ) (k : ℕ) → IsState m s → Covers m base member s → (step : Step m s k t) → IsOpen m member step.move
+    step_open : (s t : List ℕ) (k : ℕ) → IsState m s → Covers m base member s → (step : Step m s k t) → IsOpen m member step.move
     step_open s t k state covers step =
         let r : Ready m s step.move = steps_are_ready m s t k state step in
         record {
@@ -419,7 +419,7 @@ module _ (m : PlantModel) (base : List ℕ) (member : Test) (rules : RepairRules
     inner_from s t k state covers step into =
         record { step = step; open_move = step_open s t k state covers step; into = into; state = state; covers = covers }
 
-    pub allowed_inner : (s t : List ℕ) (k : ℕ) → IsState m s → Covers m base member s → Allowed m s k t → InnerStep m base member s k t
+    allowed_inner : (s t : List ℕ) (k : ℕ) → IsState m s → Covers m base member s → Allowed m s k t → InnerStep m base member s k t
     allowed_inner s t k state covers a = inner_from s t k state covers a.step (elim (cases_Bool a.step.move.repair) [
       | inl repair ↦ repair_into s t k state covers a.step repair
       | inr plain ↦ inl (elim a.back [

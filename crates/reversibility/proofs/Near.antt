@@ -1,23 +1,13 @@
 -- Levels of nearness grow edge by edge.
 use Rattle.std.proofs.Common.{◌≡◌, ◌≢◌, ◌<◌, ◌≤◌, ◌+◌, ◌⊎◌, ◌||◌, ◌↔◌, ℕ, true, zero, suc, List, [], ◌∷◌, ◌++◌, length, slice_get, slice_index, slice_set, Some, refl, sym, ap, subst, ◌∙◌, inl, inr, arith, get_or-set_same, get_or-set_other, length-set}
 use Rattle.std.proofs.lemmas.Bool.{cases_eq, cases_lt, or_cases, or_left, or_right}
-use Rattle.std.proofs.lemmas.Option.{slice_get_within, get_or_from_slice_get, same_Some, none-some}
+use Rattle.std.proofs.lemmas.Option.{slice_get_within, get_or_from_slice_get, same_Some}
+use Rattle.cca_base.proofs.Growth.{slice_get_cases}
 use Rattle.cca_base.specs.declared.model.Move.{Move}
 use Rattle.cca_base.specs.PlantModel.{PlantModel}
 use Rattle.cca_base.specs.Sets.{has}
 use Rattle.reversibility.specs.ClassParts.{in_row}
 use Rattle.reversibility.specs.Levels.{Edges, AreMovesWithin, MoveLeads, EdgeWalk, IsNear, IsLevel, AreLevels, IsExpanded}
-
--- ---- lists that grow
-
-push_get : {X : Type 0} (xs : List X) (y z : X) (k : ℕ) → slice_get (xs ++ y ∷ []) k ≡ Some z → (slice_get xs k ≡ Some z) ⊎ ((k ≡ length xs) × (y ≡ z))
-push_get [] y z zero h = inr (refl, same_Some y z h)
-push_get [] y z (suc k) h = absurd (none-some z h)
-push_get (x ∷ xs) y z zero h = inl h
-push_get (x ∷ xs) y z (suc k) h = elim (push_get xs y z k h) [
-  | inl there ↦ inl there
-  | inr last ↦ inr (ap suc last.0, last.1)
-]
 
 -- ---- one move more
 
@@ -127,7 +117,7 @@ module _ (edge : Edges) (n : ℕ) (stay : (a x : ℕ) → edge a x → x < n) wh
 
   pub levels_more : (levels : List (List ℕ)) (k : ℕ) (level next : List ℕ) → AreLevels edge n levels → length levels ≡ k + 1 → slice_get levels k ≡ Some level → IsExpanded edge level next
       → AreLevels edge n (levels ++ next ∷ [])
-  levels_more levels k level next h full at made j other at_j = elim (push_get levels next other j at_j) [
+  levels_more levels k level next h full at made j other at_j = elim (slice_get_cases levels next j other at_j) [
     | inl there ↦ h j other there
     | inr last ↦
         let here : k + 1 ≡ j = omega (arith, last.0, full) in

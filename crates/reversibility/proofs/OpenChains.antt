@@ -42,9 +42,6 @@ module _ (m : PlantModel) (w : WellFormed m) (member : Test) (c from : ℕ) wher
   pub short : (at n : ℕ) → OpenRepairs m member c from at n → n < MAX_CHOICES
   short at n p = chain_short m w c from at n (repairs_from m member rules c from at n p)
 
-  pub none_before : (chain : ℕ) → ((x : ℕ) → has chain x ≡ false) → (x : ℕ) → (has chain x ≡ true) ↔ Before 0 x
-  none_before chain none x = ((λ h. absurd (both_ways (has chain x) (none x) h)), (λ h. absurd (omega (arith, h.1.1))))
-
   -- the walk stands where no repair leaves
   pub ends_sound : (at n chain : ℕ) → OpenRepairs m member c from at n → ((x : ℕ) → (has chain x ≡ true) ↔ Before n x) → is_broken m.moves c at ≡ false
       → IsOpenChain m member c from chain

@@ -4,6 +4,7 @@ use Rattle.std.proofs.lemmas.Bool.{cases_lt}
 use Rattle.std.proofs.lemmas.Option.{slice_get_within, slice_get-get_or, same_Some}
 use Rattle.std.proofs.lemmas.List.{get_or_default}
 use Rattle.std.proofs.lemmas.List.Elements.{All-contains, Contains-get_or}
+use Rattle.list_laws.proofs.Members.{all_from}
 use Rattle.cca_base.specs.declared.cube.Pair.{Pair}
 use Rattle.cca_base.specs.declared.model.Move.{Move}
 use Rattle.cca_base.specs.PlantModel.{PlantModel}
@@ -12,7 +13,6 @@ use Rattle.cca_base.specs.Implicants.{PrimeImplicant}
 use Rattle.cca_base.specs.MoveIndex.{IsMoveOf}
 use Rattle.cca_base.specs.Relations.{AreExactly}
 use Rattle.cca_base.specs.Model.{WellFormed, IsMove, HasMode, mode_counts}
-use Rattle.cca_base.proofs.Members.{all_from}
 use Rattle.cca_base.proofs.Within.{mode_within}
 use Rattle.reach_laws.specs.Classes.{Test, IsOpen, OpenMove}
 use Rattle.reach_laws.proofs.Needed.{move_in}

@@ -60,7 +60,7 @@ module _ (p : ClassParts) (is : IsClasses p) where
       record { state = later.state; covers = later.covers }
 
   -- where a component stands
-  pub stands_at : (c x : ℕ) → c < length p.compiled.model.components → Stands p.compiled.model p.base (in_row p.rows) c x ↔ StandsAt p c x
+  stands_at : (c x : ℕ) → c < length p.compiled.model.components → Stands p.compiled.model p.base (in_row p.rows) c x ↔ StandsAt p c x
   stands_at c x within = (
     (λ stands. elim stands [ inl inside ↦ inl inside | inr on ↦ inr ((is.chains c x within).1 on) ]),
     (λ at. elim at [ inl inside ↦ inl inside | inr on ↦ inr ((is.chains c x within).0 on) ]),

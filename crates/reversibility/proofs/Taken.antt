@@ -5,6 +5,7 @@ use Rattle.std.proofs.lemmas.Bool.{cases_eq, cases_lt, both_ways}
 use Rattle.std.proofs.lemmas.Option.{slice_get_within, get_or_from_slice_get}
 use Rattle.std.proofs.lemmas.List.{get_or_past}
 use Rattle.std.proofs.lemmas.List.Elements.{All-contains}
+use Rattle.list_laws.proofs.Members.{all_from}
 use Rattle.cca_base.specs.PlantModel.{PlantModel}
 use Rattle.cca_base.specs.Accepted.{CompiledModel, IsCompiled}
 use Rattle.cca_base.specs.Flags.{is_set}
@@ -12,7 +13,6 @@ use Rattle.cca_base.specs.Implicants.{Needs}
 use Rattle.cca_base.specs.Model.{is_broken}
 use Rattle.cca_base.specs.Sets.{has}
 use Rattle.cca_base.specs.State.{IsState}
-use Rattle.cca_base.proofs.Members.{all_from}
 use Rattle.cca_base.proofs.SetLaws.{has-empty}
 use Rattle.reach_laws.specs.Classes.{Test, OpenMove, OpenWalk, Joined, OpenRepairs, IsHome, InClass}
 use Rattle.reach_laws.proofs.Order.{Among, AreEffectsFirst, IsOrder, order_from, repair_rules}

@@ -16,7 +16,7 @@ use Rattle.trace_laws.specs.Events.{Makes, mirrored_after}
 use Rattle.trace_laws.proofs.EventsJoin.{trace_is_made, event_first}
 use Rattle.trace_laws.proofs.PendingKnown.{one_pending, known_after}
 use Rattle.trace_laws.proofs.PromisesKept.{promising_traces_keep}
-use Rattle.trace_laws.proofs.WeakerReplies.{chosen_ticks_are_good}
+use Rattle.cca_laws.proofs.WeakerReplies.{chosen_ticks_are_good}
 use Rattle.model_form.specs.Acceptance.{Acceptance, AcceptedAs, RefusedFor, IsAcceptanceOf}
 use Rattle.model_form.specs.Answers.{Answer, refused_answer, AnswersByAcceptance, AnswersByEnd}
 use Rattle.model_form.specs.Limits.{line_code, unless_long}

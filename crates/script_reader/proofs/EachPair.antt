@@ -1,7 +1,7 @@
 -- What pairs of names stand for, one by one.
 use Rattle.std.proofs.Common.{◌≡◌, ℕ, suc, List, [], ◌∷◌, length, Option, Some, None, Contains, inl, inr, refl, sym, ap, subst, ◌∙◌}
 use Rattle.std.proofs.lemmas.Option.{same_Some}
-use Rattle.cca_base.proofs.Members.{contains_cases, contains_here, contains_there, contains_none}
+use Rattle.list_laws.proofs.Members.{contains_cases, contains_here, contains_there, contains_none}
 use Rattle.cca_base.specs.declared.cube.Pair.{Pair}
 use Rattle.text_base.specs.Chain.{◌>>=◌}
 use Rattle.text_base.specs.Pairs.{NamedPair}

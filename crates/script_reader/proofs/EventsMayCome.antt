@@ -9,7 +9,7 @@ use Rattle.std.proofs.lemmas.List.Kept.{AllPairs-cons}
 use Rattle.std.proofs.lemmas.Option.{same_Some}
 use Rattle.list_laws.proofs.Tests.{same_ok}
 use Rattle.list_laws.proofs.Passing.{none_passes}
-use Rattle.cca_base.proofs.Members.{all_from}
+use Rattle.list_laws.proofs.Members.{all_from}
 use Rattle.cca_base.specs.declared.codes.TheConstants.{NOT_SENSED, BROKEN_GOAL, REPEATED_PAIR, MIRRORED}
 use Rattle.cca_base.specs.declared.cube.Pair.{Pair}
 use Rattle.cca_base.specs.declared.events.Event.{Event}

@@ -2,13 +2,14 @@
 use Rattle.std.proofs.Common.{◌≡◌, ℕ, List, [], ◌∷◌, map, Option, Some, None, Result, Ok, Err, inl, inr, refl, sym, ap, subst, ◌∙◌, arith}
 use Rattle.std.proofs.lemmas.Bool.{cases_order}
 use Rattle.list_laws.proofs.Tests.{same_ok}
+use Rattle.text_base.proofs.LexemesOfTokens.{lexemes_of}
 use Rattle.cca_base.specs.declared.events.Stop.{Stop}
 use Rattle.cca_base.specs.declared.events.Stop.TheVariants as stops
+use Rattle.cca_base.specs.Refusals.{Answers}
 use Rattle.text_base.specs.Lexemes.{Lexeme, lexeme, lexeme_of}
 use Rattle.text_base.specs.Tokens.{Tok, tokens_of, token_view}
 use Rattle.text_base.specs.declared.token.Token.{Token}
-use Rattle.script_reader.specs.SaidLines.{Grammar, AreSpelling, Spells, IsMalformed, IsLeast, SaidByItem, SaidByLine, SaidByTokens, Answers}
-use Rattle.script_reader.proofs.ItemsOfTokens.{lexemes}
+use Rattle.script_reader.specs.SaidLines.{Grammar, AreSpelling, Spells, IsMalformed, IsLeast, SaidByItem, SaidByLine, SaidByTokens}
 
 -- two least codes are one
 pub one_least : (Applies : ℕ → Type 0) (a b : ℕ) → IsLeast Applies a → IsLeast Applies b → a ≡ b
@@ -39,8 +40,8 @@ module _ {I R : Type 0} (g : Grammar I) (IsNamed : I → R → Type 0) (Applies 
     spelled ts i e (us, f, h) = subst (λ (x : List Tok). AreSpelling g (map lexeme x) i) (same_ok us ts (sym f ∙ e)) h
 
     -- what the tokens say
-    pub of_tokens : (ts : List Token) (said : Result (Option R) ℕ) → tokens_of line ≡ Ok (map token_view ts) → SaidByTokens g IsNamed Applies (map lexeme_of ts) said → SaidByLine g IsNamed Applies line said
-    of_tokens ts said e h = go ts said e (subst (λ (ls : List Lexeme). SaidByTokens g IsNamed Applies ls said) (sym (lexemes ts)) h)
+    of_tokens : (ts : List Token) (said : Result (Option R) ℕ) → tokens_of line ≡ Ok (map token_view ts) → SaidByTokens g IsNamed Applies (map lexeme_of ts) said → SaidByLine g IsNamed Applies line said
+    of_tokens ts said e h = go ts said e (subst (λ (ls : List Lexeme). SaidByTokens g IsNamed Applies ls said) (sym (lexemes_of ts)) h)
       where
         go : (ts : List Token) (said : Result (Option R) ℕ) → tokens_of line ≡ Ok (map token_view ts) → SaidByTokens g IsNamed Applies (map lexeme (map token_view ts)) said → SaidByLine g IsNamed Applies line said
         go [] (Ok None) e h = e

@@ -3,7 +3,7 @@ use Rattle.std.proofs.Common.{Contains, ◌≡◌, ◌⊎◌, ◌↔◌, ◌<◌
 use Rattle.std.specs.List.{list_any}
 use Rattle.std.proofs.lemmas.Bool.{not-true, not_from_false, eqb-true, eq-eqb, or_left, or_right}
 use Rattle.std.proofs.lemmas.Option.{same_Some}
-use Rattle.list_laws.proofs.Tests.{either, never}
+use Rattle.list_laws.proofs.Tests.{either, never, false_true}
 use Rattle.list_laws.proofs.Passing.{some_passes, passes_some}
 use Rattle.cca_base.specs.declared.codes.TheConstants.{MALFORMED, NAME_UNKNOWN, NOT_SENSED, BROKEN_GOAL, REPEATED_PAIR, MIRRORED}
 use Rattle.cca_base.specs.declared.cube.Pair.{Pair}
@@ -22,9 +22,6 @@ use Rattle.script_reader.proofs.OneSaid.{one_least}
 use Rattle.script_reader.specs.Laws.{NamesUnknown, NamesVariable, NamesUnsensed, WantsBroken, NamesTwice, NamesPending, NamesMirrored, Applies, IsLeastCode, IsNamed}
 use Rattle.script_reader.proofs.EachPair.{missing, comes_from, goes_to}
 use Rattle.script_reader.proofs.NamedItems.{twice_named, named_twice, mode_names, value_names}
-
-no : {P : Type 0} → false ≡ true → P
-no e = absurd cc
 
 module _ (m : PlantModel) (pending : List Pair) (mirrored : ℕ) where
   -- an answer, by the table
@@ -53,13 +50,13 @@ module _ (m : PlantModel) (pending : List Pair) (mirrored : ℕ) where
   known i e true b r k u sn sb sr sk named =
       (inr (inl (refl, sn.1 refl)), λ less lt a. by_row i less a (λ c x. u x) (λ c x. omega (arith, c, lt)) (λ c x. omega (arith, c, lt)) (λ c x. omega (arith, c, lt)) (λ c x. omega (arith, c, lt)))
   known i e false true r k u sn sb sr sk named =
-      (inr (inr (inl (refl, sb.1 refl))), λ less lt a. by_row i less a (λ c x. u x) (λ c x. no (sn.0 x)) (λ c x. omega (arith, c, lt)) (λ c x. omega (arith, c, lt)) (λ c x. omega (arith, c, lt)))
+      (inr (inr (inl (refl, sb.1 refl))), λ less lt a. by_row i less a (λ c x. u x) (λ c x. false_true (sn.0 x)) (λ c x. omega (arith, c, lt)) (λ c x. omega (arith, c, lt)) (λ c x. omega (arith, c, lt)))
   known i e false false true k u sn sb sr sk named =
-      (inr (inr (inr (inl (refl, sr.1 refl)))), λ less lt a. by_row i less a (λ c x. u x) (λ c x. no (sn.0 x)) (λ c x. no (sb.0 x)) (λ c x. omega (arith, c, lt)) (λ c x. omega (arith, c, lt)))
+      (inr (inr (inr (inl (refl, sr.1 refl)))), λ less lt a. by_row i less a (λ c x. u x) (λ c x. false_true (sn.0 x)) (λ c x. false_true (sb.0 x)) (λ c x. omega (arith, c, lt)) (λ c x. omega (arith, c, lt)))
   known i e false false false true u sn sb sr sk named =
-      (inr (inr (inr (inr (refl, sk.1 refl)))), λ less lt a. by_row i less a (λ c x. u x) (λ c x. no (sn.0 x)) (λ c x. no (sb.0 x)) (λ c x. no (sr.0 x)) (λ c x. omega (arith, c, lt)))
+      (inr (inr (inr (inr (refl, sk.1 refl)))), λ less lt a. by_row i less a (λ c x. u x) (λ c x. false_true (sn.0 x)) (λ c x. false_true (sb.0 x)) (λ c x. false_true (sr.0 x)) (λ c x. omega (arith, c, lt)))
   known i e false false false false u sn sb sr sk named =
-      (named, λ code a. by_row i code a (λ c x. u x) (λ c x. no (sn.0 x)) (λ c x. no (sb.0 x)) (λ c x. no (sr.0 x)) (λ c x. no (sk.0 x)))
+      (named, λ code a. by_row i code a (λ c x. u x) (λ c x. false_true (sn.0 x)) (λ c x. false_true (sb.0 x)) (λ c x. false_true (sr.0 x)) (λ c x. false_true (sk.0 x)))
 
   -- each pair of the line stands for something
   all_known : (f : NamedPair → Option Pair) (pairs : List NamedPair) (qs : List Pair) (p : NamedPair) → each_pair f pairs ≡ Some qs → Contains pairs p → f p ≡ None → ⊥

@@ -51,7 +51,7 @@ abbrev pub event_by : Bool → PlantModel → List Pair → ℕ → Item → Res
 event_by true = event_of
 event_by false = event_here
 
--- an event
+-- what a line says that has an event
 abbrev pub as_event : Result Event ℕ → Result (Option Event) ℕ
 as_event (Ok e) = Ok (Some e)
 as_event (Err code) = Err code

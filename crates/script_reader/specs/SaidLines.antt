@@ -1,9 +1,6 @@
 -- Lines that spell items of a grammar, and what they say: nothing, what their item says, or their least code.
 use Rattle.std.specs.Prelude.{◌≡◌, ◌⊎◌, ◌<◌, ℕ, List, [], ◌∷◌, length, map, Option, Some, None, Result, Ok, Err}
 use Rattle.cca_base.specs.declared.codes.TheConstants.{MALFORMED}
-use Rattle.cca_base.specs.declared.events.Detail.TheVariants.{Nothing}
-use Rattle.cca_base.specs.declared.events.Stop.{Stop}
-use Rattle.cca_base.specs.declared.events.Stop.TheVariants as stops
 use Rattle.text_base.specs.Lexemes.{Lexeme, lexeme}
 use Rattle.text_base.specs.Tokens.{Tok, tokens_of}
 
@@ -47,14 +44,8 @@ module _ {I R : Type 0} (g : Grammar I) (IsNamed : I → R → Type 0) (Applies 
   SaidByWords ls (Ok r) = (i : I) × AreSpelling g ls i × SaidByItem i (Ok r)
   SaidByWords ls (Err code) = ((code ≡ MALFORMED) × ((i : I) → AreSpelling g ls i → ⊥)) ⊎ ((i : I) × AreSpelling g ls i × SaidByItem i (Err code))
 
-  -- the same where there may be none
+  -- what lexemes say, if there are any
   abbrev pub SaidByTokens : List Lexeme → Result (Option R) ℕ → Type 0
   SaidByTokens ls (Ok None) = ls ≡ []
   SaidByTokens ls (Ok (Some r)) = SaidByWords ls (Ok r)
   SaidByTokens ls (Err code) = (0 < length ls) × SaidByWords ls (Err code)
-
--- what a call answered is so, or it refused with this code alone; out of memory says nothing
-abbrev pub Answers : {X : Type 0} → Result X Stop → (Result X ℕ → Type 0) → Type 0
-Answers (Ok x) Is = Is (Ok x)
-Answers (Err stops.Memory) Is = Unit {0}
-Answers (Err (stops.Refused refusal)) Is = Is (Err refusal.code) × (refusal.detail ≡ Nothing)

@@ -38,7 +38,8 @@ fn is_sensed(model: &Model, v: u16) -> bool
     }
 }
 
-fn has_broken(model: &Model, pairs: &[Pair]) -> bool
+/// Whether a pair has a broken mode.
+pub fn has_broken(model: &Model, pairs: &[Pair]) -> bool
     ensures { result ≡ list_any (is_broken_pair model.now) pairs.now }
 {
     pairs.iter().any(|p| model.broken(p.item, p.value))

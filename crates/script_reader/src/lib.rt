@@ -12,7 +12,7 @@ mod named;
 
 pub use context::Context;
 pub use event::event_of;
-pub use event_codes::{has_item_twice, observe_code};
+pub use event_codes::{has_broken, has_item_twice, observe_code};
 pub use event_line::{read_event, read_event_by, read_named_event};
 pub use formula_syntax::NamedModel;
 pub use item::{Item, item_of, only_pairs};

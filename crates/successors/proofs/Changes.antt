@@ -1,5 +1,5 @@
 -- The least costs of failures, and what changes cost.
-use Rattle.std.proofs.Common.{◌≡◌, ◌≢◌, ◌+◌, inl, inr, ℕ, zero, suc, ◌<◌, ◌≤◌, ◌==◌, min, true, false, List, [], ◌∷◌, ◌++◌, length, get_or, set, Contains, Option, Some, None, refl, sym, ap, subst, ◌∙◌, arith}
+use Rattle.std.proofs.Common.{◌≡◌, ◌≢◌, ◌+◌, inl, inr, ℕ, zero, suc, ◌<◌, ◌≤◌, ◌==◌, true, false, List, [], ◌∷◌, ◌++◌, length, get_or, set, Contains, Option, Some, None, refl, sym, ap, subst, ◌∙◌, arith}
 use Rattle.std.specs.List.{IsDistinct, list_any}
 use Rattle.std.specs.List.Sorted.{IsPermutation, IsSorted}
 use Rattle.std.specs.Ordering.{nat_cmp, ordering_reverse, is_lt}
@@ -13,62 +13,34 @@ use Rattle.std.proofs.lemmas.List.Sorted.{sorted_far, ranks_by, Contains-permuta
 use Rattle.std.proofs.lemmas.Map.Keys.{IsDistinct-IsPermutation, IsDistinct-push}
 use Rattle.std.proofs.lemmas.Map.Lookups.{exact_unsigned}
 use Rattle.list_laws.proofs.Orders.{then_equal}
+use Rattle.list_laws.proofs.Members.{all_from, contains_here, contains_there, contains_none}
 use Rattle.cca_base.specs.declared.model.Failure.{Failure}
 use Rattle.cca_base.specs.PlantModel.{PlantModel}
 use Rattle.cca_base.specs.declared.model.Component.{Component}
 use Rattle.cca_base.specs.Model.{IsFailure, WellFormed, mode_counts}
 use Rattle.cca_base.specs.Successors.{ChangeCosts}
-use Rattle.cca_base.proofs.Members.{all_from, contains_here, contains_there, contains_none}
 use Rattle.cca_base.specs.declared.choice.Choice.{Choice}
 use Rattle.cca_base.specs.declared.limits.TheConstants.{MAX_COST}
 use Rattle.cca_base.specs.Choices.{IsRow, choice_cmp}
+use Rattle.cca_base.proofs.LeastFailures.{least_more, least_same}
 use Rattle.cca_base.specs.LeastCosts.{IsLeast, IsChange, failing, lesser_of}
 use Rattle.successors.specs.Choices.{AreLeast, AreAllLeast, AreChanges, IsAdded, same_mode}
 use Rattle.cca_laws.proofs.CostLaws.{one_change}
-
-cost_of : (f : Failure) (c from to k : ℕ) → f ≡ failing c from to k → f.cost ≡ k
-cost_of f c from to k e = ap (λ (x : Failure). x.cost) e
-
-least_more : (fs : List Failure) (f : Failure) (c from to : ℕ) (o : Option ℕ) → IsLeast fs c from to o → f ≡ failing c from to f.cost → IsLeast (fs ++ f ∷ []) c from to (Some (lesser_of o f.cost))
-least_more fs f c from to None h e = (
-  subst (Contains (fs ++ f ∷ [])) e (Contains-push fs f),
-  (λ k among. elim (Contains-push_cases fs f (failing c from to k) among) [ inl there ↦ absurd (h k there) | inr same ↦ (let s = cost_of f c from to k same in omega arith) ]),
-)
-least_more fs f c from to (Some k) h e = (
-  elim (cases_lt f.cost k) [
-    | inl less ↦ (let m : f.cost ≡ min k f.cost = omega arith in subst (λ z. Contains (fs ++ f ∷ []) (failing c from to z)) m (subst (Contains (fs ++ f ∷ [])) e (Contains-push fs f)))
-    | inr more ↦ (let m : k ≡ min k f.cost = omega arith in subst (λ z. Contains (fs ++ f ∷ []) (failing c from to z)) m (Contains-append_left fs (f ∷ []) (failing c from to k) h.0))
-  ],
-  (λ other among. elim (Contains-push_cases fs f (failing c from to other) among) [
-    | inl there ↦ omega (arith, h.1 other there)
-    | inr same ↦ (let s = cost_of f c from to other same in omega arith)
-  ]),
-)
-
-least_other : (fs : List Failure) (f : Failure) (c from to : ℕ) (o : Option ℕ) → IsLeast fs c from to o → ((k : ℕ) → f ≡ failing c from to k → ⊥) → IsLeast (fs ++ f ∷ []) c from to o
-least_other fs f c from to None h e = λ k among. elim (Contains-push_cases fs f (failing c from to k) among) [ inl there ↦ h k there | inr same ↦ e k same ]
-least_other fs f c from to (Some k) h e = (
-  Contains-append_left fs (f ∷ []) (failing c from to k) h.0,
-  (λ other among. elim (Contains-push_cases fs f (failing c from to other) among) [ inl there ↦ h.1 other there | inr same ↦ absurd (e other same) ]),
-)
-
-is_failing : (f : Failure) (c from : ℕ) → f.component ≡ c → f.source ≡ from → f ≡ failing c from f.target f.cost
-is_failing f c from e g = λ d. record { component = e d; source = g d; target = f.target; cost = f.cost }
 
 pub least_set : (fs : List Failure) (f : Failure) (c from : ℕ) (costs : List (Option ℕ)) (least : ℕ) → AreLeast fs c from costs → f.component ≡ c → f.source ≡ from → f.target < length costs
     → least ≡ lesser_of (get_or costs f.target None) f.cost → AreLeast (fs ++ f ∷ []) c from (set costs f.target (Some least))
 least_set fs f c from costs least h e g within is mode inside = elim (cases_eq mode f.target) [
   | inl same ↦ subst (λ z. IsLeast (fs ++ f ∷ []) c from z (get_or (set costs f.target (Some least)) z None)) (sym same)
       (subst (IsLeast (fs ++ f ∷ []) c from f.target) (ap Some (sym is) ∙ sym (get_or-set_same costs f.target (Some least) None within))
-      (least_more fs f c from f.target (get_or costs f.target None) (h f.target within) (is_failing f c from e g)))
+      (least_more fs f c from f.target (get_or costs f.target None) e g refl (h f.target within)))
   | inr other ↦ subst (IsLeast (fs ++ f ∷ []) c from mode) (sym (get_or-set_other costs f.target mode (Some least) None other))
-      (least_other fs f c from mode (get_or costs mode None) (h mode (omega (arith, length-set costs f.target (Some least))))
-      (λ k same. other (sym (ap (λ (x : Failure). x.target) same))))
+      (least_same fs f c from mode (get_or costs mode None) (λ k same. other (sym (ap (λ (x : Failure). x.target) same)))
+      (h mode (omega (arith, length-set costs f.target (Some least)))))
 ]
 
 pub least_keeps : (fs : List Failure) (f : Failure) (c from : ℕ) (costs : List (Option ℕ)) → AreLeast fs c from costs → ((f.component ≡ c) × (f.source ≡ from) → ⊥) → AreLeast (fs ++ f ∷ []) c from costs
 least_keeps fs f c from costs h apart mode inside =
-    least_other fs f c from mode (get_or costs mode None) (h mode inside) (λ k same. apart (ap (λ (x : Failure). x.component) same, ap (λ (x : Failure). x.source) same))
+    least_same fs f c from mode (get_or costs mode None) (λ k same. apart (ap (λ (x : Failure). x.component) same, ap (λ (x : Failure). x.source) same)) (h mode inside)
 
 -- a failure that is noted at its component is noted at all
 pub all_least_set : (fs : List Failure) (f : Failure) (s : List ℕ) (table : List (List (Option ℕ))) (costs : List (Option ℕ)) → f.component < length table

@@ -1,7 +1,8 @@
 -- Which moves are commanded.
-use Rattle.std.proofs.Common.{◌≡◌, ◌↔◌, ℕ, List, Some, Contains, sym, ap, subst, ◌∙◌}
+use Rattle.std.proofs.Common.{◌≡◌, ◌↔◌, ℕ, List, Some, sym, ap, subst, ◌∙◌}
 use Rattle.std.specs.List.{slice_get}
-use Rattle.std.proofs.lemmas.Option.{slice_get_within, slice_get-get_or, get_or_from_slice_get, same_Some}
+use Rattle.std.proofs.lemmas.Option.{slice_get-get_or, same_Some}
+use Rattle.list_laws.proofs.Members.{at_member}
 use Rattle.cca_base.specs.declared.cube.Pair.{Pair}
 use Rattle.cca_base.specs.declared.model.Move.{Move}
 use Rattle.cca_base.specs.Accepted.{CompiledModel, IsCompiled}
@@ -21,14 +22,11 @@ stands_holds b h s state at move cubes of_model of_ways source =
       (λ holds. let found = holds_by_prime b.model s move state source holds in (found.0, (ways.each found.0).1 found.1, found.2)),
     )
 
-pub among_at : (moves : List Move) (at : ℕ) (move : Move) → slice_get moves at ≡ Some move → Contains moves move
-among_at moves at move e = (at, slice_get_within moves at move e, get_or_from_slice_get moves at move move e)
-
 module _ (b : CompiledModel) (h : IsCompiled b) (s : List ℕ) (state : IsState b.model s) (k i : ℕ) (names : IsMoveNamed b.model.moves s k i) where
   -- the move that the command names is commanded where one of its cubes stands
   pub commanded_at : (cubes : List (List Pair)) → slice_get b.ways i ≡ Some cubes → SomeStands s cubes → IsCommanded b.model s (Some k) names.0
   commanded_at cubes of_ways stands = record {
-    of_model = among_at b.model.moves i names.0 names.1;
+    of_model = at_member b.model.moves i names.0 names.1;
     command = ap Some (sym names.2);
     source = names.3;
     guard = (stands_holds b h s state i names.0 cubes names.1 of_ways names.3).0 stands;
@@ -37,7 +35,7 @@ module _ (b : CompiledModel) (h : IsCompiled b) (s : List ℕ) (state : IsState 
   -- and else none is: it names one move
   pub none_commanded : (cubes : List (List Pair)) → slice_get b.ways i ≡ Some cubes → (SomeStands s cubes → ⊥) → NoneSent b.model s (Some k)
   none_commanded cubes of_ways none move sent =
-      let same : move ≡ names.0 = one_named b.model h.accepted.well_formed.commands s k move names.0 sent.of_model (among_at b.model.moves i names.0 names.1)
+      let same : move ≡ names.0 = one_named b.model h.accepted.well_formed.commands s k move names.0 sent.of_model (at_member b.model.moves i names.0 names.1)
       (sym (same_Some k move.command sent.command)) names.2 sent.source names.3 in
       none ((stands_holds b h s state i names.0 cubes names.1 of_ways names.3).1 (subst (λ (x : Move). Holds b.model s x.guard) same sent.guard))
 

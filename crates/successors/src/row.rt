@@ -1,22 +1,12 @@
 //! The choices of one component: its nominal mode, and each mode to which a failure leads, at the failure's least cost.
 
 ghost use Rattle.std.specs.Prelude.{◌≡◌, ◌≢◌, All, map, Some, ◌<◌, ◌↔◌, ℕ, Contains, None, IfOk, OnOk, List, ◌++◌, ◌∷◌, [], length, slice_index, slice_index_or};
-ghost use Rattle.cca_base.specs.Prelude.{lesser_of, mode_counts, ChangeCosts, HasMode, IsLeast, IsRow, IsState};
+ghost use Rattle.cca_base.specs.Prelude.{mode_counts, ChangeCosts, HasMode, IsLeast, IsRow, IsState};
 ghost use Rattle.cca_base.specs.declared.model.Failure.{Failure};
 ghost use Rattle.successors.specs.Choices.{AreLeast, AreAllLeast, AreChanges, IsAdded};
 
-use cca_base::{Choice, Component, Failure, List, Model};
+use cca_base::{Choice, Component, Failure, List, Model, lesser};
 use std::alloc::{AllocError, Global};
-
-/// The lesser of a cost and one that may be known.
-fn lesser(known: Option<u32>, cost: u32) -> u32
-    ensures { result ≡ lesser_of known cost }
-{
-    match known {
-        None => cost,
-        Some(least) => least.min(cost),
-    }
-}
 
 /// Takes in a failure of the component, where it leaves this mode.
 fn note_cost(costs: &mut List<Option<u32>>, failure: &Failure, from: u8)

@@ -15,3 +15,4 @@ pub mod CommentBegins
 pub mod NothingLeftOut
 pub mod NoTokenInComment
 pub mod FirstBadByte
+pub mod LexemesOfTokens

@@ -12,6 +12,7 @@ use Rattle.std.proofs.Math.ListN.{get_or-append}
 use Rattle.std.proofs.lemmas.Str.{digit_value_digit, IsUtf8-from_ascii}
 use Rattle.std.proofs.lemmas.Str.Parse.{IsDigitsTest, digit_from_value, tells_digits, numerals_by_value, parse_plain}
 use Rattle.std.proofs.lemmas.Fmt.{decimal_is_IsNumeral_wide, decimal_digit, decimal_step_wide, decimal_by_steps_wide, parse-decimal_wide, IsAscii-from_digits}
+use Rattle.std.proofs.lemmas.Bool.{true≢false}
 use Rattle.text_base.specs.Numerals.{is_numeral}
 
 le_value_after : (n : ℕ) (ds : List ℕ) → n ≤ digits_value_after 10 n ds
@@ -57,9 +58,6 @@ from_list_all ds h = (numerals_by_value _ tells_list_all).to ds h
 
 to_list_all : (ds : List ℕ) → AllDigits 10 ds → list_all is_ascii_digit ds ≡ true
 to_list_all ds d = (numerals_by_value _ tells_list_all).from ds d
-
-clash : true ≡ false → ⊥
-clash e = absurd cc
 
 -- by the first digit
 by_lead : (t : Bool) (b : ℕ) (bs : List ℕ) → nat_eq b 48 ≡ t → cond t (nat_eq (length bs) 0) (is_ascii_digit b && list_all is_ascii_digit bs) ≡ true → IsPlain (b ∷ bs)
@@ -125,7 +123,7 @@ not_read : {E : Type 0} (bs : List ℕ) (e : E) → (let r : Result ℕ E = Err 
 not_read {E} bs e read n small is = differ E e n (parse-decimal_wide 128 n bs _ small (omega arith) is read)
 
 pub no_numeral : (bs : List ℕ) → is_numeral bs ≡ false → (n : ℕ) → n < 2 ^ 128 → bs ≢ decimal n
-no_numeral bs h n small is = clash (sym (ap is_numeral is ∙ decimal_is_numeral n small) ∙ h)
+no_numeral bs h n small is = true≢false (sym (ap is_numeral is ∙ decimal_is_numeral n small) ∙ h)
 
 -- what `parse` gives, read both ways
 pub read_some : (E : Type 0) (bs s : List ℕ) (r : Result ℕ E) (o : Option ℕ) → o ≡ result_ok r → is_numeral bs ≡ true → s ≡ bs → ParsesUnsigned 128 10 s r → IfSome o (λ n. bs ≡ decimal n)

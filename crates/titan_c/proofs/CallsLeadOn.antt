@@ -1,5 +1,6 @@
 -- The calls of C are calls of a session.
 use Rattle.std.proofs.Common.{◌≡◌, ℕ, List, ◌∷◌, take, Option, Some, inl, inr, refl, sym, subst, ◌∙◌}
+use Rattle.std.proofs.lemmas.Option.{same_Some}
 use Rattle.run_form.specs.RunLaws.{IsLineByLine}
 use Rattle.run_form.specs.declared.notation.Notation.{Notation}
 use Rattle.titan_session.specs.RunSessions.{RunSession, AreCalls}
@@ -7,12 +8,9 @@ use Rattle.titan_session.specs.Sessions.{Call, Line, Finish, Take}
 use Rattle.titan_c.specs.CallLaws.{HoldsAfter, CallsLeadOn}
 use Rattle.titan_c.specs.Calls.{Prints, HandedOver}
 
-pub same : (x y : RunSession) → Some x ≡ Some y → x ≡ y
-same x y e = cc
-
 -- what is held is led to
 pub led : (notation : Notation) (calls : List Call) (held : Option RunSession) (x : RunSession) → held ≡ Some x → HoldsAfter notation calls held → AreCalls notation calls x
-led notation calls held x is h = subst (AreCalls notation calls) (same h.0 x (sym h.1 ∙ is)) h.2
+led notation calls held x is h = subst (AreCalls notation calls) (same_Some h.0 x (sym h.1 ∙ is)) h.2
 
 -- no session of C prints anything at the end of its lines
 line_by_line : (words : ℕ) (notation : Notation) → Prints words notation → IsLineByLine notation

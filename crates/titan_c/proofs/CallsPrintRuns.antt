@@ -1,5 +1,6 @@
 -- What the calls of C wrote is what a run prints of their lines.
 use Rattle.std.proofs.Common.{◌≡◌, ◌⊎◌, ◌<◌, ◌∷◌, ◌++◌, ℕ, List, [], length, Option, Some, inl, inr, refl, sym, ap, subst, ◌∙◌, append-nil, arith}
+use Rattle.std.proofs.lemmas.Option.{same_Some}
 use Rattle.line_machine.specs.Next.{Next, GoesOn, Stops}
 use Rattle.line_machine.specs.declared.machine.End.{End}
 use Rattle.line_machine.specs.declared.machine.End.TheVariants.{Ended, Rejected, Refused}
@@ -13,7 +14,7 @@ use Rattle.titan_session.specs.declared.session.Stage.TheVariants.{Going, Over, 
 use Rattle.titan_session.proofs.SessionsAreRuns.{sessions_are_runs}
 use Rattle.titan_c.specs.CallLaws.{CallsPrintRuns, HoldsAfter, IsPlace}
 use Rattle.titan_c.specs.Calls.{HandedOver}
-use Rattle.titan_c.proofs.CallsLeadOn.{same, led}
+use Rattle.titan_c.proofs.CallsLeadOn.{led}
 use Rattle.titan_c.specs.Statuses.{status_of}
 use Rattle.titan_c.specs.declared.status.TheConstants.{GOES_ON, ENDED, REFUSED}
 
@@ -54,7 +55,7 @@ few notation calls z led = few_by z.stage (sessions_are_runs.not_rejected notati
 -- what hands over stands where it stood
 stands : (x : RunSession) (new : Option RunSession) (out out' : List ℕ) (n status : ℕ) → HandedOver (Some x) new out out' n status → status_of x.stage ≡ status
 stands x new out out' n status w =
-    ap (λ (y : RunSession). status_of y.stage) (same x w.before w.was) ∙ ap (λ (s : Stage RunState). status_of s) (sym w.hands.gives.stays) ∙ sym w.status_is
+    ap (λ (y : RunSession). status_of y.stage) (same_Some x w.before w.was) ∙ ap (λ (s : Stage RunState). status_of s) (sym w.hands.gives.stays) ∙ sym w.status_is
 
 of_line : (s : Stage RunState) (u : Next RunState) → s ≡ stage_of u → ((e : End) → s ≡ Over e → e ≡ Refused) → (status_of s ≡ GOES_ON) ⊎ (status_of s ≡ REFUSED)
 of_line s (GoesOn x) is only = inl (ap (λ (t : Stage RunState). status_of t) is)
@@ -74,7 +75,7 @@ going Lost h = let never : 5 ≡ 0 = h in absurd (omega (arith, never))
 
 -- where less than all of the buffer was used
 nothing_left : (P : Type 0) (n room : ℕ) → n < room → (n ≡ room) ⊎ P → P
-nothing_left P n room less (inl same) = absurd (omega (arith, less, same))
+nothing_left P n room less (inl same_Some) = absurd (omega (arith, less, same_Some))
 nothing_left P n room less (inr p) = p
 
 pub calls_print_runs : CallsPrintRuns

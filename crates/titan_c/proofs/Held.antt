@@ -31,8 +31,7 @@ use Rattle.std.proofs.alloc.Global.TheLaws as heap_laws
 use Rattle.std.specs.contracts.impls.GlobalAllocator.TheImpl.{ghosts, dict}
 use Rattle.std.specs.Global.{Global}
 use Rattle.loose_box.proofs.Values.{both}
-use Rattle.titan_c.specs.Owned.{the_row as K}
-use Rattle.titan_c.specs.Owned.{handle_owns}
+use Rattle.titan_c.specs.Owned.{the_row as K, handle_owns}
 use Rattle.titan_c.specs.contracts.handle.Handle as handle
 
 abbrev pub Z : RattleType

@@ -77,7 +77,7 @@ module _ {S : Type 0} (m : Ghosts S) (first : S) where
       moved (Take bytes ∷ calls) z.stage y.stage z.count y.count ((taken_of calls ++ bytes) ++ z.pending) (taken_of calls ++ y.pending) d.stays d.counts
       (append_assoc (taken_of calls) bytes z.pending ∙ ap (λ (l : List ℕ). taken_of calls ++ l) (sym d.moved)) same_lines
 
-  pub reached : (calls : List Call) (z : SessionState S) → LeadTo m first calls z → ReachedBy z.stage calls z.count (taken_of calls ++ z.pending)
+  reached : (calls : List Call) (z : SessionState S) → LeadTo m first calls z → ReachedBy z.stage calls z.count (taken_of calls ++ z.pending)
   reached [] z e = moved [] z.stage (Going first) z.count 0 z.pending [] (ap (λ (x : SessionState S). x.stage) e) (ap (λ (x : SessionState S). x.count) e) (ap (λ (x : SessionState S). x.pending) e) ((refl, refl), refl)
   reached (call ∷ calls) z (y, before, does) = by_call call calls y z (reached calls y before) does
 
@@ -87,7 +87,7 @@ module _ {S : Type 0} (m : Ghosts S) (first : S) where
   clean_by Finish calls y z h d = h
   clean_by (Take bytes) calls y z h d = h
 
-  pub all_clean : (calls : List Call) (z : SessionState S) → LeadTo m first calls z → All HasNoLf (lines_of calls)
+  all_clean : (calls : List Call) (z : SessionState S) → LeadTo m first calls z → All HasNoLf (lines_of calls)
   all_clean [] z e = All-nil HasNoLf
   all_clean (call ∷ calls) z (y, before, does) = clean_by call calls y z (all_clean calls y before) does
 

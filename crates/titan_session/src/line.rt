@@ -1,14 +1,9 @@
 //! Whether bytes are one line.
 
-ghost use Rattle.std.specs.Prelude.{◌≡◌, ◌==◌, position, true, false};
+ghost use Rattle.std.specs.Prelude.{◌≡◌, true, false};
 ghost use Rattle.line_machine.specs.Lines.{HasNoLf};
 
-/// Where the first LF stands.
-fn lf_place(bytes: &[u8]) -> Option<usize>
-    ensures { result ≡ position (λ b. b == 10) bytes.now }
-{
-    bytes.iter().position(|b| *b == b'\n')
-}
+use line_machine::lf_place;
 
 /// Whether the bytes have no LF.
 #[tactic(auto, using(line_machine::proofs::FirstLineFeed::none_is_clean, line_machine::proofs::FirstLineFeed::some_is_not))]

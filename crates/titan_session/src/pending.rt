@@ -1,20 +1,10 @@
 //! Text that waits to be taken: a queue of bytes, taken from its front.
 
-ghost use Rattle.std.specs.Prelude.{◌≡◌, ◌≤◌, ◌⊎◌, ℕ, List, [], ◌++◌, length, take, drop, min, vec_len, OnOk, OnErr};
+ghost use Rattle.std.specs.Prelude.{◌≡◌, ◌≤◌, ◌⊎◌, ℕ, List, [], ◌++◌, length, take, drop, vec_len, OnOk, OnErr};
 
 use std::alloc::{AllocError, Global};
 use std::marker::Model;
-
-/// Copies as much as fits from the front of the bytes to that of the buffer, and answers how much.
-fn copy_front(bytes: &[u8], buf: &mut [u8]) -> usize
-    ensures count { result ≡ min (length bytes.now) (length buf.old) }
-    ensures moved { take result buf.new ≡ take result bytes.now }
-    ensures rest { drop result buf.new ≡ drop result buf.old }
-{
-    let count = bytes.len().min(buf.len());
-    buf[..count].copy_from_slice(&bytes[..count]);
-    count
-}
+use titan_wire::{copy_front, drop_front};
 
 /// Bytes in the order in which they came. Those before `start` were taken.
 #[derive(Drop)]
@@ -47,9 +37,7 @@ impl Pending {
         ensures { self.new ≡ self.old }
     {
         if self.start > 0 {
-            let len = self.bytes.len() - self.start;
-            self.bytes.as_mut_slice().rotate_left(self.start);
-            self.bytes.truncate(len);
+            drop_front(&mut self.bytes, self.start);
             self.start = 0;
         }
     }

@@ -4,6 +4,8 @@ use Rattle.std.specs.Prelude.{codes, IfSome}
 use Rattle.std.proofs.lemmas.Bool.{eq-eqb}
 use Rattle.std.proofs.lemmas.List.{append_cancel_right}
 use Rattle.std.proofs.lemmas.List.Elements.{All-head, All-tail, All-contains, Contains-append_right}
+use Rattle.list_laws.proofs.Members.{contains_here}
+use Rattle.cca_laws.proofs.PlanLaws.{whole_runs}
 use Rattle.cca_base.specs.declared.cube.Pair.{Pair}
 use Rattle.cca_base.specs.declared.events.Event.{Event}
 use Rattle.cca_base.specs.declared.events.PlanEnd.{PlanEnd}
@@ -21,7 +23,6 @@ use Rattle.cca_base.specs.Accepted.{CompiledModel, IsCompiled}
 use Rattle.cca_base.specs.Model.{HasMode}
 use Rattle.cca_base.specs.Plans.{Promising, Whole, ShowsPlan, ShowsBack, IsRoute}
 use Rattle.cca_base.specs.Trace.{ExecutiveState, IsReply, TickShows}
-use Rattle.cca_base.proofs.Members.{contains_here}
 use Rattle.line_machine.specs.Lines.{lines_in, all_lines, HasNoLf}
 use Rattle.line_machine.specs.declared.machine.TheConstants.{MAX_LINES}
 use Rattle.line_machine.proofs.JoinedLines.{line_before}
@@ -43,10 +44,9 @@ use Rattle.check_form.specs.declared.tick_lines.TickSoFar.{TickSoFar}
 use Rattle.check_form.specs.declared.tick_lines.TickSoFar.TheVariants.{Nothing, Reported, Explained, Planned}
 use Rattle.trace_text.specs.declared.limits.TheConstants.{MAX_TRACE_LINE}
 use Rattle.titan_top.specs.OwnTraces.{ShowsLong}
-use Rattle.plan_checker.proofs.CostSums.{cost_fits}
+use Rattle.cca_base.proofs.CheapCosts.{cost_fits}
 use Rattle.trace_text.proofs.FittingLines.{command_fits, run_fits, world_fits}
 use Rattle.titan_top.proofs.ProvenTicks.{with_goal, IsGoalOf, proven_passes, proven_takes, proven_sees}
-use Rattle.run_form.proofs.ShownPlans.{whole_runs}
 
 -- ---- the lines of a text
 

@@ -3,8 +3,9 @@ use Rattle.std.proofs.Common.{◌≡◌, ◌+◌, ℕ, IsTrue, List, [], ◌∷�
 use Rattle.std.specs.Prelude.{IfSome, slice_get}
 use Rattle.std.specs.Option.{is_some}
 use Rattle.std.proofs.lemmas.List.Elements.{All-contains, Contains-append_right}
-use Rattle.std.proofs.lemmas.List.Sorted.{All-permutation, Contains-permutation, IsPermutation-sym}
+use Rattle.std.proofs.lemmas.List.Sorted.{Contains-permutation, IsPermutation-sym}
 use Rattle.std.proofs.lemmas.Option.{same_Some}
+use Rattle.list_laws.proofs.Members.{contains_here}
 use Rattle.cca_base.specs.declared.cube.Pair.{Pair}
 use Rattle.cca_base.specs.declared.events.PlanEnd.{PlanEnd}
 use Rattle.cca_base.specs.declared.events.PlanEnd.TheVariants.{Plan, Long}
@@ -22,16 +23,16 @@ use Rattle.cca_base.specs.Runs.{is_send}
 use Rattle.cca_base.specs.State.{Extends}
 use Rattle.cca_base.specs.Steps.{Step, Run}
 use Rattle.cca_base.specs.Trace.{ExecutiveState, IsReply, TickShows}
-use Rattle.cca_base.proofs.Members.{contains_here}
+use Rattle.cca_base.proofs.SortedGoals.{held_plain, held_sorted}
 use Rattle.cca_laws.proofs.OneOrder.{compiled_none_twice}
 use Rattle.cca_laws.proofs.OnePick.{one_command}
+use Rattle.cca_laws.proofs.PlanLaws.{whole_runs, whole_stands}
 use Rattle.check_laws.proofs.CheckedPlans.{one_end}
 use Rattle.plan_checker.specs.Checked.{Takes}
 use Rattle.plan_checker.specs.Reasons.{Printed, OnEstimate, OnCommand, OnCommands, HasItsLines, HasItsCost, HasItsWorld, ExplainsTick, SendsStep, PrintsPlan, ReachesGoal, LeadsBack, AnswersGoal, FitsGoal, IsPlanFrom, IsWayBack, WritesRoute, IsVerdict}
 use Rattle.plan_checker.specs.declared.verdict.Verdict.TheVariants.{Yes}
 use Rattle.check_form.specs.CheckTrace.{SeesPairs}
 use Rattle.run_form.specs.TickProofs.{IsSeenWorld, ProvesEstimate, ProvesReply, ProvesCommand, IsProven}
-use Rattle.run_form.proofs.ShownPlans.{whole_runs, whole_stands}
 
 -- where a checker stands: as the executive, with the goal as it was given
 abbrev pub with_goal : ExecutiveState → Option (List Pair) → ExecutiveState
@@ -43,13 +44,6 @@ IsGoalOf order None None = Unit {0}
 IsGoalOf order None (Some kept) = ⊥
 IsGoalOf order (Some given) None = ⊥
 IsGoalOf order (Some given) (Some kept) = IsSorted order given kept
-
-module _ (order : List ℕ) (given kept : List Pair) (sorted : IsSorted order given kept) (s : List ℕ) where
-  given_stands : Extends s kept → Extends s given
-  given_stands h = All-permutation (λ (p : Pair). slice_get s p.item ≡ Some p.value) kept given (IsPermutation-sym given kept sorted.same) h
-
-  kept_stands : Extends s given → Extends s kept
-  kept_stands h = All-permutation (λ (p : Pair). slice_get s p.item ≡ Some p.value) given kept sorted.same h
 
 module _ (b : CompiledModel) (compiled : IsCompiled b) where
   -- ---- a reply
@@ -68,7 +62,7 @@ module _ (b : CompiledModel) (compiled : IsCompiled b) where
 
   module _ (s : List ℕ) (given goal : List Pair) (sorted : IsSorted b.order given goal) where
     achieved_passes : (route : Option Route) → Extends s goal → route ≡ None → ReplyPasses (Some given) s Achieved route
-    achieved_passes route stands none = record { has_route = ap is_some none; step = tt; plan = tt; goal = tt; back = tt; answer = given_stands b.order given goal sorted s stands }
+    achieved_passes route stands none = record { has_route = ap is_some none; step = tt; plan = tt; goal = tt; back = tt; answer = held_plain b.order s given goal sorted stands }
 
     unreachable_passes : (c mode : ℕ) (route : Option Route) → IsFirstUnreached b.model s goal (record { item = c; value = mode }) → route ≡ None → ReplyPasses (Some given) s (Unreachable c mode) route
     unreachable_passes c mode route h none =
@@ -104,7 +98,7 @@ module _ (b : CompiledModel) (compiled : IsCompiled b) where
       goal_passes (Plan ks) plan there whole shows = λ end run.
           let own : Run b.model s ks there = subst (λ (l : List ℕ). Run b.model s l there) (sym shows.0) (whole_runs b goal plan s there whole) in
           let same : there ≡ end = one_end b.model compiled.accepted.well_formed.commands s there end ks own run in
-          subst (λ (z : List ℕ). Extends z given) same (given_stands b.order given goal sorted there (whole_stands b goal plan s there whole))
+          subst (λ (z : List ℕ). Extends z given) same (held_plain b.order there given goal sorted (whole_stands b goal plan s there whole))
       goal_passes Long plan there whole shows = tt
 
       send_passes : (r : Route) → IsRoute b s goal r → OnCommands r.plan (λ ks. OnCommands r.back (IsWayBack b.model s ks)) → ReplyPasses (Some given) s (Send k) (Some r)
@@ -114,7 +108,7 @@ module _ (b : CompiledModel) (compiled : IsCompiled b) where
         plan = plan_passes r.plan route.plan route.there route.whole route.shows_plan;
         goal = goal_passes r.plan route.plan route.there route.whole route.shows_plan;
         back = home;
-        answer = λ stands. not_there (kept_stands b.order given goal sorted s stands);
+        answer = λ stands. not_there (held_sorted b.order s given goal sorted stands);
       }
 
     -- each reply that is proven passes

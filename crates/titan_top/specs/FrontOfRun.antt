@@ -22,6 +22,6 @@ pub record HasFront (notation : Notation) (input : List ℕ) (left' out out' : O
   pub own : IsOwnAnswer notation came taken (IsAtEnd left') answer
   pub front : WroteFront answer.text out out'
 
--- nothing was written, or such a front
+-- nothing was written, or a front of the text of some run
 abbrev pub IsFrontOfRun : Notation → (input : List ℕ) (left' out out' : Option (List ℕ)) → Type 0
 IsFrontOfRun notation input left' out out' = (out' ≡ append_known out []) ⊎ HasFront notation input left' out out'

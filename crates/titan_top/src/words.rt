@@ -4,7 +4,7 @@ ghost use Rattle.std.specs.Prelude.{◌≡◌};
 ghost use Rattle.titan_top.specs.Words.{form_of, seed_of, texts};
 
 use run_form::Notation;
-use text_base::read_number;
+use trace_text::read_count;
 
 /// What the words ask for.
 #[derive(Clone, Copy, Debug, PartialEq, Eq)]
@@ -31,14 +31,7 @@ pub enum Form {
 fn seed_of(word: &[u8]) -> Option<u64>
     ensures { result ≡ seed_of word.now }
 {
-    let Some(n) = read_number(word) else {
-        return None;
-    };
-    if n <= u128::from(u64::MAX) {
-        Some(n as u64)
-    } else {
-        None
-    }
+    read_count(word)
 }
 
 /// The form of the words, if they have one.

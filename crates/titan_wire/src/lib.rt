@@ -10,6 +10,6 @@ mod steady;
 mod wire;
 
 pub use edge::{ReaderSource, WriterSink};
-pub use memory::{Calls, MemorySink, MemorySource, append_within};
+pub use memory::{Calls, MemorySink, MemorySource, append_within, copy_front, drop_front};
 pub use steady::{SteadySink, SteadySource};
 pub use wire::{Failed, PutEnd, Sink, Source, put_all};

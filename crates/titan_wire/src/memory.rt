@@ -1,20 +1,31 @@
 //! Sources and sinks in memory.
 
-ghost use Rattle.std.specs.Prelude.{◌≡◌, ◌+◌, ◌-◌, ◌^◌, ◌<◌, ◌≤◌, ◌↔◌, ◌⊎◌, min, [], ◌++◌, length, take, Some, None, vec_len, vec_capacity, IsErr, IsTrue, IfOk, OnErr, IfSome, Contains};
+ghost use Rattle.std.specs.Prelude.{◌≡◌, ◌+◌, ◌-◌, ◌^◌, ◌<◌, ◌≤◌, ◌↔◌, ◌⊎◌, min, [], ◌++◌, length, take, drop, Some, None, vec_len, vec_capacity, IsErr, IsTrue, IfOk, OnErr, IfSome, Contains};
 ghost use Rattle.std.specs.Io.KnownBytes.{prepend_known, append_known, IsAtEnd};
 ghost use Rattle.titan_wire.specs.Wire.{HasCause, counted, faults_after};
 
 use crate::wire::{Failed, Sink, Source};
 use std::alloc::{AllocError, Global};
 
-/// Moves as much as fits from the front of the bytes to that of the buffer.
-pub(crate) fn copy_front(bytes: &[u8], buf: &mut [u8]) -> usize
+/// Copies as much as fits from the front of the bytes to that of the buffer, and answers how much.
+pub fn copy_front(bytes: &[u8], buf: &mut [u8]) -> usize
     ensures count { result ≡ min (length bytes.now) (length buf.old) }
     ensures moved { take result buf.new ≡ take result bytes.now }
+    ensures rest { drop result buf.new ≡ drop result buf.old }
 {
     let count = bytes.len().min(buf.len());
     buf[..count].copy_from_slice(&bytes[..count]);
     count
+}
+
+/// Lets the first bytes go, and moves the others to the front of the memory.
+pub fn drop_front(bytes: &mut Vec<u8>, count: usize)
+    requires { count ≤ vec_len bytes.old }
+    ensures { bytes.new.items ≡ drop count bytes.old.items }
+{
+    let len = bytes.len() - count;
+    bytes.as_mut_slice().rotate_left(count);
+    bytes.truncate(len);
 }
 
 /// Appends the piece to a vector that has room for it and does not grow.

@@ -2,7 +2,7 @@
 use Rattle.std.proofs.Common.{◌≡◌, ◌<◌, ◌≤◌, ℕ, zero, suc, ◌+◌, Bool, true, false, cond, List, [], ◌∷◌, length, count_by, None, Some, All, Contains, slice_get, inl, refl, sym, ap, subst, arith}
 use Rattle.std.proofs.lemmas.List.Elements.{All-nil, All-cons, All-contains, All-filter, All-tail, All-head}
 use Rattle.std.proofs.lemmas.List.Sums.{sum_by-cons}
-use Rattle.std.proofs.lemmas.Option.{slice_get_within, get_or_from_slice_get}
+use Rattle.std.proofs.lemmas.Option.{slice_get_within, get_or_from_slice_get, same_Some}
 use Rattle.cca_base.specs.declared.cube.Pair.{Pair}
 use Rattle.cca_base.specs.declared.events.Reply.{Reply}
 use Rattle.cca_base.specs.declared.events.Reply.TheVariants.{Idle, Send, Achieved, Unreachable}
@@ -11,21 +11,21 @@ use Rattle.cca_base.specs.Accepted.{CompiledModel}
 use Rattle.cca_base.specs.Model.{WellFormed}
 use Rattle.cca_base.specs.State.{IsState, Extends}
 use Rattle.cca_base.specs.Repairs.{pairs_of}
-use Rattle.cca_base.specs.Steps.{Step, Reach, support}
+use Rattle.cca_base.specs.Steps.{Step, Reach, support, AreReached}
 use Rattle.cca_base.specs.Successors.{Nominal}
 use Rattle.cca_base.specs.Goals.{IsFirstUnreached}
 use Rattle.cca_base.specs.Choice.{PicksForGoal, IsChosenReply}
 use Rattle.cca_base.specs.Plans.{Whole}
 use Rattle.cca_base.specs.Trace.{command_of}
 use Rattle.cca_base.specs.Runs.{TickRecord, reply_at, is_send, is_unreachable}
-use Rattle.std.proofs.lemmas.Option.{same_Some}
 use Rattle.list_laws.proofs.Elements.{contains_middle}
-use Rattle.cca_base.proofs.Members.{all_from, stands_in}
+use Rattle.list_laws.proofs.Members.{all_from}
+use Rattle.cca_base.proofs.Members.{stands_in}
 use Rattle.cca_laws.specs.Laws.{NoneTwice}
 use Rattle.cca_base.proofs.NominalLaws.{one_nominal, nominal_is_free, stays}
 use Rattle.cca_laws.proofs.GoalLaws.{sends_serve, standing_is_reached}
 use Rattle.cca_laws.proofs.OnePick.{one_command}
-use Rattle.trace_laws.specs.Served.{IsReached, IsMeasure}
+use Rattle.trace_laws.specs.Served.{IsMeasure}
 
 -- ---- steps
 
@@ -41,10 +41,10 @@ step_is_nominal m s k t state step =
     inl (step.move, record { of_model = step.of_model; command = ap Some (sym step.command); source = step.source; guard = step.guard s state (supported m s k t step) }, step.gives)
 
 module _ (b : CompiledModel) (good : WellFormed b.model) (goal : List Pair) where
-  pub one_step : (s : List ℕ) (k : ℕ) (t u : List ℕ) → IsState b.model s → Step b.model s k t → Step b.model s k u → t ≡ u
+  one_step : (s : List ℕ) (k : ℕ) (t u : List ℕ) → IsState b.model s → Step b.model s k t → Step b.model s k u → t ≡ u
   one_step s k t u state h g = one_nominal b.model s (Some k) t u good.commands (step_is_nominal b.model s k t state h) (step_is_nominal b.model s k u state g)
 
-  pub step_state : (s : List ℕ) (k : ℕ) (t : List ℕ) → IsState b.model s → Step b.model s k t → IsState b.model t
+  step_state : (s : List ℕ) (k : ℕ) (t : List ℕ) → IsState b.model s → Step b.model s k t → IsState b.model t
   step_state s k t state h = (nominal_is_free b.model s t (Some k) good state (step_is_nominal b.model s k t state h)).state
 
   -- ---- how many picked commands are left
@@ -52,7 +52,7 @@ module _ (b : CompiledModel) (good : WellFormed b.model) (goal : List Pair) wher
   -- after at most n picked commands the goal stands
   abbrev pub Left : ℕ → List ℕ → Type 0
   Left zero s = Extends s goal
-  Left (suc n) s = (k : ℕ) (next : List ℕ) → PicksForGoal b s goal k → Step b.model s k next → IsReached b.model next goal → Left n next
+  Left (suc n) s = (k : ℕ) (next : List ℕ) → PicksForGoal b s goal k → Step b.model s k next → AreReached b.model next goal → Left n next
 
   pub left_of_whole : NoneTwice b.order → (ks : List ℕ) (s last : List ℕ) → IsState b.model s → Whole b goal s ks last → Left (length ks) s
   left_of_whole once [] s last state h = h.0
@@ -61,7 +61,7 @@ module _ (b : CompiledModel) (good : WellFormed b.model) (goal : List Pair) wher
       let there : next ≡ other = one_step s l next other state (subst (λ n. Step b.model s n next) same step) taken in
       subst (Left (length ks)) there (left_of_whole once ks next last (step_state s k next state step) rest)
 
-  pub left_of_measure : (left : List ℕ → ℕ) → IsMeasure b goal left → (n : ℕ) (s : List ℕ) → IsState b.model s → IsReached b.model s goal → left s ≤ n → Left n s
+  pub left_of_measure : (left : List ℕ → ℕ) → IsMeasure b goal left → (n : ℕ) (s : List ℕ) → IsState b.model s → AreReached b.model s goal → left s ≤ n → Left n s
   left_of_measure left h zero s state reached below = h.stands s state reached (omega (arith, below))
   left_of_measure left h (suc n) s state reached below = λ k next picks step again.
       left_of_measure left h n next (step_state s k next state step) again (omega (arith, below, h.falls s next k state reached picks step))
@@ -141,10 +141,10 @@ module _ (b : CompiledModel) (good : WellFormed b.model) (goal : List Pair) wher
     stands = late_stands n t ts h;
   }
 
-  unreached : (s : List ℕ) (p : Pair) → IsReached b.model s goal → IsFirstUnreached b.model s goal p → ⊥
+  unreached : (s : List ℕ) (p : Pair) → AreReached b.model s goal → IsFirstUnreached b.model s goal p → ⊥
   unreached s p h k = k.unreached (All-contains (λ q. Reach b.model s q.item q.value) goal p h (subst (λ l. Contains l p) (sym k.split) (contains_middle k.before k.after p)))
 
-  pub served : (n : ℕ) (s : List ℕ) (ts : List TickRecord) → IsState b.model s → IsReached b.model s goal → Left n s → Serving s ts → IsServed n ts
+  pub served : (n : ℕ) (s : List ℕ) (ts : List TickRecord) → IsState b.model s → AreReached b.model s goal → Left n s → Serving s ts → IsServed n ts
   served n s [] state reached left h = served_achieved n [] (All-nil Achieves)
   served n s (t ∷ ts) state reached left (Achieved, e, chosen, next, moves, rest) =
       served_achieved n (t ∷ ts) (achieved s (t ∷ ts) chosen.good (Achieved, e, chosen, next, moves, rest))
@@ -155,7 +155,7 @@ module _ (b : CompiledModel) (good : WellFormed b.model) (goal : List Pair) wher
       let plan = chosen.good.1 in
       let step : Step b.model s k plan.plan.0 = plan.plan.1.step in
       let there : plan.plan.0 ≡ next = one_nominal b.model s (Some k) plan.plan.0 next good.commands (step_is_nominal b.model s k plan.plan.0 state step) moves in
-      let again : IsReached b.model plan.plan.0 goal = λ i d within. (plan.others, plan.last, plan.plan.2, plan.stands i d within) in
+      let again : AreReached b.model plan.plan.0 goal = λ i d within. (plan.others, plan.last, plan.plan.2, plan.stands i d within) in
       served_after n k t ts e
-      (served n next ts (subst (IsState b.model) there (step_state s k plan.plan.0 state step)) (subst (λ z. IsReached b.model z goal) there again)
+      (served n next ts (subst (IsState b.model) there (step_state s k plan.plan.0 state step)) (subst (λ z. AreReached b.model z goal) there again)
       (subst (Left n) there (left k plan.plan.0 (chosen.picked k refl) step again)) rest)

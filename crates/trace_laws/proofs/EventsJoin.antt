@@ -124,32 +124,32 @@ module _ (b : CompiledModel) (answers : ReplyRule) where
   next_may_come x event.Reset y None events k (may, z, change, rest) = (may, after_change x event.Reset y z events k change rest)
   next_may_come x event.Reset y (Some report) events k h = absurd k.0
 
-  -- an event that may come, before others that may come after it
-  may_come_before : (x : ExecutiveState) (e : Event) (y : ExecutiveState) (report : Option TickReport) (events : List Event) → Acts b answers x e y report → May' x e → All' y events → All' x (e ∷ events)
-  may_come_before x event.Tick y None events k may h = absurd k
-  may_come_before x event.Tick y (Some report) events k may h =
-      all_alike b.model Keeps events y (record x { pending = [] }) (back (record x { pending = [] }) y (tick_alike b.model answers x report.shown y k.2)) h
-  may_come_before x (event.Goal pairs) y None events k may h = (may, y, k, h)
-  may_come_before x (event.Goal pairs) y (Some report) events k may h = absurd k.0
-  may_come_before x event.Clear y None events k may h = (may, y, k, h)
-  may_come_before x event.Clear y (Some report) events k may h = absurd k.0
-  may_come_before x (event.Observe pairs) y None events k may h = (may, y, k, h)
-  may_come_before x (event.Observe pairs) y (Some report) events k may h = absurd k.0
-  may_come_before x (event.Fault p) y None events k may h = (may, y, k, h)
-  may_come_before x (event.Fault p) y (Some report) events k may h = absurd k.0
-  may_come_before x (event.Mirror v) y None events k may h = (may, y, k, h)
-  may_come_before x (event.Mirror v) y (Some report) events k may h = absurd k.0
-  may_come_before x event.Reset y None events k may h = (may, y, k, h)
-  may_come_before x event.Reset y (Some report) events k may h = absurd k.0
+  -- an event that may come, before those that may come where it leads
+  pub event_first : (x : ExecutiveState) (e : Event) (y : ExecutiveState) (report : Option TickReport) (events : List Event) → May' x e → Acts b answers x e y report → All' y events → All' x (e ∷ events)
+  event_first x (event.Goal pairs) y None events may h rest = (may, y, h, rest)
+  event_first x event.Clear y None events may h rest = (may, y, h, rest)
+  event_first x (event.Observe pairs) y None events may h rest = (may, y, h, rest)
+  event_first x (event.Fault p) y None events may h rest = (may, y, h, rest)
+  event_first x (event.Mirror v) y None events may h rest = (may, y, h, rest)
+  event_first x event.Reset y None events may h rest = (may, y, h, rest)
+  event_first x event.Tick y None events may h rest = absurd h
+  event_first x (event.Goal pairs) y (Some report) events may h rest = absurd h.0
+  event_first x event.Clear y (Some report) events may h rest = absurd h.0
+  event_first x (event.Observe pairs) y (Some report) events may h rest = absurd h.0
+  event_first x (event.Fault p) y (Some report) events may h rest = absurd h.0
+  event_first x (event.Mirror v) y (Some report) events may h rest = absurd h.0
+  event_first x event.Reset y (Some report) events may h rest = absurd h.0
+  event_first x event.Tick y (Some report) events may h rest =
+      all_alike b.model Keeps events y (record x { pending = [] }) (back (record x { pending = [] }) y (tick_alike b.model answers x report.shown y h.2)) rest
 
   -- ---- one event more
 
   pub one_more_may_come : (x y z : ExecutiveState) (events : List Event) (e : Event) (reports : List TickReport) (report : Option TickReport)
       → Makes b answers x events y reports → All' x events → May' y e → Acts b answers y e z report → All' x (events ++ e ∷ [])
-  one_more_may_come x y z [] e reports report made all may acts = subst (λ w. All' w (e ∷ [])) made.0 (may_come_before y e z report [] acts may tt)
+  one_more_may_come x y z [] e reports report made all may acts = subst (λ w. All' w (e ∷ [])) made.0 (event_first y e z report [] may acts tt)
   one_more_may_come x y z (d ∷ events) e reports report (w, first, others, act, made, split) all may acts =
       let next = next_may_come x d w first events act all in
-      may_come_before x d w first (events ++ e ∷ []) act next.0 (one_more_may_come w y z events e others report made next.1 may acts)
+      event_first x d w first (events ++ e ∷ []) next.0 act (one_more_may_come w y z events e others report made next.1 may acts)
 
   append_nil_right : (l : List TickReport) → l ++ [] ≡ l
   append_nil_right [] = refl
@@ -255,21 +255,3 @@ module _ (b : CompiledModel) (answers : ReplyRule) where
         made_rest = h.made_rest;
         split = split ∙ ap (λ l. option_to_list report ++ l) h.split ∙ sym (append_assoc (option_to_list report) h.first h.rest);
       }
-
-  -- an event that may come, before those that may come where it leads
-  pub event_first : (x : ExecutiveState) (e : Event) (y : ExecutiveState) (report : Option TickReport) (events : List Event) → May' x e → Acts b answers x e y report → All' y events → All' x (e ∷ events)
-  event_first x (event.Goal pairs) y None events may h rest = (may, y, h, rest)
-  event_first x event.Clear y None events may h rest = (may, y, h, rest)
-  event_first x (event.Observe pairs) y None events may h rest = (may, y, h, rest)
-  event_first x (event.Fault p) y None events may h rest = (may, y, h, rest)
-  event_first x (event.Mirror v) y None events may h rest = (may, y, h, rest)
-  event_first x event.Reset y None events may h rest = (may, y, h, rest)
-  event_first x event.Tick y None events may h rest = absurd h
-  event_first x (event.Goal pairs) y (Some report) events may h rest = absurd h.0
-  event_first x event.Clear y (Some report) events may h rest = absurd h.0
-  event_first x (event.Observe pairs) y (Some report) events may h rest = absurd h.0
-  event_first x (event.Fault p) y (Some report) events may h rest = absurd h.0
-  event_first x (event.Mirror v) y (Some report) events may h rest = absurd h.0
-  event_first x event.Reset y (Some report) events may h rest = absurd h.0
-  event_first x event.Tick y (Some report) events may h rest =
-      all_alike b.model Keeps events y (record x { pending = [] }) (back (record x { pending = [] }) y (tick_alike b.model answers x report.shown y h.2)) rest

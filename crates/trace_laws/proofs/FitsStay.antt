@@ -4,6 +4,7 @@ use Rattle.std.specs.Prelude.{IfSome}
 use Rattle.std.proofs.lemmas.Bool.{false≢true, eqb-true, cases_eq, cases_Bool}
 use Rattle.std.proofs.lemmas.List.Elements.{All-nil, All-cons, All-contains}
 use Rattle.std.proofs.lemmas.List.Sorted.{All-permutation}
+use Rattle.list_laws.proofs.Members.{all_from}
 use Rattle.cca_base.specs.declared.cube.Pair.{Pair}
 use Rattle.cca_base.specs.declared.events.Event.{Event}
 use Rattle.cca_base.specs.declared.events.Event.TheVariants as event
@@ -19,7 +20,6 @@ use Rattle.cca_base.specs.Orders.{IsSorted}
 use Rattle.cca_base.specs.State.{IsState, HasValue}
 use Rattle.cca_base.specs.Trace.{ExecutiveState, start, ReplyRule, Changes, MayBeGoal, MayBeObserved, MayBeSeen, MayCome, AllMayCome, TickShows, command_of}
 use Rattle.cca_base.specs.Runs.{TickRecord, Ticks}
-use Rattle.cca_base.proofs.Members.{all_from}
 use Rattle.cca_base.proofs.SetLaws.{has-empty, has-with_number}
 use Rattle.cca_base.proofs.NominalLaws.{nominal_is_free, moved}
 use Rattle.trace_laws.specs.Events.{Acts}

@@ -2,7 +2,7 @@
 use Rattle.std.proofs.Common.{◌≡◌, ◌<◌, ◌≤◌, ◌+◌, ◌-◌, ℕ, zero, suc, false, List, [], ◌∷◌, length, take, drop, Some, All, slice_get, refl, sym, ap, subst, ◌∙◌, arith}
 use Rattle.std.specs.Prelude.{IfSome}
 use Rattle.std.proofs.lemmas.List.Elements.{All-contains, All-head, All-tail, All-weaker}
-use Rattle.std.proofs.lemmas.Option.{slice_get_within, get_or_from_slice_get}
+use Rattle.std.proofs.lemmas.Option.{slice_get_within, get_or_from_slice_get, same_Some}
 use Rattle.cca_base.specs.declared.cube.Pair.{Pair}
 use Rattle.cca_base.specs.declared.events.Event.{Event}
 use Rattle.cca_base.specs.declared.events.Event.TheVariants as event
@@ -21,7 +21,6 @@ use Rattle.cca_base.specs.Successors.{Nominal}
 use Rattle.cca_base.specs.Choice.{IsChosenReply}
 use Rattle.cca_base.specs.Trace.{ExecutiveState, start, ReplyRule, GoalOrder, Changes, IsReply, command_of, TickShows}
 use Rattle.cca_base.specs.Runs.{TickRecord, Trace, IsRight, HasEstimate, LeavesPlantAlone, LeavesPlantAndGoalAlone, reply_of, reply_at, is_unreachable, stretch, IsStretch, ServesGoal, Within}
-use Rattle.std.proofs.lemmas.Option.{same_Some}
 use Rattle.list_laws.proofs.Places.{get_take}
 use Rattle.cca_laws.proofs.GoalLaws.{sends_serve}
 use Rattle.cca_laws.proofs.OneOrder.{compiled_none_twice}
@@ -29,7 +28,8 @@ use Rattle.trace_laws.specs.Events.{Becomes}
 use Rattle.trace_laws.specs.Fits.{IsKeptGoal}
 use Rattle.trace_laws.specs.Held.{IsHeldStretch}
 use Rattle.cca_base.specs.Plans.{CanBeServed}
-use Rattle.trace_laws.specs.Served.{IsReached, ServesGoals, MeasuresGoals}
+use Rattle.cca_base.specs.Steps.{AreReached}
+use Rattle.trace_laws.specs.Served.{ServesGoals, MeasuresGoals}
 use Rattle.trace_laws.specs.Laws.{EventsMayCome, GoalsAreServed, MeasuredGoalsAreServed, PromisesAreKept}
 use Rattle.trace_laws.proofs.TicksLink.{Linked, linked}
 use Rattle.trace_laws.proofs.StaysRight.{stays_right}
@@ -147,7 +147,7 @@ module _ (b : CompiledModel) (good : WellFormed b.model) (goal : List Pair) wher
       (serving y ts rest (All-tail HasGoal t ts goals) (All-tail IsQuiet t ts quiet) (All-tail IsRight t ts right))
 
   -- a goal that is not said to be unreachable is reached
-  reached : (s : List ℕ) (reply : Reply) → IsChosenReply b s goal reply → is_unreachable (Some reply) ≡ false → IsReached b.model s goal
+  reached : (s : List ℕ) (reply : Reply) → IsChosenReply b s goal reply → is_unreachable (Some reply) ≡ false → AreReached b.model s goal
   reached s Idle h e = absurd h.good
   reached s (Send k) h e = (sends_serve b.model s goal k h.good).1
   reached s Achieved h e = λ i d within. ([], s, refl, h.good i d within)
@@ -156,7 +156,7 @@ module _ (b : CompiledModel) (good : WellFormed b.model) (goal : List Pair) wher
   -- a stretch that begins with a tick
   pub record Begins (t : TickRecord) (ts : List TickRecord) : Type 0 where
     pub state : IsState b.model t.before.plant
-    pub reached : IsReached b.model t.before.plant goal
+    pub reached : AreReached b.model t.before.plant goal
     serving : Serving b good goal t.before.plant (t ∷ ts)
 
   begins : (x : ExecutiveState) (t : TickRecord) (ts : List TickRecord) → Linked b (IsChosenReply b) x (t ∷ ts) → All HasGoal (t ∷ ts) → All IsQuiet ts → All IsRight (t ∷ ts) → is_unreachable (reply_at t) ≡ false → Begins t ts
@@ -187,7 +187,7 @@ module _ (b : CompiledModel) (good : WellFormed b.model) (goal : List Pair) wher
   }
 
   pub stretch_served : (number : ℕ) (x : ExecutiveState) (ticks : List TickRecord) (i j : ℕ) → Linked b (IsChosenReply b) x ticks → IsHeldStretch ticks goal i j
-      → ((t : TickRecord) → slice_get ticks i ≡ Some t → IsState b.model t.before.plant → IsReached b.model t.before.plant goal → LeftWithin number t.before.plant) → ServesGoal number ticks i j
+      → ((t : TickRecord) → slice_get ticks i ≡ Some t → IsState b.model t.before.plant → AreReached b.model t.before.plant goal → LeftWithin number t.before.plant) → ServesGoal number ticks i j
   stretch_served number x ticks i j linked h left =
       let first : (t : TickRecord) × IsAt ticks i t = at_place ticks i (omega (arith, h.rising, h.within)) in
       let t : TickRecord = first.0 in

@@ -10,7 +10,7 @@ use Rattle.cca_base.specs.declared.events.Reply.{Reply}
 use Rattle.cca_base.specs.declared.events.Reply.TheVariants.{Send, Achieved, Unreachable}
 use Rattle.cca_base.specs.Runs.{TickRecord, IsRight, IsStretch, LeavesPlantAlone, LeavesPlantAndGoalAlone, reply_at, is_send, is_unreachable}
 use Rattle.cca_laws.specs.Examples.{lit}
-use Rattle.cca_laws.proofs.Tiny.{one_at, two_at}
+use Rattle.list_laws.proofs.Few.{one_at, two_at}
 use Rattle.trace_laws.specs.Examples.{sent_on}
 use Rattle.trace_laws.specs.Held.{IsHeldStretch}
 use Rattle.trace_laws.specs.HeldExamples.{HeldIsExcused, HeldIsLost, HeldIsServed, HeldSentTwice, IsNoneHeld, asked_again, held_ticks, other_goal, wrong_estimate}

@@ -1,6 +1,6 @@
 -- A lamp that is to be lit.
 use Rattle.std.proofs.Common.{◌≡◌, ◌<◌, ◌≤◌, ℕ, zero, suc, true, false, List, [], ◌∷◌, Option, None, Some, All, Contains, slice_get, inl, inr, refl, sym, ap, subst, ◌∙◌, arith}
-use Rattle.std.proofs.lemmas.Bool.{false≢true}
+use Rattle.std.proofs.lemmas.Bool.{false≢true, true≢false}
 use Rattle.std.proofs.lemmas.List.Elements.{All-head, All-nil}
 use Rattle.cca_base.specs.declared.cube.Pair.{Pair}
 use Rattle.cca_base.specs.declared.events.Event.{Event}
@@ -13,9 +13,9 @@ use Rattle.cca_base.specs.Trace.{Observed}
 use Rattle.cca_base.specs.Runs.{TickRecord, IsStretch, IsRight, LeavesPlantAlone, LeavesPlantAndGoalAlone, ComesAfterRight, CanBeSeen, reply_at, is_send, is_unreachable}
 use Rattle.cca_base.proofs.SetLaws.{has-empty}
 use Rattle.std.proofs.lemmas.Option.{same_Some}
-use Rattle.cca_base.proofs.Members.{contains_none}
+use Rattle.list_laws.proofs.Members.{contains_none}
 use Rattle.cca_laws.specs.Examples.{lamp, lit}
-use Rattle.cca_laws.proofs.Tiny.{one_at, two_at}
+use Rattle.list_laws.proofs.Few.{one_at, two_at}
 use Rattle.trace_laws.specs.Examples.{lit_record, sent_on, lit_ticks, LitIsServed, SentTwiceIsNotServed, LostIsNotServed, SentAgainIsNotServed, OthersAreExcused, SilentIsNotRight, silent, dear}
 
 -- two right ticks of the goal, with nothing between them, of which the first does not say unreachable
@@ -56,9 +56,6 @@ not_achieved k e = absurd cc
 pub lost : (c mode : ℕ) → ◌≡◌ {A = Option Reply} (Some (Unreachable c mode)) (Some Achieved) → ⊥
 lost c mode e = absurd cc
 
-true_false : true ≡ false → ⊥
-true_false e = false≢true (sym e)
-
 pub sent_twice : SentTwiceIsNotServed
 sent_twice h = not_achieved 1 ((h lit 0 1 (two_ticks 0 1 (event.Goal lit ∷ []) None (Some 0) 0 1 (Send 0) (Send 1) refl)).stands 1 (lit_record 1 [] (Some 0) 1 (Send 1)) (omega arith) (omega arith) refl)
 
@@ -67,7 +64,7 @@ lost_is_not h = lost 0 1 ((h lit 0 1 (two_ticks 0 1 (event.Goal lit ∷ []) None
 
 pub sent_again : SentAgainIsNotServed
 sent_again h =
-    true_false
+    true≢false
     ((h lit 0 1 (two_ticks 0 1 (event.Goal lit ∷ []) None None 1 1 Achieved (Send 1) refl)).stays 0 1 (lit_record 0 (event.Goal lit ∷ []) None 1 Achieved) (lit_record 1 [] None 1 (Send 1)) (omega arith) (omega arith) (omega arith) refl refl refl)
 
 -- an event between two ticks that is not quiet
@@ -77,7 +74,7 @@ disturbed t u e loud is h =
 
 pub others_excused : OthersAreExcused
 others_excused = (
-  λ h. true_false (h.reachable (lit_record 0 (event.Goal lit ∷ []) None 0 (Unreachable 0 1)) refl),
+  λ h. true≢false (h.reachable (lit_record 0 (event.Goal lit ∷ []) None 0 (Unreachable 0 1)) refl),
   λ h. disturbed sent_on (lit_record 1 (event.Goal lit ∷ []) (Some 0) 1 (Send 1)) (event.Goal lit) (λ z. z) refl h,
   λ h. disturbed sent_on (lit_record 1 (event.Fault (record { item = 0; value = 0 }) ∷ []) (Some 0) 0 (Send 0)) (event.Fault (record { item = 0; value = 0 })) (λ z. z) refl h,
 )

@@ -2,7 +2,6 @@ pub mod TicksLink
 pub mod StaysRight
 pub mod CommandsServe
 pub mod EventsJoin
-pub mod WeakerReplies
 pub mod FitsStay
 pub mod GoalsServed
 mod HeldTicks

@@ -2,15 +2,14 @@
 use Rattle.std.proofs.Common.{◌≡◌, ◌<◌, ℕ, zero, suc, true, false, if◌then◌else◌, List, [], ◌∷◌, Some, inl, inr, refl, sym, ap, ◌∙◌, arith}
 use Rattle.std.specs.Prelude.{slice_get, slice_index}
 use Rattle.std.proofs.lemmas.Bool.{false≢true}
-use Rattle.std.proofs.lemmas.Option.{slice_get-get_or}
+use Rattle.std.proofs.lemmas.Option.{slice_get-get_or, none-some, same_Some}
 use Rattle.cca_base.specs.declared.cube.Pair.{Pair}
 use Rattle.cca_base.specs.declared.events.Event.TheVariants as event
 use Rattle.cca_base.specs.Sets.{has}
 use Rattle.cca_base.specs.State.{IsWorld}
 use Rattle.cca_base.specs.Runs.{CanBeSeen, LeavesPlantAlone}
-use Rattle.std.proofs.lemmas.Option.{none-some, same_Some}
-use Rattle.cca_base.proofs.Members.{contains_cases, contains_none, contains_here}
-use Rattle.cca_laws.proofs.Tiny.{one_at}
+use Rattle.list_laws.proofs.Members.{contains_cases, contains_none, contains_here}
+use Rattle.list_laws.proofs.Few.{one_at}
 use Rattle.cca_laws.proofs.ValveExamples.{rule_is, start_world}
 use Rattle.cca_laws.proofs.RightExamples.{wrong}
 use Rattle.cca_laws.specs.Examples.{always_true}

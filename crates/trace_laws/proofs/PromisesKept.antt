@@ -16,7 +16,7 @@ use Rattle.trace_laws.specs.Laws.{PromisingTracesKeep, PromisingTracesHold}
 use Rattle.trace_laws.proofs.TicksLink.{Linked, linked, came, Came}
 use Rattle.trace_laws.proofs.StaysRight.{stays_right}
 use Rattle.trace_laws.proofs.GoalsServed.{held, stretch_served, plan_left, right_at, goal_at}
-use Rattle.trace_laws.proofs.WeakerReplies.{ticks_too}
+use Rattle.cca_laws.proofs.WeakerReplies.{ticks_too}
 
 module _ (b : CompiledModel) where
   -- a right tick whose reply does not say unreachable shows that the goal can be served

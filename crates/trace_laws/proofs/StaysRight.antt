@@ -1,16 +1,15 @@
 -- Right estimates stay right.
-use Rattle.std.proofs.Common.{◌≡◌, ◌<◌, ◌≤◌, ◌⊎◌, ℕ, zero, suc, false, List, [], ◌∷◌, ◌++◌, length, map, All, slice_get, slice_index, inl, inr, refl, sym, ap, subst, ◌∙◌, arith}
+use Rattle.std.proofs.Common.{◌≡◌, ◌≤◌, ◌⊎◌, ℕ, false, List, [], ◌∷◌, ◌++◌, All, slice_get, inl, inr, refl, sym, ap, subst, ◌∙◌, arith}
 use Rattle.std.proofs.lemmas.Bool.{false≢true}
 use Rattle.std.proofs.lemmas.List.Elements.{All-head, All-tail}
 use Rattle.cca_base.specs.declared.cube.Pair.{Pair}
-use Rattle.cca_base.specs.declared.model.Component.{Component}
 use Rattle.cca_base.specs.declared.events.Event.{Event}
 use Rattle.cca_base.specs.declared.events.Event.TheVariants as event
 use Rattle.cca_base.specs.declared.events.Shown.{Shown}
 use Rattle.cca_base.specs.declared.events.Shown.TheVariants.{Estimated, Unexplained, Holding}
 use Rattle.cca_base.specs.PlantModel.{PlantModel}
 use Rattle.cca_base.specs.Accepted.{CompiledModel}
-use Rattle.cca_base.specs.Model.{WellFormed, IsComponent}
+use Rattle.cca_base.specs.Model.{WellFormed}
 use Rattle.cca_base.specs.Orders.{IsSorted}
 use Rattle.cca_base.specs.State.{IsState, IsWorld, Extends, start_modes}
 use Rattle.cca_base.specs.Successors.{Nominal}
@@ -26,13 +25,6 @@ use Rattle.cca_laws.proofs.OneTrace.{one_seen}
 use Rattle.trace_laws.specs.Events.{Becomes}
 use Rattle.trace_laws.specs.Laws.{RightStaysRight}
 use Rattle.trace_laws.proofs.TicksLink.{Linked, linked, came, Came}
-
--- ---- the start
-
-starts_within : (cs : List Component) (c : ℕ) → All IsComponent cs → c < length cs → slice_index (map (λ x. x.start) cs) c < slice_index (map (λ x. length x.modes) cs) c
-starts_within [] c all within = absurd (omega arith)
-starts_within (x ∷ cs) zero all within = (All-head IsComponent x cs all).start
-starts_within (x ∷ cs) (suc c) all within = starts_within cs c (All-tail IsComponent x cs all) (omega arith)
 
 -- ---- in step
 

@@ -1,6 +1,5 @@
 -- A lamp that is to be lit, where the goal is set anew before each tick, as a control program does.
 use Rattle.std.specs.Prelude.{ℕ, List, [], ◌∷◌, Option, None, Some}
-use Rattle.cca_base.specs.declared.events.Event.{Event}
 use Rattle.cca_base.specs.declared.events.Event.TheVariants as event
 use Rattle.cca_base.specs.declared.events.Reply.{Reply}
 use Rattle.cca_base.specs.declared.events.Reply.TheVariants.{Send, Achieved, Unreachable}

@@ -1,7 +1,9 @@
 -- The names of a well-formed model, and details of refusals, are ASCII.
-use Rattle.std.proofs.Common.{◌≡◌, ℕ, zero, suc, ◌<◌, ◌++◌, true, List, [], ◌∷◌, drop, All, IsAscii, flat_map, arith}
+use Rattle.std.proofs.Common.{◌≡◌, ℕ, zero, suc, ◌<◌, true, List, [], ◌∷◌, drop, All, IsAscii, flat_map, arith}
 use Rattle.std.specs.List.{list_all}
 use Rattle.std.proofs.lemmas.List.Elements.{All-head, All-tail, All-weaker}
+use Rattle.std.proofs.lemmas.Str.Ascii.{IsAscii-cons}
+use Rattle.std.proofs.lemmas.Str.{IsAscii-append}
 use Rattle.cca_base.specs.declared.cube.Pair.{Pair}
 use Rattle.cca_base.specs.declared.model.Component.{Component}
 use Rattle.cca_base.specs.declared.model.Move.{Move}
@@ -20,21 +22,13 @@ use Rattle.trace_text.specs.Json.{HasAsciiNames}
 ascii_none : IsAscii []
 ascii_none i = omega arith
 
-ascii_more : (x : ℕ) (xs : List ℕ) → x < 128 → IsAscii xs → IsAscii (x ∷ xs)
-ascii_more x xs h k zero = h
-ascii_more x xs h k (suc i) = k i
-
-ascii_both : (xs ys : List ℕ) → IsAscii xs → IsAscii ys → IsAscii (xs ++ ys)
-ascii_both [] ys h k = k
-ascii_both (x ∷ xs) ys h k = ascii_more x (xs ++ ys) (h 0) (ascii_both xs ys (λ i. h (suc i)) k)
-
 ascii_tail : (xs : List ℕ) → IsAscii xs → IsAscii (drop 1 xs)
 ascii_tail [] h = h
 ascii_tail (x ∷ xs) h = λ i. h (suc i)
 
 ascii_each : {X : Type 0} (f : X → List ℕ) → ((x : X) → IsAscii (f x)) → (xs : List X) → IsAscii (flat_map f xs)
 ascii_each f h [] = ascii_none
-ascii_each f h (x ∷ xs) = ascii_both (f x) (flat_map f xs) (h x) (ascii_each f h xs)
+ascii_each f h (x ∷ xs) = IsAscii-append (f x) (flat_map f xs) (h x) (ascii_each f h xs)
 
 -- ---- names
 
@@ -43,7 +37,7 @@ word_below b h = grind arith
 
 words_below : (bs : List ℕ) → list_all is_word_byte bs ≡ true → IsAscii bs
 words_below [] h = ascii_none
-words_below (b ∷ bs) h = grind (arith, word_below b, words_below bs, ascii_more b bs)
+words_below (b ∷ bs) h = grind (arith, word_below b, words_below bs, IsAscii-cons b bs)
 
 name_ascii : (name : List ℕ) → IsName name → IsAscii name
 name_ascii name h = words_below name (word_bytes name h)
@@ -77,7 +71,7 @@ mode_ascii (x ∷ cs) h (suc c) mode = mode_ascii cs (All-tail HasAsciiNames x c
 part_ascii : (between : ℕ) → between < 128 → (cs : List Component) → All HasAsciiNames cs → (c mode : ℕ) → IsAscii (mode_text_at between cs c mode)
 part_ascii between small [] h c mode = ascii_none
 part_ascii between small (x ∷ cs) h zero mode =
-    let names = All-head HasAsciiNames x cs h in ascii_both x.name (between ∷ name_at x.modes mode) names.name (ascii_more between (name_at x.modes mode) small (names.modes mode))
+    let names = All-head HasAsciiNames x cs h in IsAscii-append x.name (between ∷ name_at x.modes mode) names.name (IsAscii-cons between (name_at x.modes mode) small (names.modes mode))
 part_ascii between small (x ∷ cs) h (suc c) mode = part_ascii between small cs (All-tail HasAsciiNames x cs h) c mode
 
 pair_ascii : (cs : List Component) → All HasAsciiNames cs → (c mode : ℕ) → IsAscii (pair_text_at cs c mode)
@@ -86,23 +80,23 @@ pair_ascii = part_ascii 61 (omega arith)
 move_ascii : (m : PlantModel) → WellFormed m → (x : Move) → IsAscii (move_text m x)
 move_ascii m h x =
     let source = part_ascii 32 (omega arith) m.components (ascii_components m h) x.component x.source in
-    ascii_both (mode_text_at 32 m.components x.component x.source) (32 ∷ name_at m.commands x.command) source
-    (ascii_more 32 (name_at m.commands x.command) (omega arith) (command_ascii m h x.command))
+    IsAscii-append (mode_text_at 32 m.components x.component x.source) (32 ∷ name_at m.commands x.command) source
+    (IsAscii-cons 32 (name_at m.commands x.command) (omega arith) (command_ascii m h x.command))
 
 moves_ascii : (m : PlantModel) → WellFormed m → (moves : List Move) (k : ℕ) → IsAscii (move_text_at m moves k)
 moves_ascii m h [] k = ascii_none
-moves_ascii m h (x ∷ moves) zero = ascii_more 32 (move_text m x) (omega arith) (move_ascii m h x)
+moves_ascii m h (x ∷ moves) zero = IsAscii-cons 32 (move_text m x) (omega arith) (move_ascii m h x)
 moves_ascii m h (x ∷ moves) (suc k) = moves_ascii m h moves k
 
 detail_ascii : (m : PlantModel) → WellFormed m → (d : Detail) → IsAscii (detail_text m d)
 detail_ascii m h Nothing = ascii_none
 detail_ascii m h (Pairs cube) =
     ascii_each (λ (p : Pair). 32 ∷ pair_text_at m.components p.item p.value)
-    (λ p. ascii_more 32 (pair_text_at m.components p.item p.value) (omega arith) (pair_ascii m.components (ascii_components m h) p.item p.value)) cube
+    (λ p. IsAscii-cons 32 (pair_text_at m.components p.item p.value) (omega arith) (pair_ascii m.components (ascii_components m h) p.item p.value)) cube
 detail_ascii m h (OfMove k) = moves_ascii m h m.moves k
 detail_ascii m h (Components list) =
     ascii_each (λ (c : ℕ). 32 ∷ component_name m.components c)
-    (λ c. ascii_more 32 (component_name m.components c) (omega arith) (component_ascii m.components (ascii_components m h) c)) list
+    (λ c. IsAscii-cons 32 (component_name m.components c) (omega arith) (component_ascii m.components (ascii_components m h) c)) list
 
 -- ---- by the model
 

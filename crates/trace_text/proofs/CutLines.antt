@@ -2,9 +2,10 @@
 use Rattle.std.proofs.Common.{◌≡◌, ◌≢◌, ◌<◌, ◌≤◌, ◌+◌, ◌-◌, ℕ, List, [], ◌∷◌, ◌++◌, All, length, map, take, drop, get_or, Bor, inl, inr, subst, sym, ap, ◌∙◌, arith, append_assoc}
 use Rattle.std.specs.List.{slice_range}
 use Rattle.std.proofs.lemmas.Bool.{cases_lt}
-use Rattle.std.proofs.lemmas.List.{append-nil, map-append, drop-drop, drop_all, drop_more, get_or-drop, get_or-take, length-take, take-append-drop}
+use Rattle.std.proofs.lemmas.List.{append-nil, map-append, drop_all, drop_more, get_or-drop, get_or-take, length-take}
 use Rattle.std.proofs.lemmas.List.Concat.{flat_map-append}
 use Rattle.std.proofs.lemmas.List.Elements.{All-from_get_or, All-push}
+use Rattle.std.proofs.lemmas.List.Folds.{drop_split}
 use Rattle.list_laws.proofs.WordsByPlace.{Words}
 use Rattle.trace_text.specs.Words.{behind_spaces, HasNoSpace, AreWords}
 
@@ -28,17 +29,12 @@ range_apart line words start i h inside =
     let is : get_or (take (i - start) (drop start line)) k 0 ≡ get_or line (start + k) 0 = get_or-take (i - start) (drop start line) k 0 low ∙ get_or-drop start line k 0 in
     h.begun (start + k) (omega arith) (omega (arith, h.within)) (sym is ∙ e))
 
-rejoined : (line : List ℕ) (start i : ℕ) → start ≤ i → slice_range line start i ++ drop i line ≡ drop start line
-rejoined line start i h =
-    let behind : drop (i - start) (drop start line) ≡ drop i line = drop-drop (i - start) start line ∙ ap (λ n. drop n line) (let n : start + (i - start) ≡ i = omega arith in n) in
-    ap (λ t. take (i - start) (drop start line) ++ t) (sym behind) ∙ take-append-drop (i - start) (drop start line)
-
 cut_at_space : (line : List ℕ) (words : List (List ℕ)) (start i : ℕ) → IsCutTo line words start i → i < length line → get_or line i 0 ≡ 32
     → IsCutTo line (words ++ slice_range line start i ∷ []) (i + 1) (i + 1)
 cut_at_space line words start i h inside space =
     let word = slice_range line start i in
     let next : drop i line ≡ 32 ∷ drop (i + 1) line = drop_more line i 0 inside ∙ ap (λ b. b ∷ drop (i + 1) line) space in
-    let whole : word ++ 32 ∷ drop (i + 1) line ≡ drop start line = ap (λ t. word ++ t) (sym next) ∙ rejoined line start i h.within in
+    let whole : word ++ 32 ∷ drop (i + 1) line ≡ drop start line = ap (λ t. word ++ t) (sym next) ∙ sym (drop_split line start i h.within) in
     record {
       within = omega arith;
       cut = one_more_word words word (32 ∷ drop (i + 1) line) ∙ ap (λ t. behind_spaces words ++ 32 ∷ t) whole ∙ h.cut;
@@ -58,7 +54,7 @@ cut_ends line words start i h e =
     let none : drop (length line) line ≡ [] = drop_all (length line) line (omega arith) in
     let within : start ≤ length line = omega (arith, h.within) in
     let word = slice_range line start (length line) in
-    let last : word ≡ drop start line = sym (append-nil word) ∙ ap (λ t. word ++ t) (sym none) ∙ rejoined line start (length line) within in
+    let last : word ≡ drop start line = sym (append-nil word) ∙ ap (λ t. word ++ t) (sym none) ∙ sym (drop_split line start (length line) within) in
     record {
       spaced = sym (append-nil (behind_spaces (words ++ word ∷ []))) ∙ one_more_word words word [] ∙ ap (λ t. behind_spaces words ++ 32 ∷ t) (append-nil word ∙ last) ∙ h.cut;
       apart = All-push HasNoSpace words word h.apart (subst (λ n. HasNoSpace (slice_range line start n)) e (range_apart line words start i h (omega arith)));

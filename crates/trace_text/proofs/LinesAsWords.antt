@@ -2,8 +2,6 @@
 use Rattle.std.proofs.Common.{◌≡◌, ℕ, List, [], ◌∷◌, ◌++◌, All, drop, refl, sym, ap, ◌∙◌, arith}
 use Rattle.std.proofs.lemmas.List.{append_cancel_right}
 use Rattle.std.proofs.lemmas.List.Elements.{All-weaker}
-use Rattle.cca_base.specs.declared.events.PlanEnd.{PlanEnd}
-use Rattle.cca_base.specs.declared.events.PlanEnd.TheVariants as plans
 use Rattle.cca_base.specs.PlantModel.{PlantModel}
 use Rattle.cca_base.specs.Model.{WellFormed}
 use Rattle.trace_text.specs.declared.trace_line.TraceLine.{TraceLine}

@@ -1,10 +1,9 @@
 -- No object of a report or of a refusal has a float.
 use Rattle.std.proofs.Common.{◌≡◌, ℕ, ◌++◌, Bool, true, false, ◌||◌, List, [], ◌∷◌, codes, Ordering, Less, Equal, Greater, nat_cmp, refl}
-use Rattle.std.proofs.lemmas.Bool.{true≢false}
+use Rattle.std.proofs.lemmas.Bool.{true≢false, or_from}
 use Rattle.std.specs.Cmp.Lexicographic.{slice_cmp}
 use Rattle.std.specs.Ordering.{match_ordering}
 use Rattle.std.specs.List.{AllByRecursion}
-use Rattle.list_laws.proofs.Tests.{neither}
 use Rattle.serde_json.specs.Data.{Data, number, unsigned, string, Members, no_members, member, put}
 use Rattle.serde_json.specs.Written.{has_float, members_have_float}
 use Rattle.cca_base.specs.declared.model.Component.{Component}
@@ -32,12 +31,12 @@ one_of Equal a b c x y z = y
 one_of Greater a b c x y z = z
 
 none_put : (k : List ℕ) (d : Data) (ms : Members) → has_float d ≡ false → members_have_float ms ≡ false → members_have_float (put k d ms) ≡ false
-none_put k d no_members h none = neither (has_float d) false h refl
+none_put k d no_members h none = or_from (has_float d) false h refl
 none_put k d (member l e ms) h none =
     let here : has_float e ≡ false = first_of (has_float e) (members_have_float ms) none in
     let later : members_have_float ms ≡ false = second_of (has_float e) (members_have_float ms) none in
-    one_of (slice_cmp nat_cmp k l) (member k d (member l e ms)) (member l d ms) (member l e (put k d ms)) (neither (has_float d) (members_have_float (member l e ms)) h none)
-    (neither (has_float d) (members_have_float ms) h later) (neither (has_float e) (members_have_float (put k d ms)) here (none_put k d ms h later))
+    one_of (slice_cmp nat_cmp k l) (member k d (member l e ms)) (member l d ms) (member l e (put k d ms)) (or_from (has_float d) (members_have_float (member l e ms)) h none)
+    (or_from (has_float d) (members_have_float ms) h later) (or_from (has_float e) (members_have_float (put k d ms)) here (none_put k d ms h later))
 
 -- no value of the list has one
 abbrev HaveNone : List Member → Type 0

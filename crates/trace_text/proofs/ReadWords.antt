@@ -52,6 +52,3 @@ pub other_choice : (name word equation choice : List ℕ) (choices : List (List 
 other_choice name word equation choice choices is sign none k lt e =
     let same : 61 ∷ name_at choices k ≡ 61 ∷ choice = append_cancel_left name (61 ∷ name_at choices k) (61 ∷ choice) (e ∙ sym is ∙ ap (λ t. name ++ t) (sym sign)) in
     none k lt (ap (drop 1) same)
-
-pub chosen : (name word equation choice : List ℕ) (choices : List (List ℕ)) (k : ℕ) → name ++ equation ≡ word → 61 ∷ choice ≡ equation → name_at choices k ≡ choice → choice_text name choices k ≡ word
-chosen name word equation choice choices k is sign at = ap (λ t. name ++ 61 ∷ t) at ∙ ap (λ t. name ++ t) sign ∙ is

@@ -3,9 +3,9 @@ use Rattle.std.proofs.Common.{◌≡◌, ◌≢◌, ◌⊎◌, inl, inr, ℕ, Li
 use Rattle.std.specs.Cmp.Lexicographic.{slice_cmp}
 use Rattle.std.specs.Ordering.{match_ordering}
 use Rattle.std.proofs.lemmas.List.Elements.{All-contains}
-use Rattle.cca_base.proofs.Members.{contains_cases, contains_here, contains_there, contains_none}
 use Rattle.list_laws.proofs.Pairwise.{AllPairs-head, AllPairs-tail}
 use Rattle.list_laws.proofs.Orders.{same_list}
+use Rattle.list_laws.proofs.Members.{contains_cases, contains_here, contains_there, contains_none}
 use Rattle.serde_json.specs.Data.{Data, Members, no_members, member, put}
 use Rattle.trace_text.specs.Json.{Member, with_members}
 use Rattle.trace_text.specs.JsonLaws.{listed, MembersStay}

@@ -1,5 +1,5 @@
 -- Each line of a trace that fits a well-formed model is a text with one LF, at its end, and it isn't long.
-use Rattle.std.proofs.Common.{◌≡◌, ◌≢◌, ◌<◌, ◌≤◌, ◌+◌, ◌*◌, ℕ, Bool, true, false, cond, List, [], ◌∷◌, ◌++◌, All, length, map, drop, refl, sym, ap, subst, arith}
+use Rattle.std.proofs.Common.{◌≡◌, ◌≢◌, ◌<◌, ◌≤◌, ◌+◌, ◌-◌, ◌*◌, ℕ, Bool, true, false, cond, List, [], ◌∷◌, ◌++◌, All, length, map, drop, refl, sym, ap, subst, arith}
 use Rattle.std.proofs.lemmas.List.{length-append, length-map}
 use Rattle.std.proofs.lemmas.List.Concat.{length-flat_map}
 use Rattle.std.proofs.lemmas.List.Elements.{All-append, All-cons, All-head, All-nil, All-tail, All-weaker}
@@ -66,7 +66,7 @@ shown_count m h (Estimated cost state reply) fits =
 shown_count m h Unexplained fits = omega arith
 shown_count m h Holding fits = omega arith
 
-value_count : (m : PlantModel) → WellFormed m → (values : List ℕ) → HasValues m values → length (value_words m.variables values) ≤ 256
+value_count : (m : PlantModel) → WellFormed m → (values : List ℕ) → HasValues m values → length (value_words m.variables values) ≤ MAX_VARIABLES
 value_count m h values fits =
     let all : length (value_words m.variables values) ≡ length (map value_row m.variables) = length-choice_words (map value_row m.variables) values (values_are_chosen m values fits) in
     let many : length (map value_row m.variables) ≡ length m.variables = length-map m.variables value_row in
@@ -74,11 +74,11 @@ value_count m h values fits =
     omega arith
 
 -- an empty word may stand before the commands
-plan_count : (names : List (List ℕ)) (end : PlanEnd) → IsShowablePlan end → length (plan_words names end) ≤ 10001
+plan_count : (names : List (List ℕ)) (end : PlanEnd) → IsShowablePlan end → length (plan_words names end) ≤ MAX_PLAN + 1
 plan_count names plans.Long h = omega arith
 plan_count names (plans.Plan ks) h = go (is_only_long names ks)
   where
-    go : (b : Bool) → length (cond b ([] ∷ []) [] ++ map (name_at names) ks) ≤ 10001
+    go : (b : Bool) → length (cond b ([] ∷ []) [] ++ map (name_at names) ks) ≤ MAX_PLAN + 1
     go true = omega (arith, h, length-map ks (name_at names))
     go false = omega (arith, h, length-map ks (name_at names))
 
@@ -96,7 +96,7 @@ few_bytes words h few =
     omega arith
 
 -- words of at most 32 bytes, as those of a plan, before which the line's own word stands
-plan_bytes : (words : List (List ℕ)) → All IsShortWord words → length words ≤ 10001 → length (behind_spaces words) ≤ 399995
+plan_bytes : (words : List (List ℕ)) → All IsShortWord words → length words ≤ MAX_PLAN + 1 → length (behind_spaces words) ≤ MAX_TRACE_LINE - 5
 plan_bytes words h few =
     let most : length (behind_spaces words) ≤ length words * 33 =
     spaced_length 33 words (All-weaker IsShortWord (λ word. length word < 33) (λ word is. omega (arith, is.short)) words h) in

@@ -21,7 +21,7 @@ Member = List ℕ × Data
 abbrev pub with_members : Members → List Member → Members
 with_members ms more = fold (λ before p. put p.0 p.1 before) ms more
 
--- an object's members
+-- the members of a JSON object
 abbrev pub members_of : List Member → Members
 members_of members = with_members no_members members
 

@@ -31,7 +31,7 @@ value_words variables values = choice_words (map value_row variables) values
 abbrev pub mode_words : List Component → List ℕ → List (List ℕ)
 mode_words components modes = choice_words (map mode_row components) modes
 
--- the reply
+-- the words of a reply
 abbrev pub reply_words : PlantModel → Reply → List (List ℕ)
 reply_words m Idle = codes "idle" ∷ []
 reply_words m (Send command) = codes "send" ∷ name_at m.commands command ∷ []
@@ -59,7 +59,7 @@ abbrev pub plan_words : List (List ℕ) → PlanEnd → List (List ℕ)
 plan_words names plans.Long = codes "long" ∷ []
 plan_words names (plans.Plan plan) = (if is_only_long names plan then [] ∷ [] else []) ++ map (name_at names) plan
 
--- the whole line
+-- the words of a whole line of a trace
 abbrev pub line_words : PlantModel → TraceLine → List (List ℕ)
 line_words m (Tick report) = codes "tick" ∷ report_words m report
 line_words m (World world) = codes "world" ∷ value_words m.variables world.values

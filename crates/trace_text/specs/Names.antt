@@ -42,7 +42,7 @@ HaveChoices (Values variables) = All (λ v. AreChoices v.values) variables.now
 abbrev pub mode_text : ℕ → Component → ℕ → List ℕ
 mode_text between component mode = component.name ++ between ∷ name_at component.modes mode
 
--- the same of a component of the model
+-- the text of a mode of a component of the model
 abbrev pub mode_text_at : ℕ → List Component → ℕ → ℕ → List ℕ
 mode_text_at between components c mode = option_map_or (λ x. mode_text between x mode) (slice_get components c) []
 

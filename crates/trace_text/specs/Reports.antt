@@ -1,5 +1,5 @@
 -- The lines of ticks.
-use Rattle.std.specs.Prelude.{ℕ, List, codes, flat_map}
+use Rattle.std.specs.Prelude.{ℕ, List, codes}
 use Rattle.cca_base.specs.declared.events.TickReport.{TickReport}
 use Rattle.cca_base.specs.PlantModel.{PlantModel}
 use Rattle.trace_text.specs.LineWords.{report_words}
@@ -8,7 +8,3 @@ use Rattle.trace_text.specs.Words.{spaced_line}
 -- the line of a tick's report
 unfoldable pub report_line : PlantModel → TickReport → List ℕ
 report_line m r = spaced_line (codes "tick") (report_words m r)
-
--- the lines of some reports
-abbrev pub reports_text : PlantModel → List TickReport → List ℕ
-reports_text m reports = flat_map (report_line m) reports

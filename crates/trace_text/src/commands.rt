@@ -10,8 +10,8 @@ ghost use Rattle.trace_text.specs.LineWords.{IsReadFrom};
 ghost use Rattle.trace_text.specs.Names.{name_at};
 ghost use Rattle.trace_text.specs.TraceLines.{HasCommand};
 
-use crate::read_parts::place_of;
-use cca_base::{List, MAX_NAME, Model, Name};
+use cca_base::{List, MAX_NAME, MAX_ROWS, Model, Name};
+use formula_syntax::place_of;
 use indexmap::IndexMap;
 use std::alloc::{AllocError, Global};
 
@@ -99,7 +99,7 @@ fn command_by(model: &Model, places: Option<&IndexMap<Name, usize>>, word: &[u8]
     let Some(place) = read_place(model, places, word) else {
         return None;
     };
-    if place < 65536 {
+    if place < MAX_ROWS {
         Some(place as u16)
     } else {
         None

@@ -7,9 +7,10 @@ ghost use Rattle.serde_json.specs.Written.{has_float};
 ghost use Rattle.trace_text.specs.Json.{with_members, reply_members, shown_members, report_object, bare_detail, refusal_object, json_line, report_json, refusal_json};
 
 use crate::members::{modes_value, put_number, put_text, put_word};
-use crate::names::{component_bytes, mode_bytes, name_bytes};
+use crate::names::{component_bytes, mode_bytes};
 use crate::refusal::{code_name, push_detail};
 use cca_base::{List, Model, Refusal, Reply, Shown, TickReport};
+use model_syntax::name_at;
 use serde_json::{Map, Value};
 use std::alloc::{AllocError, Global};
 
@@ -29,7 +30,7 @@ fn put_reply(
         Reply::Achieved => put_word(map, alloc, "answer", "achieved")?,
         Reply::Send(command) => {
             put_word(map, alloc, "answer", "send")?;
-            let name = name_bytes(model.commands().as_slice(), command as usize);
+            let name = name_at(model.commands().as_slice(), command as usize);
             put_text(map, alloc, "command", name)?;
         }
         Reply::Unreachable(c, mode) => {

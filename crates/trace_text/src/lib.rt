@@ -25,6 +25,7 @@ pub use compiled::show_lines;
 pub use json::json_of;
 pub use limits::MAX_TRACE_LINE;
 pub use proof_lines::{route_lines, world_line};
+pub use read_parts::read_count;
 pub use refusal::refusal_line;
 pub use report::line_of;
 pub use target::target_lines;

@@ -6,8 +6,8 @@ ghost use Rattle.serde_json.specs.View.{view, members_view};
 ghost use Rattle.trace_text.specs.Json.{HasAsciiNames, modes_members, modes_object, with_members};
 ghost use Rattle.trace_text.specs.Names.{name_at};
 
-use crate::names::name_bytes;
 use cca_base::Component;
+use model_syntax::name_at;
 use serde_json::{Map, Value};
 use std::alloc::{AllocError, Global};
 
@@ -73,7 +73,7 @@ fn put_mode(
         ≡ put component.now.name (string (name_at component.now.modes mode))
         (members_view map.old.entries)) }
 {
-    let name = name_bytes(component.modes.as_slice(), mode as usize);
+    let name = name_at(component.modes.as_slice(), mode as usize);
     put_text(map, alloc, text_of(component.name.bytes()), name)
 }
 

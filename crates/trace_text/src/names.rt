@@ -5,6 +5,7 @@ ghost use Rattle.std.specs.Fmt.{decimal};
 ghost use Rattle.trace_text.specs.Names.{name_at, choice_text, mode_text, mode_text_at, pair_text, pair_text_at, pairs_text, component_name, components_text, mode_name, move_text, move_text_at};
 
 use cca_base::{Component, Model, Move, Name, Pair};
+use model_syntax::name_at;
 use std::alloc::{AllocError, Global};
 
 pub fn push_number(alloc: Global, out: &mut Vec<u8>, n: u64) -> Result<(), AllocError>
@@ -13,16 +14,6 @@ pub fn push_number(alloc: Global, out: &mut Vec<u8>, n: u64) -> Result<(), Alloc
     let digits = n.to_string(alloc)?;
     out.extend_from_slice(digits.as_bytes())?;
     Ok(())
-}
-
-/// The name at a place, or no bytes.
-pub fn name_bytes(names: &[Name], at: usize) -> &[u8]
-    ensures { result.now ≡ name_at names.now at }
-{
-    match names.get(at) {
-        Some(name) => name.bytes(),
-        None => b"",
-    }
 }
 
 /// The name of a component, or no bytes.
@@ -40,7 +31,7 @@ pub fn mode_bytes(components: &[Component], c: usize, mode: u8) -> &[u8]
     ensures { result.now ≡ mode_name components.now c mode }
 {
     match components.get(c) {
-        Some(component) => name_bytes(component.modes.as_slice(), mode as usize),
+        Some(component) => name_at(component.modes.as_slice(), mode as usize),
         None => b"",
     }
 }
@@ -48,7 +39,7 @@ pub fn mode_bytes(components: &[Component], c: usize, mode: u8) -> &[u8]
 pub fn push_name(out: &mut Vec<u8>, names: &[Name], at: usize) -> Result<(), AllocError>
     ensures { OnOk result (out.new.items ≡ out.old.items ++ name_at names.now at) }
 {
-    out.extend_from_slice(name_bytes(names, at))?;
+    out.extend_from_slice(name_at(names, at))?;
     Ok(())
 }
 

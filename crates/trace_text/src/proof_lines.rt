@@ -6,8 +6,9 @@ ghost use Rattle.trace_text.specs.LineWords.{is_only_long, value_words, plan_wor
 ghost use Rattle.trace_text.specs.ProofLines.{plan_line, route_text, world_line};
 ghost use Rattle.trace_text.specs.Words.{behind_spaces};
 
-use crate::names::{name_bytes, push_choice, push_name};
+use crate::names::{push_choice, push_name};
 use cca_base::{List, Model, Name, PlanEnd, Route, Variable, World};
+use model_syntax::name_at;
 use std::alloc::{AllocError, Global};
 
 /// Each variable with its value, each behind a space.
@@ -44,7 +45,7 @@ fn is_only_long(names: &[Name], plan: &[u16]) -> bool
     ensures { result ≡ is_only_long names.now plan.now }
 {
     match plan {
-        [command] => name_bytes(names, *command as usize) == b"long".as_slice(),
+        [command] => name_at(names, *command as usize) == b"long".as_slice(),
         _ => false,
     }
 }

@@ -5,13 +5,13 @@ ghost use Rattle.std.specs.Fmt.{decimal};
 ghost use Rattle.std.specs.Option.{option_map};
 ghost use Rattle.cca_base.specs.Prelude.{IsState};
 ghost use Rattle.cca_base.specs.declared.limits.TheConstants.{MAX_CHOICES};
-ghost use Rattle.formula_syntax.specs.Lookups.{place_of};
 ghost use Rattle.trace_text.specs.LineWords.{AreChosen, IsReadFrom, mode_words, plan_words, choice_words, value_words};
 ghost use Rattle.trace_text.specs.Names.{HaveChoices, choice_text, name_at, rows_of};
 ghost use Rattle.trace_text.specs.TraceLines.{FitsPlan, HasValues};
 
 use crate::commands::read_commands;
 use cca_base::{Component, List, Model, Name, PlanEnd, Variable};
+use formula_syntax::place_of;
 use std::alloc::{AllocError, Global};
 use text_base::read_number;
 
@@ -48,13 +48,6 @@ fn behind<'a>(word: &'a [u8], prefix: &[u8]) -> Option<&'a [u8]>
     }
     let (front, rest) = word.split_at(prefix.len());
     if front == prefix { Some(rest) } else { None }
-}
-
-/// The first place of a name in a list.
-pub fn place_of(names: &[Name], word: &[u8]) -> Option<usize>
-    ensures { result ≡ place_of names.now word.now }
-{
-    names.iter().position(|name| name.bytes() == word)
 }
 
 /// The place of the name that the word is.

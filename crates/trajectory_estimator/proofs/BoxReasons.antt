@@ -6,10 +6,10 @@ use Rattle.std.proofs.lemmas.Bool.{both_ways}
 use Rattle.std.proofs.lemmas.Option.{slice_get_within}
 use Rattle.list_laws.proofs.Elements.{all_left, all_right}
 use Rattle.list_laws.proofs.Places.{some_at}
+use Rattle.list_laws.proofs.Members.{all_from}
 use Rattle.cca_base.specs.declared.cube.Pair.{Pair}
 use Rattle.cca_base.specs.Model.{WellFormed}
 use Rattle.cca_base.specs.State.{Extends, IsState}
-use Rattle.cca_base.proofs.Members.{all_from}
 use Rattle.trajectory_estimator.specs.Asked.{Asked, IsCommandOf}
 use Rattle.trajectory_estimator.specs.Boxes.{IsBox, IsReason}
 use Rattle.trajectory_estimator.specs.Limits.{IsLimit, meets}

@@ -1,9 +1,9 @@
 -- Boxes all of whose components have their cheapest modes.
 use Rattle.std.proofs.Common.{◌≡◌, ◌<◌, ◌≤◌, ◌+◌, ℕ, length, max, arith, subst}
 use Rattle.std.proofs.Math.Nat.{max-le, le-max_left, le-max_right}
-use Rattle.cca_base.proofs.Members.{all_from}
 use Rattle.cca_base.specs.State.{IsState}
 use Rattle.std.proofs.lemmas.List.Elements.{All-contains}
+use Rattle.list_laws.proofs.Members.{all_from}
 use Rattle.trajectory_estimator.specs.Asked.{Asked}
 use Rattle.trajectory_estimator.specs.Boxes.{IsBox}
 use Rattle.trajectory_estimator.specs.Pieces.{IsBoxTo}

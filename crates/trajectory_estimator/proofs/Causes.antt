@@ -2,6 +2,7 @@
 use Rattle.std.proofs.Common.{◌≡◌, ◌≢◌, inl, inr, ◌<◌, ◌∷◌, ◌++◌, [], ℕ, Bool, true, false, List, length, map, slice_get, Some, Option, All, Contains, refl, sym, ap, subst, ◌∙◌, arith}
 use Rattle.std.proofs.lemmas.List.Elements.{All-append, All-cons, All-head, All-tail, All-contains, All-nil, Contains-append_left, Contains-push, Contains-push_cases}
 use Rattle.std.proofs.lemmas.Option.{slice_get_within, get_or_from_slice_get, same_Some}
+use Rattle.list_laws.proofs.Members.{all_from}
 use Rattle.cca_base.specs.declared.cube.Pair.{Pair}
 use Rattle.cca_base.specs.declared.model.Move.{Move}
 use Rattle.cca_base.specs.PlantModel.{PlantModel}
@@ -9,7 +10,6 @@ use Rattle.cca_base.specs.Accepted.{AreWays, CompiledModel, IsCompiled}
 use Rattle.cca_base.specs.Implicants.{PrimeImplicant, source_pair}
 use Rattle.cca_base.specs.Model.{HasMode, WellFormed}
 use Rattle.cca_base.specs.State.{Extends, IsState}
-use Rattle.cca_base.proofs.Members.{all_from}
 use Rattle.cca_base.proofs.Within.{mode_within}
 use Rattle.trajectory_estimator.specs.Reasons.{AreFailing, IsCause, IsCauseOf, NoCube, pair_limit, Says, ShowsGuard}
 use Rattle.trajectory_estimator.specs.declared.limit.Limit.{Limit}

@@ -5,6 +5,7 @@ use Rattle.std.proofs.lemmas.List.Elements.{All-append, All-cons, All-contains, 
 use Rattle.std.proofs.lemmas.List.{get_or_default}
 use Rattle.std.proofs.lemmas.Slice.Zip.{AllZip-long}
 use Rattle.list_laws.proofs.Places.{some_at, all_at}
+use Rattle.list_laws.proofs.Members.{all_from}
 use Rattle.std.proofs.lemmas.Option.{IfSome_then, same_Some, none-some}
 use Rattle.std.proofs.lemmas.Result.{IfOk-weaker}
 use Rattle.cca_base.specs.declared.cube.Pair.{Pair}
@@ -12,7 +13,7 @@ use Rattle.cca_base.specs.PlantModel.{PlantModel}
 use Rattle.cca_base.specs.Repairs.{pairs_of}
 use Rattle.cca_base.specs.Shown.{CanShow, Clash}
 use Rattle.cca_base.specs.State.{Extends}
-use Rattle.cca_base.proofs.Members.{all_from, stands_in}
+use Rattle.cca_base.proofs.Members.{stands_in}
 use Rattle.consistency.specs.Conflict.{IsMinimalClash}
 use Rattle.trajectory_estimator.specs.Asked.{Asked, AreValues, entry_of}
 use Rattle.trajectory_estimator.specs.Boxes.{IsBox}

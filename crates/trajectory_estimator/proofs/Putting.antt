@@ -10,7 +10,7 @@ use Rattle.std.proofs.lemmas.List.{get_or-set_other, get_or-take, length-map, le
 use Rattle.std.proofs.lemmas.List.Elements.{All-set, All-contains}
 use Rattle.std.proofs.lemmas.List.Sums.{sum_by-le, sum_by-set, sum_by_more_le, list_all-from_AllPass, AllPass-from_list_all}
 use Rattle.std.proofs.lemmas.Option.{slice_get_within}
-use Rattle.cca_base.proofs.Members.{all_from}
+use Rattle.list_laws.proofs.Members.{all_from}
 use Rattle.cca_base.proofs.NominalLaws.{moved}
 use Rattle.cca_base.proofs.PathLaws.{length-numbers}
 use Rattle.cca_base.specs.Model.{HasMode, WellFormed}

@@ -15,6 +15,7 @@ use Rattle.cca_base.specs.Relations.{numbers_below}
 use Rattle.cca_base.specs.Successors.{ChangeCosts}
 use Rattle.cca_base.proofs.Commands.{same_move}
 use Rattle.cca_base.proofs.PathLaws.{length-numbers}
+use Rattle.cca_base.proofs.CheapCosts.{change_cheap}
 use Rattle.cca_base.specs.LeastCosts.{failing}
 use Rattle.trajectory_estimator.specs.Asked.{Asked}
 use Rattle.trajectory_estimator.specs.Limits.{can_be, may_stand}
@@ -87,10 +88,6 @@ module _ (m : PlantModel) (fits : WellFormed m) (c : ℕ) where
   change_in from nominal to own h (inl (e, nothing)) = subst (HasMode m c) (sym e) h
   change_in from nominal to own h (inr (other, failure, least)) = (failure_in from to own failure).1
 
-  pub change_cheap : (from nominal to own : ℕ) → ChangeCosts m c from nominal to own → own ≤ MAX_COST
-  change_cheap from nominal to own (inl (e, nothing)) = omega (arith, nothing)
-  change_cheap from nominal to own (inr (other, failure, least)) = (failure_in from to own failure).2
-
   change_out : (from nominal to own : ℕ) → (HasMode m c from → ⊥) → ChangeCosts m c from nominal to own → to ≡ nominal
   change_out from nominal to own h (inl (e, nothing)) = e
   change_out from nominal to own h (inr (other, failure, least)) = absurd (h (failure_in from to own failure).0)
@@ -120,7 +117,7 @@ module _ (m : PlantModel) (fits : WellFormed m) (c : ℕ) where
   path_cheap from (r ∷ records) [] modes cost path = absurd path
   path_cheap from (r ∷ records) (g ∷ gates) [] cost path = absurd path
   path_cheap from (r ∷ records) (g ∷ gates) (to ∷ modes) cost (nominal, own, rest, sends, change, tail, e) =
-      omega (arith, e, change_cheap from nominal to own change, path_cheap to records gates modes rest tail)
+      omega (arith, e, change_cheap m fits c from nominal to own change, path_cheap to records gates modes rest tail)
 
 -- ---- what limits leave
 

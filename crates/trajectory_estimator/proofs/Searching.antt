@@ -11,8 +11,8 @@ use Rattle.std.proofs.lemmas.List.Sorted.{All-permutation, Contains-permutation,
 use Rattle.std.proofs.lemmas.List.Sums.{AllPass-from_list_all, list_all-from_AllPass}
 use Rattle.list_laws.proofs.Elements.{all_right}
 use Rattle.list_laws.proofs.Orders.{nat_cmp-same, less_cmp}
+use Rattle.list_laws.proofs.Members.{contains_cases, contains_here, contains_none}
 use Rattle.window_laws.proofs.Paths.{path_cases}
-use Rattle.cca_base.proofs.Members.{contains_cases, contains_here, contains_none}
 use Rattle.cca_base.specs.Model.{WellFormed}
 use Rattle.cca_base.specs.State.{IsState}
 use Rattle.trajectory_estimator.specs.Asked.{Asked}
@@ -137,10 +137,6 @@ first_best q old rest first good state searched taken bound t =
     subst (λ n. Best q.model q.anchor q.records first.states n) (sym own)
     (boxes_best q.model q.anchor q.records (length all) (λ i. box_of (at i).limits) (λ i. (at i).states) (λ i. (at i).costs) good state boxes
     (subst (λ n. Trajectory q.model q.anchor q.records first.states n) own t))
-
-pub no_length : (boxes : List WindowBox) → length boxes ≡ 0 → boxes ≡ []
-no_length [] e = refl
-no_length (b ∷ boxes) e = absurd (omega arith)
 
 -- where no box is left, there is no trajectory
 pub none_left : (q : Asked) → IsSearched q [] → NoTrajectory q.model q.anchor q.records

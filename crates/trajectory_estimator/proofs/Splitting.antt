@@ -1,11 +1,11 @@
 -- Boxes in the place of one.
-use Rattle.std.proofs.Common.{◌≡◌, ◌≢◌, ◌⊎◌, ◌<◌, ◌+◌, ◌&&◌, ℕ, Bool, true, false, not, List, [], ◌∷◌, ◌++◌, length, All, inl, inr, refl, sym, ap, subst, ◌∙◌, arith}
+use Rattle.std.proofs.Common.{◌≡◌, ◌≢◌, ◌⊎◌, ◌<◌, ◌+◌, ℕ, Bool, true, not, List, [], ◌∷◌, ◌++◌, length, All, inl, inr, refl, sym, ap, subst, ◌∙◌, arith}
 use Rattle.std.specs.List.Sorted.{IsPermutation}
-use Rattle.std.proofs.lemmas.Bool.{cases_Bool, and_from}
+use Rattle.std.proofs.lemmas.Bool.{cases_Bool, and_parts, and_from}
 use Rattle.std.proofs.lemmas.List.Elements.{All-nil, All-cons, All-append, All-contains}
 use Rattle.std.proofs.lemmas.List.Folds.{list_all-append}
 use Rattle.std.proofs.lemmas.List.Sorted.{All-permutation, Contains-permutation, sum_by_pushed}
-use Rattle.cca_base.proofs.Members.{all_from, contains_here, contains_there}
+use Rattle.list_laws.proofs.Members.{all_from, contains_here, contains_there}
 use Rattle.trajectory_estimator.specs.Asked.{Asked}
 use Rattle.trajectory_estimator.specs.Boxes.{IsBox}
 use Rattle.trajectory_estimator.specs.Limits.{meets, box_of, negated, subject, IsLimit}
@@ -30,14 +30,10 @@ pub subject_inside : (q : Asked) (l : Limit) → IsLimit q l → subject l < len
 subject_inside q (Mode at c mode is) h = h.1
 subject_inside q (Gate at c is) h = h.0
 
-both_of : (a b : Bool) → (a && b) ≡ true → (a ≡ true) × (b ≡ true)
-both_of true b h = (refl, h)
-both_of false b h = absurd (cc)
-
 -- what meets more limits meets the first of them
 fewer_limits : (limits more : List Limit) (gates : List Bool) (states : List (List ℕ)) → box_of (limits ++ more) gates states ≡ true → box_of limits gates states ≡ true
 fewer_limits limits more gates states h =
-    (both_of (box_of limits gates states) (box_of more gates states) (sym (list_all-append (λ l. meets l gates states) limits more) ∙ h)).0
+    (and_parts (box_of limits gates states) (box_of more gates states) (sym (list_all-append (λ l. meets l gates states) limits more) ∙ h)).0
 
 -- a negated limit behind limits that a box meets changes what its component may do alone
 pub next_narrows : (whole : WindowBox) (limits more : List Limit) (next : Limit) → limits ≡ whole.limits ++ more → All (λ l. meets l whole.gates whole.states ≡ true) limits

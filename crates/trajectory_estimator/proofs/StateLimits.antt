@@ -5,9 +5,9 @@ use Rattle.std.proofs.lemmas.Bool.{cases_eq, eq-eqb, ne_eqb, both_ways}
 use Rattle.std.proofs.lemmas.List.Elements.{All-contains, All-map, All-weaker}
 use Rattle.std.proofs.lemmas.Option.{slice_get_within, slice_get-get_or, get_or_from_slice_get}
 use Rattle.list_laws.proofs.Elements.{contains_map}
+use Rattle.list_laws.proofs.Members.{all_from}
 use Rattle.cca_base.specs.declared.cube.Pair.{Pair}
 use Rattle.cca_base.specs.State.{Extends}
-use Rattle.cca_base.proofs.Members.{all_from}
 use Rattle.trajectory_estimator.specs.Limits.{meets}
 use Rattle.trajectory_estimator.specs.Reasons.{pair_limit, state_at, Says}
 use Rattle.trajectory_estimator.specs.declared.limit.Limit.{Limit}

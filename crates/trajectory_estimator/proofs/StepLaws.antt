@@ -3,6 +3,7 @@ use Rattle.std.proofs.Common.{◌≡◌, ◌≢◌, ◌⊎◌, inl, inr, ℕ, �
 use Rattle.std.proofs.lemmas.Bool.{cases_lt}
 use Rattle.std.proofs.lemmas.Option.{same_Some, none-some, slice_get_within}
 use Rattle.list_laws.proofs.Places.{some_at}
+use Rattle.cca_base.proofs.CheapCosts.{change_cheap}
 use Rattle.cca_base.specs.Model.{HasMode, WellFormed, mode_counts}
 use Rattle.cca_base.specs.Relations.{numbers_below}
 use Rattle.cca_base.specs.Successors.{ChangeCosts}
@@ -16,7 +17,7 @@ use Rattle.trajectory_estimator.specs.declared.limit.Limit.{Limit}
 use Rattle.trajectory_estimator.specs.declared.step.Landing.{Landing}
 use Rattle.trajectory_estimator.specs.declared.step.Step.{Step}
 use Rattle.trajectory_estimator.specs.declared.step.Targets.{Targets}
-use Rattle.trajectory_estimator.proofs.Rests.{change_cheap, may_from, one_least, rest_end, rest_out, roll_none, roll_some, sends_one, takes}
+use Rattle.trajectory_estimator.proofs.Rests.{may_from, one_least, rest_end, rest_out, roll_none, roll_some, sends_one, takes}
 use Rattle.window_laws.specs.Columns as columns
 use Rattle.window_laws.specs.Columns.{IsLeastPath, IsPathFrom, Priced, Sends}
 use Rattle.window_laws.specs.Trajectories.{Entry}

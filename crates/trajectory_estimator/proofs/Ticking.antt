@@ -34,7 +34,7 @@ last_left last gone x e f =
     ∙ sym (drop-map (λ (s : State). s.modes) gone last) ∙ ap (λ n. drop n (modes_of last)) f ∙ ap (drop (going x)) (sym e)
 
 -- the parts of the next state make it
-pub next_is : (x : TrackerState) (entry : Entry) (y : TrackerState) {states : List (List ℕ)} → y.anchor ≡ next_anchor x → y.records ≡ next_records x entry → y.last ≡ states → y.ticks ≡ x.ticks + 1
+next_is : (x : TrackerState) (entry : Entry) (y : TrackerState) {states : List (List ℕ)} → y.anchor ≡ next_anchor x → y.records ≡ next_records x entry → y.last ≡ states → y.ticks ≡ x.ticks + 1
     → y.holding ≡ false → y ≡ record { anchor = next_anchor x; records = next_records x entry; last = states; ticks = x.ticks + 1; holding = false }
 next_is x entry y {states} a r l t h =
     ap (λ n. record { anchor = n; records = y.records; last = y.last; ticks = y.ticks; holding = y.holding }) a

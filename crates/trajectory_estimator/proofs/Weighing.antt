@@ -7,7 +7,7 @@ use Rattle.std.proofs.lemmas.List.{length-map}
 use Rattle.std.proofs.lemmas.List.Elements.{All-head, All-tail, All-contains}
 use Rattle.std.proofs.lemmas.List.Folds.{list_all-append}
 use Rattle.std.proofs.Math.Bool.{and-true}
-use Rattle.cca_base.proofs.Members.{all_from}
+use Rattle.list_laws.proofs.Members.{all_from}
 use Rattle.cca_base.specs.declared.model.Component.{Component}
 use Rattle.cca_base.specs.Model.{mode_counts}
 use Rattle.cca_base.specs.PlantModel.{PlantModel}

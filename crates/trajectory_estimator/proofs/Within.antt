@@ -65,7 +65,7 @@ passed (may ∷ mays) (can ∷ cans) (x ∷ modes) (g ∷ gates) (here, there, r
     gates_at zero d lt more = there
     gates_at (suc at) d lt more = more.gates_pass at d (omega arith)
 
-pub passing : (mays : List (ℕ → Bool)) (cans : List (Bool → Bool)) (modes : List ℕ) (gates : List Bool) → ArePassed mays cans modes gates → IsWithin mays cans modes gates
+passing : (mays : List (ℕ → Bool)) (cans : List (Bool → Bool)) (modes : List ℕ) (gates : List Bool) → ArePassed mays cans modes gates → IsWithin mays cans modes gates
 passing [] [] [] [] p = tt
 passing [] [] [] (g ∷ gates) p = absurd (omega (arith, p.gates_full))
 passing [] [] (x ∷ modes) gates p = absurd (omega (arith, p.modes_full))

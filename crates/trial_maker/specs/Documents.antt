@@ -31,7 +31,7 @@ setup_lines = do
   failures ← each failure_lines links
   undrawn (plant_lines links ++ moves ++ failures ++ mirror_lines links)
 
--- all lines
+-- all lines of a document
 unfoldable pub all_lines : Drawing (List (List ℕ))
 all_lines = do
   setup ← setup_lines

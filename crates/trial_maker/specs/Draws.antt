@@ -5,7 +5,7 @@ use Rattle.std.specs.Prelude.{ℕ, ◌+◌, ◌*◌, ◌/◌, ◌%◌, ◌^◌, 
 abbrev pub multiplier : ℕ
 multiplier = 6364136223846793005
 
--- what is then added
+-- what is added to make the next number
 abbrev pub increment : ℕ
 increment = 1442695040888963407
 

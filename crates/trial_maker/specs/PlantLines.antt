@@ -5,11 +5,11 @@ use Rattle.trial_maker.specs.declared.plant.Declared.{Declared}
 use Rattle.trial_maker.specs.declared.plant.Declared.TheVariants.{Component, Variable, Rule}
 use Rattle.trial_maker.specs.Chains.{component_name, variable_name}
 
--- a component
+-- the line of a component
 unfoldable pub component_line : Link → List ℕ
 component_line link = codes "component " ++ component_name link ++ codes "=a,b,c,x start a"
 
--- its variable
+-- the line of its variable
 unfoldable pub variable_line : Link → List ℕ
 variable_line link = codes "var " ++ variable_name link ++ codes "=ok,off sensed"
 

@@ -31,7 +31,7 @@ drawn_goal = do
 unfoldable pub goal_lines : ℕ → Drawing (List (List ℕ))
 goal_lines tick = drawn_if ((tick - 1) % goal_period == 0) drawn_goal
 
--- a component breaks
+-- the line by which a component breaks
 unfoldable pub fault_line : Link → List ℕ
 fault_line link = codes "fault " ++ component_name link ++ codes "=x"
 

@@ -21,7 +21,7 @@ state_at m v s h = record { full = h.full; modes = h.modes }
 pub world_at : (m : PlantModel) (v : ℕ) (s w : List ℕ) → IsWorld m s w → IsWorld (at_version v m) s w
 world_at m v s w h = record { full = h.full; values = h.values; rules = h.rules }
 
-pub holds_at : (m : PlantModel) (v : ℕ) (s : List ℕ) (f : Formula) → Holds m s f → Holds (at_version v m) s f
+holds_at : (m : PlantModel) (v : ℕ) (s : List ℕ) (f : Formula) → Holds m s f → Holds (at_version v m) s f
 holds_at m v s f h w world = h w (world_at (at_version v m) m.version s w world)
 
 pub follows_at : (m : PlantModel) (v : ℕ) (pairs : List Pair) (f : Formula) → Follows m pairs f → Follows (at_version v m) pairs f

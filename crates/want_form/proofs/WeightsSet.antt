@@ -10,7 +10,7 @@ use Rattle.cca_base.specs.PlantModel.{PlantModel}
 use Rattle.cca_base.specs.declared.cube.Pair.{Pair}
 use Rattle.cca_base.specs.declared.model.Component.{Component}
 use Rattle.goal_interpreter.specs.Weights.{AreWeights}
-use Rattle.goal_interpreter.specs.declared.weights.TheConstants.{MAX_WEIGHT}
+use Rattle.cca_base.specs.declared.limits.TheConstants.{MAX_WEIGHT}
 use Rattle.want_form.specs.Wishes.{no_weights, with_weight}
 
 abbrev IsSmall : ℕ → Type 0

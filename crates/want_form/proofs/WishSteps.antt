@@ -4,7 +4,7 @@ use Rattle.std.specs.Prelude.{IfOk}
 use Rattle.std.proofs.lemmas.Option.{same_Some}
 use Rattle.cca_base.specs.Accepted.{IsCompiled}
 use Rattle.cca_base.specs.PlantModel.{PlantModel}
-use Rattle.cca_base.specs.Refusals.{bare, stop_code}
+use Rattle.cca_base.specs.Refusals.{bare, stop_code, Answers}
 use Rattle.cca_base.specs.declared.events.Stop.{Stop}
 use Rattle.cca_base.specs.declared.events.Stop.TheVariants as stops
 use Rattle.line_machine.specs.Next.{Next, next_of}
@@ -12,7 +12,6 @@ use Rattle.line_machine.specs.declared.machine.End.{End}
 use Rattle.line_machine.specs.declared.machine.End.TheVariants.{Refused}
 use Rattle.line_machine.specs.declared.machine.Said.{Said}
 use Rattle.trace_text.specs.Json.{refusal_text}
-use Rattle.script_reader.specs.SaidLines.{Answers}
 use Rattle.want_lines.specs.Requests.{IsRequestOf}
 use Rattle.want_lines.specs.declared.request.Request.{Request}
 use Rattle.want_form.specs.WishMachine.{WishState, ServesBy, ServesRequest, WantSteps}

@@ -2,7 +2,7 @@
 
 ghost use Rattle.std.specs.Prelude.{All, IfOk, OnErr, OnOk, length, ◌<◌, ◌≡◌, ◌≤◌};
 ghost use Rattle.cca_base.specs.Prelude.{HasMode, IsFormula, IsState, PlantModel};
-ghost use Rattle.goal_interpreter.specs.declared.weights.TheConstants.{MAX_WEIGHT};
+ghost use Rattle.cca_base.specs.declared.limits.TheConstants.{MAX_WEIGHT};
 ghost use Rattle.reversibility.specs.ClassParts.{CoversState};
 ghost use Rattle.want_form.specs.Wishes.{put_in};
 ghost use Rattle.goal_interpreter.specs.Targets.{IsTargetFor};

@@ -2,27 +2,27 @@
 use Rattle.std.proofs.Common.{Contains, ◌<◌, ◌≤◌, ℕ, List, Option, Some, None, Result, Ok, Err, inl, inr, refl, subst, sym, arith}
 use Rattle.std.specs.Prelude.{IfOk, IfSome}
 use Rattle.std.proofs.lemmas.Bool.{cases_order, false_from_ne_true}
+use Rattle.list_laws.proofs.Members.{all_from}
 use Rattle.cca_base.specs.declared.codes.TheConstants.{NAME_UNKNOWN, LIMIT, REPEATED_PAIR}
 use Rattle.cca_base.specs.declared.cube.Pair.{Pair}
 use Rattle.cca_base.specs.declared.events.Stop.{Stop}
-use Rattle.cca_base.specs.declared.limits.TheConstants.{MAX_COST}
+use Rattle.cca_base.specs.declared.limits.TheConstants.{MAX_WEIGHT}
 use Rattle.cca_base.specs.Model.{HasMode}
 use Rattle.cca_base.specs.PlantModel.{PlantModel}
-use Rattle.cca_base.proofs.Members.{all_from}
+use Rattle.cca_base.specs.Refusals.{Answers}
 use Rattle.formula_syntax.specs.Meanings.{names_unknown, is_deep}
 use Rattle.script_reader.specs.EventCodes.{has_item_twice}
 use Rattle.script_reader.specs.Named.{component_of, mode_pair}
 use Rattle.script_reader.proofs.EachPair.{comes_from}
 use Rattle.script_reader.proofs.EventsMayCome.{mode_is, once_each}
 use Rattle.script_reader.proofs.NamedItems.{mode_names, twice_named}
-use Rattle.script_reader.specs.SaidLines.{Answers}
 use Rattle.want_lines.specs.Items.{Item, Weight, At, Want}
 use Rattle.want_lines.specs.Requests.{FitsModel, IsRequestOf, IsTaken}
 use Rattle.want_lines.specs.declared.request.Request.{Request}
 use Rattle.formula_syntax.proofs.FormulaTexts.{formula_of}
 
-within : (n : ℕ) → (MAX_COST < n → ⊥) → n ≤ MAX_COST
-within n h = elim (cases_order n MAX_COST) [
+within : (n : ℕ) → (MAX_WEIGHT < n → ⊥) → n ≤ MAX_WEIGHT
+within n h = elim (cases_order n MAX_WEIGHT) [
   | inl same ↦ omega (arith, same)
   | inr other ↦ elim other [ inl less ↦ omega (arith, less) | inr more ↦ absurd (h more) ]
 ]

@@ -3,14 +3,16 @@ use Rattle.std.proofs.Common.{if◌then◌else◌, ◌≡◌, ◌≢◌, ◌<◌
 use Rattle.std.specs.Fmt.{decimal}
 use Rattle.std.proofs.lemmas.Option.{same_Some}
 use Rattle.list_laws.proofs.Elements.{same_head, same_tail}
+use Rattle.list_laws.proofs.Tests.{true_false}
 use Rattle.cca_base.specs.declared.codes.TheConstants.{MALFORMED, NAME_UNKNOWN, LIMIT, REPEATED_PAIR}
 use Rattle.cca_base.specs.declared.cube.Pair.{Pair}
 use Rattle.cca_base.specs.declared.events.Stop.{Stop}
 use Rattle.cca_base.specs.declared.events.Stop.TheVariants as stops
 use Rattle.cca_base.specs.declared.formula.Formula.{Formula}
-use Rattle.cca_base.specs.declared.limits.TheConstants.{MAX_COST}
+use Rattle.cca_base.specs.declared.limits.TheConstants.{MAX_WEIGHT}
 use Rattle.cca_base.specs.PlantModel.{PlantModel}
-use Rattle.formula_syntax.specs.Answers.{AnswersFormula, IsFormulaOf, formula_or_code}
+use Rattle.cca_base.specs.Refusals.{Answers}
+use Rattle.formula_syntax.specs.Answers.{IsFormulaOf, formula_or_code}
 use Rattle.formula_syntax.specs.Grammar.{Whole}
 use Rattle.formula_syntax.specs.Meanings.{names_unknown, is_deep, whole_formula}
 use Rattle.text_base.specs.Lexemes.{Lexeme, word, is_lexeme}
@@ -19,7 +21,7 @@ use Rattle.script_reader.specs.EventCodes.{has_item_twice}
 use Rattle.script_reader.specs.Named.{mode_pair, each_pair}
 use Rattle.script_reader.proofs.ItemGrammar.{only_pairs_read, reads_only_pairs}
 use Rattle.script_reader.specs.Items.{only_pairs}
-use Rattle.script_reader.specs.SaidLines.{Answers, AreSpelling}
+use Rattle.script_reader.specs.SaidLines.{AreSpelling}
 use Rattle.want_lines.specs.Items.{Item, Weight, At, Want, grammar, line_spelled}
 use Rattle.want_lines.specs.Requests.{IsLeastCode, IsRequestOfWords, IsTaken}
 use Rattle.want_lines.specs.Words.{weight_at}
@@ -28,12 +30,9 @@ use Rattle.want_lines.specs.declared.request.Request.TheVariants as request
 use Rattle.want_lines.proofs.LineGrammar.{weight_spelled, reads_weight, weight_read}
 use Rattle.want_lines.proofs.TableOfCodes.{unknown_least, limit_least, none_applies, at_unknown, at_twice, at_taken, weight_unknown, weight_great, weight_taken}
 
-no : {P : Type 0} → true ≡ false → P
-no e = absurd cc
-
 -- lexemes with two first words
 pub apart : {P : Type 0} (a b : Lexeme) (ls rest : List Lexeme) → is_lexeme a a ≡ true → is_lexeme a b ≡ false → a ∷ ls ≡ b ∷ rest → P
-apart a b ls rest same differ e = no (sym same ∙ ap (is_lexeme a) (same_head a b ls rest e) ∙ differ)
+apart a b ls rest same differ e = true_false (sym same ∙ ap (is_lexeme a) (same_head a b ls rest e) ∙ differ)
 
 abbrev pub weight_word : Lexeme
 weight_word = word (codes "weight")
@@ -73,10 +72,10 @@ module _ (m : PlantModel) (ls : List Lexeme) where
     pub says_unknown : None ≡ mode_pair m p → IsRequestOfWords m (weight_word ∷ ls) (Err NAME_UNKNOWN)
     says_unknown h = inr (Weight p n, weight_written, weight_unknown m p n h)
 
-    pub says_great : (q : Pair) → Some q ≡ mode_pair m p → MAX_COST < n → IsRequestOfWords m (weight_word ∷ ls) (Err LIMIT)
+    pub says_great : (q : Pair) → Some q ≡ mode_pair m p → MAX_WEIGHT < n → IsRequestOfWords m (weight_word ∷ ls) (Err LIMIT)
     says_great q h more = inr (Weight p n, weight_written, weight_great m p n q h more)
 
-    pub says_weight : (q : Pair) → Some q ≡ mode_pair m p → n ≤ MAX_COST → IsRequestOfWords m (weight_word ∷ ls) (Ok (request.Weight q n))
+    pub says_weight : (q : Pair) → Some q ≡ mode_pair m p → n ≤ MAX_WEIGHT → IsRequestOfWords m (weight_word ∷ ls) (Ok (request.Weight q n))
     says_weight q h few = (Weight p n, weight_written, weight_taken m p n q h few)
 
 -- ---- pairs
@@ -121,8 +120,8 @@ module _ (m : PlantModel) where
   asks_by : (text : Whole) (unknown deep : Bool) → names_unknown m text ≡ unknown → is_deep text ≡ deep
       → AsksFor text (wanted (if unknown then Err NAME_UNKNOWN else (if deep then Err LIMIT else Ok (whole_formula m text))))
   asks_by text true deep u d = unknown_least m (Want text) u
-  asks_by text false true u d = limit_least m (Want text) (λ h. no (sym h ∙ u)) d
-  asks_by text false false u d = (refl, none_applies m (Want text) (λ h. no (sym h ∙ u)) (λ h. no (sym h ∙ d)) (λ x. x))
+  asks_by text false true u d = limit_least m (Want text) (λ h. true_false (sym h ∙ u)) d
+  asks_by text false false u d = (refl, none_applies m (Want text) (λ h. true_false (sym h ∙ u)) (λ h. true_false (sym h ∙ d)) (λ x. x))
 
   pub asks : (text : Whole) → AsksFor text (wanted (formula_or_code m text))
   asks text = asks_by text (names_unknown m text) (is_deep text) refl refl
@@ -148,6 +147,6 @@ module _ (m : PlantModel) where
   ]
 
   -- the same of what a call answered
-  pub wanted_stop : (ls : List Lexeme) (stop : Stop) → AnswersFormula (Err stop) (IsFormulaOf m ls) → Answers (let r : Result Request Stop = Err stop in r) (IsRequestOfWords m (want_word ∷ ls))
+  pub wanted_stop : (ls : List Lexeme) (stop : Stop) → Answers (Err stop) (IsFormulaOf m ls) → Answers (let r : Result Request Stop = Err stop in r) (IsRequestOfWords m (want_word ∷ ls))
   wanted_stop ls stops.Memory h = tt
   wanted_stop ls (stops.Refused refusal) h = (says_wanted ls (Err refusal.code) h.0, h.1)

@@ -1,9 +1,9 @@
 -- What is wrong with an item, by the rows of the table of codes.
 use Rattle.std.proofs.Common.{◌≡◌, ◌<◌, ◌≤◌, ℕ, true, false, List, Some, None, inl, inr, refl, sym, ◌∙◌, arith}
-use Rattle.list_laws.proofs.Tests.{some_none}
+use Rattle.list_laws.proofs.Tests.{some_none, false_true}
 use Rattle.cca_base.specs.declared.codes.TheConstants.{NAME_UNKNOWN, LIMIT, REPEATED_PAIR}
 use Rattle.cca_base.specs.declared.cube.Pair.{Pair}
-use Rattle.cca_base.specs.declared.limits.TheConstants.{MAX_COST}
+use Rattle.cca_base.specs.declared.limits.TheConstants.{MAX_WEIGHT}
 use Rattle.cca_base.specs.PlantModel.{PlantModel}
 use Rattle.text_base.specs.Pairs.{NamedPair}
 use Rattle.script_reader.specs.EventCodes.{has_item_twice}
@@ -13,9 +13,6 @@ use Rattle.script_reader.proofs.NamedItems.{mode_names, named_twice, twice_named
 use Rattle.want_lines.specs.Items.{Item, Weight, At}
 use Rattle.want_lines.specs.Requests.{NamesUnknown, PassesLimit, NamesTwice, Applies, IsLeastCode, IsTaken}
 use Rattle.want_lines.specs.declared.request.Request.TheVariants as request
-
-no : {P : Type 0} → false ≡ true → P
-no e = absurd cc
 
 module _ (m : PlantModel) where
   -- the rows of the table, one by one
@@ -38,7 +35,7 @@ module _ (m : PlantModel) where
 
   -- ---- pairs
 
-  pub all_known : (pairs : List NamedPair) (qs : List Pair) → each_pair (mode_pair m) pairs ≡ Some qs → NamesUnknown m (At pairs) → ⊥
+  all_known : (pairs : List NamedPair) (qs : List Pair) → each_pair (mode_pair m) pairs ≡ Some qs → NamesUnknown m (At pairs) → ⊥
   all_known pairs qs h (p, among, none) =
       let to = goes_to (mode_pair m) pairs qs p h among in
       some_none to.0 (sym to.2 ∙ none)
@@ -52,7 +49,7 @@ module _ (m : PlantModel) where
   pub at_taken : (pairs : List NamedPair) (qs : List Pair) → Some qs ≡ each_pair (mode_pair m) pairs → has_item_twice qs ≡ false → IsTaken m (At pairs) (request.At qs)
   at_taken pairs qs h t = (
     (qs, sym h, refl),
-    none_applies (At pairs) (all_known pairs qs (sym h)) (λ x. x) (λ twice. no (sym t ∙ named_twice (component_of m) (mode_pair m) (mode_names m) pairs qs (sym h) twice)),
+    none_applies (At pairs) (all_known pairs qs (sym h)) (λ x. x) (λ twice. false_true (sym t ∙ named_twice (component_of m) (mode_pair m) (mode_names m) pairs qs (sym h) twice)),
   )
 
   -- ---- weights
@@ -63,8 +60,8 @@ module _ (m : PlantModel) where
   pub weight_unknown : (pair : NamedPair) (n : ℕ) → None ≡ mode_pair m pair → IsLeastCode m (Weight pair n) NAME_UNKNOWN
   weight_unknown pair n h = unknown_least (Weight pair n) (sym h)
 
-  pub weight_great : (pair : NamedPair) (n : ℕ) (q : Pair) → Some q ≡ mode_pair m pair → MAX_COST < n → IsLeastCode m (Weight pair n) LIMIT
+  pub weight_great : (pair : NamedPair) (n : ℕ) (q : Pair) → Some q ≡ mode_pair m pair → MAX_WEIGHT < n → IsLeastCode m (Weight pair n) LIMIT
   weight_great pair n q h more = limit_least (Weight pair n) (known_pair pair q h) more
 
-  pub weight_taken : (pair : NamedPair) (n : ℕ) (q : Pair) → Some q ≡ mode_pair m pair → n ≤ MAX_COST → IsTaken m (Weight pair n) (request.Weight q n)
+  pub weight_taken : (pair : NamedPair) (n : ℕ) (q : Pair) → Some q ≡ mode_pair m pair → n ≤ MAX_WEIGHT → IsTaken m (Weight pair n) (request.Weight q n)
   weight_taken pair n q h few = ((q, sym h, refl), none_applies (Weight pair n) (known_pair pair q h) (λ more. omega (arith, more, few)) (λ x. x))

@@ -4,7 +4,7 @@ use Rattle.text_base.specs.Lexemes.{Lexeme}
 use Rattle.text_base.specs.Pairs.{NamedPair}
 use Rattle.cca_base.specs.declared.codes.TheConstants.{NAME_UNKNOWN, LIMIT, REPEATED_PAIR}
 use Rattle.cca_base.specs.declared.cube.Pair.{Pair}
-use Rattle.cca_base.specs.declared.limits.TheConstants.{MAX_COST}
+use Rattle.cca_base.specs.declared.limits.TheConstants.{MAX_WEIGHT}
 use Rattle.cca_base.specs.Cube.{IsCube}
 use Rattle.cca_base.specs.Model.{HasMode, IsFormula}
 use Rattle.cca_base.specs.PlantModel.{PlantModel}
@@ -24,7 +24,7 @@ NamesUnknown m (Want formula) = names_unknown m formula ≡ true
 
 -- the weight is too great, or the formula's text too deep
 abbrev pub PassesLimit : Item → Type 0
-PassesLimit (Weight pair weight) = MAX_COST < weight
+PassesLimit (Weight pair weight) = MAX_WEIGHT < weight
 PassesLimit (At pairs) = ⊥
 PassesLimit (Want formula) = is_deep formula ≡ true
 
@@ -66,7 +66,7 @@ RequestsAreOne = (m : PlantModel) (line : List ℕ) (a b : Result (Option Reques
 abbrev pub IsRequestOfWords : PlantModel → List Lexeme → Result Request ℕ → Type 0
 IsRequestOfWords m ls said = SaidByWords grammar (IsNamed m) (Applies m) ls said
 
--- the same where there may be none
+-- what the tokens of a line ask for, if it has any
 abbrev pub IsRequestOfTokens : PlantModel → List Lexeme → Result (Option Request) ℕ → Type 0
 IsRequestOfTokens m ls said = SaidByTokens grammar (IsNamed m) (Applies m) ls said
 
@@ -74,6 +74,6 @@ IsRequestOfTokens m ls said = SaidByTokens grammar (IsNamed m) (Applies m) ls sa
 
 -- the request speaks of the model's components, modes, variables and values, within their limits
 abbrev pub FitsModel : PlantModel → Request → Type 0
-FitsModel m (request.Weight pair weight) = HasMode m pair.item pair.value × (weight ≤ MAX_COST)
+FitsModel m (request.Weight pair weight) = HasMode m pair.item pair.value × (weight ≤ MAX_WEIGHT)
 FitsModel m (request.At pairs) = IsCube pairs × All (λ p. HasMode m p.item p.value) pairs
 FitsModel m (request.Want formula) = IsFormula m formula

@@ -1,15 +1,15 @@
 //! Lines behind a model, read one by one.
 
 ghost use Rattle.std.specs.Prelude.{◌≡◌, ◌∷◌, Ok, codes, map, IfOk, IfSome};
+ghost use Rattle.cca_base.specs.Prelude.{Answers};
 ghost use Rattle.text_base.specs.Tokens.{token_view};
 ghost use Rattle.text_base.specs.Lexemes.{lexeme_of, word};
-ghost use Rattle.script_reader.specs.SaidLines.{Answers};
 ghost use Rattle.want_lines.specs.Requests.{FitsModel, IsRequestOf, IsRequestOfTokens, IsRequestOfWords};
 
 use crate::request::Request;
 use crate::words::weight_at;
 use cca_base::codes::{LIMIT, MALFORMED, NAME_UNKNOWN, REPEATED_PAIR};
-use cca_base::{MAX_COST, Stop};
+use cca_base::{MAX_WEIGHT, Stop};
 use formula_syntax::{NamedModel, read_formula};
 use script_reader::{Naming, each_pair, has_item_twice, only_pairs, stands_for};
 use std::alloc::Global;
@@ -29,7 +29,7 @@ fn weight_request(model: &NamedModel, rest: &[Token]) -> Result<Request, Stop>
     let Some(pair) = stands_for(model, Naming::Modes, &named) else {
         return Err(Stop::refused(NAME_UNKNOWN));
     };
-    if weight > MAX_COST as u128 {
+    if weight > MAX_WEIGHT as u128 {
         return Err(Stop::refused(LIMIT));
     }
     Ok(Request::Weight {

@@ -5,7 +5,7 @@ use Rattle.std.specs.Option.{is_some}
 use Rattle.std.proofs.lemmas.Option.{same_Some}
 use Rattle.cca_base.specs.Accepted.{CompiledModel}
 use Rattle.cca_base.specs.PlantModel.{PlantModel}
-use Rattle.cca_base.specs.Refusals.{bare, stop_code}
+use Rattle.cca_base.specs.Refusals.{bare, stop_code, Answers}
 use Rattle.cca_base.specs.declared.events.Stop.{Stop}
 use Rattle.cca_base.specs.declared.events.Stop.TheVariants as stops
 use Rattle.line_machine.specs.Next.{next_of}
@@ -13,7 +13,6 @@ use Rattle.line_machine.specs.declared.machine.End.{End}
 use Rattle.line_machine.specs.declared.machine.End.TheVariants.{Refused}
 use Rattle.line_machine.specs.declared.machine.Said.{Said}
 use Rattle.trace_text.specs.Json.{refusal_text}
-use Rattle.script_reader.specs.SaidLines.{Answers}
 use Rattle.watch_lines.specs.WatchEvents.{IsWatchEventOf}
 use Rattle.watch_lines.specs.declared.watch_event.WatchEvent.{WatchEvent}
 use Rattle.window_laws.specs.Ticks.{TrackerState}

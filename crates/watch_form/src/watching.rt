@@ -2,13 +2,12 @@
 
 ghost use Rattle.std.specs.Prelude.{◌≡◌, ◌++◌, ◌+◌, ◌<◌, ◌≤◌, ◌^◌, All, IfOk, IfSome, OnOk};
 ghost use Rattle.std.specs.Option.{is_some};
-ghost use Rattle.cca_base.specs.Prelude.{HasValue};
+ghost use Rattle.cca_base.specs.Prelude.{Answers, HasValue};
 ghost use Rattle.line_machine.specs.Next.{next_of};
 ghost use Rattle.line_machine.specs.declared.machine.TheConstants.{MAX_LINES};
 ghost use Rattle.model_form.specs.FormStates.{form_first};
 ghost use Rattle.trajectory_estimator.specs.Asked.{entry_of};
 ghost use Rattle.trajectory_estimator.specs.Tracked.{answer_of};
-ghost use Rattle.script_reader.specs.SaidLines.{Answers};
 ghost use Rattle.watch_lines.specs.WatchEvents.{FitsWatch, IsWatchEventOf};
 ghost use Rattle.watch_form.specs.Calls.{nothing_pending};
 ghost use Rattle.watch_form.specs.WatchMachine.{ServesEvent, TicksTo, WatchAwaits, WatchSteps, observed, restarted};

@@ -6,6 +6,7 @@ use Rattle.cca_base.specs.declared.cube.Pair.{Pair}
 use Rattle.cca_base.specs.declared.events.Event.TheVariants as event
 use Rattle.cca_base.specs.declared.events.Stop.{Stop}
 use Rattle.cca_base.specs.PlantModel.{PlantModel}
+use Rattle.cca_base.specs.Refusals.{Answers}
 use Rattle.std.specs.Str.{bytes_eq}
 use Rattle.script_reader.specs.EventLines.{as_event}
 use Rattle.script_reader.specs.Items as scripts
@@ -14,7 +15,7 @@ use Rattle.script_reader.proofs.LinesSayItems.{item_said}
 use Rattle.script_reader.proofs.TableOfCodes as table
 use Rattle.std.proofs.lemmas.Bool.{false_from_ne_true}
 use Rattle.std.proofs.lemmas.List.Quantifiers.{position-Some}
-use Rattle.script_reader.specs.SaidLines.{Answers, Spells}
+use Rattle.script_reader.specs.SaidLines.{Spells}
 use Rattle.watch_lines.specs.Items.{Item, Sent, Observe, Reset, Tick, grammar}
 use Rattle.watch_lines.specs.WatchEvents.{FitsWatch, IsTaken, IsWatchEventOf}
 use Rattle.watch_lines.specs.declared.watch_event.WatchEvent.{WatchEvent}

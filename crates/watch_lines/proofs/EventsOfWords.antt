@@ -1,12 +1,14 @@
 -- What the words of a line say, by the rows of the table of codes.
 use Rattle.std.proofs.Common.{◌≡◌, ℕ, Bool, true, false, List, ◌∷◌, Option, Some, None, Result, Ok, Err, inl, inr, refl, sym, ap, subst, ◌∙◌, arith}
 use Rattle.std.specs.Option.{option_map}
+use Rattle.list_laws.proofs.Tests.{false_true}
 use Rattle.cca_base.specs.declared.codes.TheConstants.{MALFORMED, NAME_UNKNOWN, REPEATED_PAIR}
 use Rattle.cca_base.specs.declared.cube.Pair.{Pair}
 use Rattle.cca_base.specs.declared.events.Event.TheVariants as event
 use Rattle.cca_base.specs.declared.events.Stop.{Stop}
 use Rattle.cca_base.specs.declared.events.Stop.TheVariants as stops
 use Rattle.cca_base.specs.PlantModel.{PlantModel}
+use Rattle.cca_base.specs.Refusals.{Answers}
 use Rattle.formula_syntax.specs.Lookups.{place_of}
 use Rattle.text_base.specs.Chain.{◌>>=◌}
 use Rattle.text_base.specs.Lexemes.{Lexeme, next_is}
@@ -17,15 +19,11 @@ use Rattle.script_reader.specs.EventLines.{named_event, unless}
 use Rattle.script_reader.specs.Items as scripts
 use Rattle.script_reader.specs.Named.{value_pair, each_pair}
 use Rattle.script_reader.proofs.TableOfCodes as table
-use Rattle.script_reader.specs.SaidLines.{Answers}
 use Rattle.watch_lines.specs.Items.{Item, Sent, Observe, Reset, Tick, only_name}
 use Rattle.watch_lines.specs.WatchEvents.{IsEventOfItem, IsEventOfScript, IsEventOfWords, IsLeastCode, IsTaken}
 use Rattle.watch_lines.specs.declared.watch_event.WatchEvent.{WatchEvent}
 use Rattle.watch_lines.specs.declared.watch_event.WatchEvent.TheVariants as watched
 use Rattle.watch_lines.proofs.LineGrammar.{item_from, item_in, item_read, item_written, of_script, sent_word}
-
-no : {P : Type 0} → false ≡ true → P
-no e = absurd cc
 
 -- what is read where the word sent doesn't come first
 read_in : (ls : List Lexeme) (o : Option scripts.Item) → next_is sent_word ls ≡ None → scripts.item_of ls ≡ o → item_in ls ≡ (o >>= of_script)
@@ -45,7 +43,7 @@ module _ (m : PlantModel) (pending : List Pair) (sent : Bool) where
   sent_twice command k h t = (inr (refl, t), λ less lt a. elim a [ inl (c, x) ↦ known command k h x | inr (c, x) ↦ omega (arith, c, lt) ])
 
   sent_taken : (command : List ℕ) (k : ℕ) → Some k ≡ place_of m.commands command → sent ≡ false → IsTaken m pending sent (Sent command) (watched.Sent k)
-  sent_taken command k h t = ((k, sym h, refl), λ code a. elim a [ inl (c, x) ↦ known command k h x | inr (c, x) ↦ no (sym t ∙ x) ])
+  sent_taken command k h t = ((k, sym h, refl), λ code a. elim a [ inl (c, x) ↦ known command k h x | inr (c, x) ↦ false_true (sym t ∙ x) ])
 
   -- ---- observations
 
@@ -69,7 +67,7 @@ module _ (m : PlantModel) (pending : List Pair) (sent : Bool) where
 
   -- ---- words
 
-  -- words from which no item is read are malformed
+  -- words from which false_true item is read are malformed
   unformed : (ls : List Lexeme) → item_in ls ≡ None → IsEventOfWords m pending sent ls (Err MALFORMED)
   unformed ls none = inl (refl, λ i s. let both : None ≡ Some i = sym none ∙ item_read ls i s in absurd cc)
 

@@ -61,7 +61,7 @@ module _ (m : PlantModel) (pending : List Pair) (sent : Bool) where
   abbrev pub IsEventOfWords : List Lexeme → Result WatchEvent ℕ → Type 0
   IsEventOfWords ls said = SaidByWords grammar (IsNamed m) Applies ls said
 
-  -- the same where there may be none
+  -- the event of the tokens of a line, if it has any
   abbrev pub IsEventOfTokens : List Lexeme → Result (Option WatchEvent) ℕ → Type 0
   IsEventOfTokens ls said = SaidByTokens grammar (IsNamed m) Applies ls said
 

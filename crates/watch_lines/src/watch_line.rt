@@ -2,12 +2,12 @@
 
 ghost use Rattle.std.specs.Prelude.{◌≡◌, ◌∷◌, ◌^◌, ◌≤◌, None, codes, length, map, IfOk, IfSome};
 ghost use Rattle.std.specs.Option.{option_map};
+ghost use Rattle.cca_base.specs.Prelude.{Answers};
 ghost use Rattle.model_syntax.specs.Reader.{NumbersFit};
 ghost use Rattle.script_reader.specs.Items.{shown_item};
 ghost use Rattle.text_base.specs.Lexemes.{lexeme_of, next_is, word};
 ghost use Rattle.text_base.specs.Pairs.{shown_pair};
 ghost use Rattle.watch_lines.specs.Items.{Observe, only_name};
-ghost use Rattle.script_reader.specs.SaidLines.{Answers};
 ghost use Rattle.watch_lines.specs.WatchEvents.{FitsWatch, IsEventOfItem, IsEventOfScript, IsEventOfTokens, IsEventOfWords, IsWatchEventOf};
 
 use crate::watch_event::WatchEvent;

@@ -6,6 +6,7 @@ use Rattle.std.proofs.lemmas.List.{get_or-set_other, ext_get_or}
 use Rattle.std.proofs.lemmas.List.Elements.{All-contains}
 use Rattle.std.proofs.lemmas.Option.{same_Some}
 use Rattle.std.proofs.lemmas.List.Sums.{sum_by-cons}
+use Rattle.list_laws.proofs.Members.{contains_here}
 use Rattle.cca_base.specs.declared.cube.Pair.{Pair}
 use Rattle.cca_base.specs.declared.model.Move.{Move}
 use Rattle.cca_base.specs.PlantModel.{PlantModel}
@@ -14,7 +15,6 @@ use Rattle.cca_base.specs.State.{IsState, Extends, Holds}
 use Rattle.cca_base.specs.Implicants.{PrimeImplicant, source_pair}
 use Rattle.cca_base.specs.Successors.{Nominal, ChangeCosts, Costs}
 use Rattle.cca_base.proofs.Commands.{same_component, same_move}
-use Rattle.cca_base.proofs.Members.{contains_here}
 use Rattle.cca_laws.proofs.StandingPrimes.{holds_by_prime}
 use Rattle.window_laws.specs.Trajectories.{Entry, Trajectory}
 use Rattle.window_laws.specs.Columns.{IsGate, AreGates, Sends, Path, column, AreShown}

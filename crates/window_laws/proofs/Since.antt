@@ -4,7 +4,7 @@ use Rattle.std.specs.Prelude.{Contains}
 use Rattle.std.proofs.lemmas.List.{append_assoc, length-append, map-append}
 use Rattle.std.proofs.lemmas.Bool.Decides.{nat_tests}
 use Rattle.std.proofs.lemmas.Bool.{cond-false}
-use Rattle.cca_base.proofs.Members.{contains_cases}
+use Rattle.list_laws.proofs.Members.{contains_cases}
 use Rattle.cca_base.specs.PlantModel.{PlantModel}
 use Rattle.cca_base.specs.State.{IsState, start_modes}
 use Rattle.window_laws.specs.Trajectories.{Entry, Best}

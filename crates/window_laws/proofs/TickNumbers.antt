@@ -3,6 +3,7 @@ use Rattle.std.proofs.Common.{◌≡◌, inl, inr, ℕ, zero, suc, ◌+◌, ◌�
 use Rattle.std.specs.Prelude.{slice_get, Contains}
 use Rattle.std.proofs.lemmas.List.{length-append, length-drop}
 use Rattle.std.proofs.lemmas.Option.{none-some}
+use Rattle.list_laws.proofs.Members.{contains_cases}
 use Rattle.cca_base.specs.PlantModel.{PlantModel}
 use Rattle.cca_base.specs.State.{IsState, start_modes}
 use Rattle.window_laws.specs.Trajectories.{Entry, IsEarlierPath, Best}
@@ -10,7 +11,6 @@ use Rattle.window_laws.specs.Ticks.{TrackerState, Answer, Found, Unexplained, Ho
 use Rattle.window_laws.specs.TrackerLaws.{IsRevisedTick}
 use Rattle.window_laws.proofs.Paths.{length-trajectory}
 use Rattle.window_laws.proofs.Tracked.{next_is_state, next_few, ticks_keep}
-use Rattle.cca_base.proofs.Members.{contains_cases}
 
 tick_adds : (m : PlantModel) (x z : TrackerState) (entry : Entry) (a : Answer) → Ticks m x entry z a → z.ticks ≡ x.ticks + 1
 tick_adds m x z entry (Found states cost revised) t = ap (λ (s : TrackerState). s.ticks) t.after

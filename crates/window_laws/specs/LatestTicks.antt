@@ -13,7 +13,7 @@ IsToStart calls = (calls ≡ []) ⊎ ((before : List TrackerCall) × (calls ≡ 
 abbrev pub AreSince : List TrackerCall → List Entry → Type 0
 AreSince calls entries = (before : List TrackerCall) × IsToStart before × (calls ≡ before ++ map Tick entries)
 
--- so many of the calls are ticks
+-- how many of the calls are ticks
 abbrev pub ticks_among : List TrackerCall → ℕ
 ticks_among [] = 0
 ticks_among (Reset ∷ calls) = ticks_among calls

@@ -4,6 +4,7 @@ use Rattle.std.proofs.lemmas.Bool.{cases_Bool, cond-true, cond-false}
 use Rattle.std.proofs.lemmas.List.{ext_get_or}
 use Rattle.std.proofs.lemmas.List.Elements.{All-contains, All-nil, All-cons}
 use Rattle.std.proofs.lemmas.Option.{slice_get-get_or, get_or_from_slice_get}
+use Rattle.list_laws.proofs.Members.{all_from, contains_cases, contains_here, contains_none, contains_there}
 use Rattle.cca_base.specs.declared.cube.Pair.{Pair}
 use Rattle.cca_base.specs.PlantModel.{PlantModel}
 use Rattle.cca_base.specs.Accepted.{CompiledModel, IsCompiled}
@@ -11,7 +12,6 @@ use Rattle.cca_base.specs.Model.{is_broken}
 use Rattle.cca_base.specs.Orders.{AreInOrder}
 use Rattle.cca_base.specs.Plans.{Whole}
 use Rattle.cca_base.specs.Steps.{AllowedPlan}
-use Rattle.cca_base.proofs.Members.{all_from, contains_cases, contains_here, contains_none, contains_there}
 use Rattle.reach_laws.specs.Classes.{Test, AreInside}
 use Rattle.reach_laws.specs.Laws.{Setting}
 use Rattle.reach_laws.specs.Cells.{Cells, IsPolicy}

@@ -1,6 +1,6 @@
 use Rattle.cca_base.specs.Choice.{IsChosenReply}
 use Rattle.trace_laws.proofs.EventsJoin as joins
-use Rattle.trace_laws.proofs.WeakerReplies.{chosen_is_good}
+use Rattle.cca_laws.proofs.WeakerReplies.{chosen_is_good}
 use Rattle.trace_laws.proofs.OthersBegin.{traces_begin}
 use Rattle.trace_laws.proofs.PendingKnown.{known_after, one_pending}
 use Rattle.trace_laws.proofs.one_by_one.Goals as goal

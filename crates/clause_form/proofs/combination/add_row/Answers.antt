@@ -2,7 +2,7 @@ use Rattle.std.proofs.Common.{◌<◌, ◌&&◌, ◌||◌, length, take, ap, ◌
 use Rattle.std.proofs.lemmas.List.Folds.{list_all_more}
 use Rattle.clause_form.specs.declared.clause.Clause.{Clause}
 use Rattle.clause_form.specs.Clauses.{AreOthers, all_met, is_met, meets}
-use Rattle.cca_base.proofs.TestedLists.{row_step}
+use Rattle.list_laws.proofs.TestedLists.{row_step}
 use Rattle.clause_form.proofs.combination.add_row.Goals as goal
 
 pub loop-clause-preserved : goal.loop-clause-preserved

@@ -2,7 +2,7 @@ use Rattle.std.proofs.Common.{◌≡◌, ◌∷◌, ◌++◌, [], ◌&&◌, All,
 use Rattle.std.specs.Vec.Iter.{into_iter_items}
 use Rattle.clause_form.specs.declared.clause.Clause.{Clause}
 use Rattle.clause_form.specs.Clauses.{AreBelow, AreOthers, all_met, meets}
-use Rattle.cca_base.proofs.TestedLists.{All-at_seam, all_push, All-before, All-last}
+use Rattle.list_laws.proofs.TestedLists.{All-at_seam, all_push, All-before, All-last}
 use Rattle.clause_form.proofs.combination.with_all.Goals as goal
 
 pub with_clause-requires-clause-of_clause : goal.with_clause-requires-clause-of_clause

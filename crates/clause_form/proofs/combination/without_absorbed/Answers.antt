@@ -1,7 +1,7 @@
 use Rattle.std.proofs.Common.{◌≡◌, List, true, subst}
 use Rattle.clause_form.specs.declared.clause.Literal.{Literal}
 use Rattle.clause_form.specs.Clauses.{is_met, meets, AreBelow, AreOthers}
-use Rattle.cca_base.proofs.TestedLists.{kept_push, fewer_push, kept_skip, fewer_skip, All-before, below_push}
+use Rattle.list_laws.proofs.TestedLists.{kept_push, fewer_push, kept_skip, fewer_skip, All-before, below_push}
 use Rattle.clause_form.proofs.combination.without_absorbed.Goals as goal
 
 pub loop-clause-preserved-in-Continue-1 : goal.loop-clause-preserved-in-Continue-1

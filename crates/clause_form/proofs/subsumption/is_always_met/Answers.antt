@@ -1,9 +1,9 @@
 use Rattle.std.proofs.Common.{◌≡◌, ◌<◌, true, subst, sym, ◌∙◌, slice_index, length, arith}
 use Rattle.std.proofs.lemmas.Bool.{lt-ltb}
 use Rattle.std.proofs.lemmas.List.Folds.{list_any_at}
+use Rattle.cca_base.proofs.SetLaws.{within}
 use Rattle.clause_form.specs.declared.clause.Literal.{Literal}
 use Rattle.clause_form.specs.Clauses.{is_true}
-use Rattle.cca_base.proofs.TestedLists.{within}
 use Rattle.clause_form.proofs.subsumption.is_always_met.Goals as goal
 
 pub returns-then-is_within : goal.returns-then-is_within

@@ -1,6 +1,6 @@
 use Rattle.std.proofs.Common.{◌≡◌, ℕ, true, subst, sym, ◌∙◌, slice_index}
+use Rattle.cca_base.proofs.SetLaws.{within}
 use Rattle.cca_base.specs.Sets.{has}
-use Rattle.cca_base.proofs.TestedLists.{within}
 use Rattle.clause_form.proofs.subsumption.is_part.Goals as goal
 
 pub returns-then-one-other : goal.returns-then-one-other

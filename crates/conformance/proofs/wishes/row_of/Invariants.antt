@@ -1,5 +1,5 @@
 use Rattle.std.proofs.Common.{◌≡◌, ◌≤◌, All, length}
-use Rattle.goal_interpreter.specs.declared.weights.TheConstants.{MAX_WEIGHT}
+use Rattle.cca_base.specs.declared.limits.TheConstants.{MAX_WEIGHT}
 use Rattle.conformance.proofs.wishes.row_of.Given as goal
 
 abbrev pub invariant-loop-weight : goal.invariant-loop-weight

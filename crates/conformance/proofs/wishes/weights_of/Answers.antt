@@ -3,7 +3,7 @@ use Rattle.std.proofs.lemmas.List.{get_or-map, length-map, map_push, take_more}
 use Rattle.std.proofs.lemmas.List.Elements.{All-push}
 use Rattle.cca_base.specs.declared.model.Component.{Component}
 use Rattle.cca_base.specs.Model.{mode_counts}
-use Rattle.goal_interpreter.specs.declared.weights.TheConstants.{MAX_WEIGHT}
+use Rattle.cca_base.specs.declared.limits.TheConstants.{MAX_WEIGHT}
 use Rattle.conformance.proofs.wishes.weights_of.Goals as goal
 
 abbrev IsSmall : ℕ → Type 0

@@ -4,8 +4,8 @@ use Rattle.std.proofs.lemmas.List.Filters.{length-filter_both}
 use Rattle.cca_base.specs.declared.cube.Pair.{Pair}
 use Rattle.cca_base.specs.Cube.{IsCube}
 use Rattle.cca_base.specs.Model.{HasMode}
-use Rattle.cca_base.proofs.Members.{all_from}
 use Rattle.std.proofs.lemmas.List.Elements.{All-contains}
+use Rattle.list_laws.proofs.Members.{all_from}
 use Rattle.consistency.specs.Cores.{IsCore, IsShowable, pairs_in}
 use Rattle.consistency.specs.Subjects.{is_in}
 use Rattle.consistency.proofs.Fitting.{showable_fits}

@@ -1,11 +1,11 @@
 use Rattle.std.proofs.Common.{◌≡◌, ℕ, ◌<◌, ◌∷◌, List, ap, [], ◌++◌, ◌+◌, length, arith, false, slice_index_or, sym, subst, ◌∙◌}
-use Rattle.std.proofs.lemmas.List.{get_or_read}
+use Rattle.std.proofs.lemmas.List.{get_or_read, length_push}
 use Rattle.cca_base.specs.Sets.{has}
 use Rattle.consistency.specs.declared.domain.Domain.{Domain}
 use Rattle.consistency.specs.Subjects.{is_in}
 use Rattle.consistency.specs.Search.{IsSolution, IsSearchResult, IsClashOfMore, Knows, nothing}
 use Rattle.consistency.proofs.Narrow.{or_l}
-use Rattle.consistency.proofs.SearchFrom.{found, early, whole_clash, tried_absent, tried_clash, knows_longer, length-snoc, written}
+use Rattle.consistency.proofs.SearchFrom.{found, early, whole_clash, tried_absent, tried_clash, knows_longer, written}
 use Rattle.consistency.proofs.search.+seeking.Goals as goal
 use Rattle.consistency.proofs.search.+seeking.Goals.{search_from-then-has+in_ok-found+in-Clash+else-not-has_subject, search_from-else-has}
 
@@ -58,7 +58,7 @@ pub attempt-search_from-requires : goal.attempt-search_from-requires
 attempt-search_from-requires t c =
     let p = c.args.prefix.now in
     let longer : c.push.new.self ≡ p ++ c.args.value ∷ [] = cc (c.in_ok-push.ensures.ok, c.in_ok-longer.ensures) in
-    let more : length c.push.new.self ≡ length p + 1 = rw longer (length-snoc p c.args.value) in (
+    let more : length c.push.new.self ≡ length p + 1 = rw longer (length_push p c.args.value) in (
       omega (arith, c.decreases),
       (
         c.requires.proper,
@@ -83,7 +83,7 @@ attempt-search_from-requires-in-None t c =
     let p = c.args.prefix.now in
     let same : c.deref_mut.result.now ≡ c.args.domains.now = cc (c.in_ok-narrower.ensures.items) in
     let longer : c.push.new.self ≡ p ++ c.args.value ∷ [] = cc (c.in_ok-push.ensures.ok, c.in_ok-longer.ensures) in
-    let more : length c.push.new.self ≡ length p + 1 = rw longer (length-snoc p c.args.value) in
+    let more : length c.push.new.self ≡ length p + 1 = rw longer (length_push p c.args.value) in
     let after : c.deref.result.now ≡ c.extend.new.domains = written _ _ _ _ c.deref.ensures.value (omega (arith, c.deref_mut.ensures.len)) in
     let full : length c.deref.result.now ≡ length c.args.base.now = rw after (omega (arith, ap (λ (s : List Domain). length s) same)) in (
       omega (arith, c.decreases),

@@ -3,7 +3,7 @@ use Rattle.std.specs.List.{slice_get}
 use Rattle.std.proofs.lemmas.List.{take_all}
 use Rattle.std.proofs.lemmas.List.Elements.{All-more, All-map, All-contains, Contains-get_or}
 use Rattle.std.proofs.lemmas.Option.{slice_get_within}
-use Rattle.cca_base.proofs.Members.{all_from}
+use Rattle.list_laws.proofs.Members.{all_from}
 use Rattle.cca_base.proofs.PathLaws.{below_contains, numbers_are_below}
 use Rattle.cca_base.specs.declared.cube.Pair.{Pair}
 use Rattle.cca_base.specs.Relations.{numbers_below}
@@ -15,13 +15,13 @@ use Rattle.cost_search.proofs.queue.blocked_by.Goals as goal
 pub returns-then-not-is_after-clause-some : goal.returns-then-not-is_after-clause-some
 returns-then-not-is_after-clause-some c =
     let modes = c.args.part.now.modes in
-    let e = c.in_ok-all_below.ensures ∙ ap (λ (m : List ℕ). numbers_below (length m)) c.as_slice-modes.ensures in
+    let e = c.in_ok-numbers_below.ensures ∙ ap (λ (m : List ℕ). numbers_below (length m)) c.as_slice-modes.ensures in
     let h = c.if-not-is_after.ensures in
     inl (λ a. (let no = h.1 a in absurd (cc)), λ x k. subst (λ cs. Contains cs x) (sym e) (below_contains (length modes) x k))
 
 pub returns-then-not-is_after-clause-within : goal.returns-then-not-is_after-clause-within
 returns-then-not-is_after-clause-within c =
-    let e = c.in_ok-all_below.ensures ∙ ap (λ (m : List ℕ). numbers_below (length m)) c.as_slice-modes.ensures in
+    let e = c.in_ok-numbers_below.ensures ∙ ap (λ (m : List ℕ). numbers_below (length m)) c.as_slice-modes.ensures in
     subst (All (λ x. x < length c.args.part.now.modes)) (sym e) (numbers_are_below (length c.args.part.now.modes))
 
 -- the cube that the state holds

@@ -1,5 +1,4 @@
-use Rattle.std.proofs.Common.{◌≡◌, ◌∙◌, ℕ, List, Bool, Option, true, false, length, ap, sym, subst, length-set, replicate, MatchOption}
-use Rattle.std.proofs.Common.{Some, None}
+use Rattle.std.proofs.Common.{◌≡◌, ◌∙◌, ℕ, List, Bool, Option, true, false, length, ap, sym, subst, length-set, replicate, MatchOption, Some, None}
 use Rattle.std.proofs.lemmas.List.{length-replicate}
 use Rattle.cca_base.proofs.FlagLaws.{none_set}
 use Rattle.clause_form.specs.Clauses.{AllBelow}

@@ -13,4 +13,4 @@ invariant-lines g l = record {
 }
 
 abbrev pub decreases-lines : goal.decreases-lines
-decreases-lines g l = 1000001 - l.count
+decreases-lines g l = MAX_LINES + 1 - l.count

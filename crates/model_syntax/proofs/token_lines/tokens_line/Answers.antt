@@ -1,9 +1,10 @@
 use Rattle.std.proofs.Common.{Some, None, Ok, map, sym, ap, ◌∙◌, refl}
+use Rattle.text_base.proofs.LexemesOfTokens.{lexemes_of}
 use Rattle.text_base.specs.Tokens.{token_view}
 use Rattle.model_syntax.specs.Items.{item_of, shown_item}
 use Rattle.model_syntax.specs.Lines.{ModelSoFar, Refuses, LeadsByForm, LeadsByTokens}
 use Rattle.model_syntax.proofs.ItemWords.{item_has_bare_names}
-use Rattle.model_syntax.proofs.LineAnswers.{form_leads, line_weaker, lexemes_of, no_form}
+use Rattle.model_syntax.proofs.LineAnswers.{form_leads, line_weaker, no_form}
 use Rattle.model_syntax.proofs.token_lines.tokens_line.Goals as goal
 
 pub form_line-requires : goal.form_line-requires

@@ -1,7 +1,7 @@
 use Rattle.std.proofs.Common.{[], ◌∷◌, ◌++◌, Some, ap, subst, sym}
 use Rattle.cca_base.specs.declared.model.Failure.{Failure}
 use Rattle.cca_base.specs.LeastCosts.{IsLeast}
-use Rattle.plan_checker.proofs.CostSums.{least_more, least_same}
+use Rattle.cca_base.proofs.LeastFailures.{least_more, least_same}
 use Rattle.plan_checker.proofs.cost.with_failure.Goals as goal
 
 pub returns-then-failure-component : goal.returns-then-failure-component

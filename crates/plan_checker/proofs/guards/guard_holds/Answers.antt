@@ -4,7 +4,8 @@ use Rattle.cca_base.specs.declared.cube.Pair.{Pair}
 use Rattle.cca_base.specs.Model.{HasMode}
 use Rattle.cca_base.specs.State.{Follows, Holds}
 use Rattle.cca_base.proofs.StatePairs.{pairs_have_modes}
-use Rattle.plan_checker.proofs.GuardLaws.{guard_within, follows_holds, holds_follows}
+use Rattle.cca_base.proofs.HeldFormulas.{follows_holds, holds_follows}
+use Rattle.plan_checker.proofs.GuardLaws.{guard_within}
 use Rattle.plan_checker.proofs.guards.guard_holds.Goals as goal
 
 pub follows-requires-clause-modes : goal.follows-requires-clause-modes

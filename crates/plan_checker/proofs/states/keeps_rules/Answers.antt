@@ -4,7 +4,7 @@ use Rattle.std.proofs.lemmas.List.Elements.{All-more, All-contains}
 use Rattle.cca_base.specs.declared.formula.Formula.{Formula}
 use Rattle.cca_base.specs.Formula.{truth}
 use Rattle.cca_base.specs.Model.{IsFormula}
-use Rattle.cca_base.proofs.Found.{found}
+use Rattle.list_laws.proofs.Members.{found}
 use Rattle.plan_checker.proofs.WorldParts.{rule_within}
 use Rattle.plan_checker.proofs.states.keeps_rules.Goals as goal
 

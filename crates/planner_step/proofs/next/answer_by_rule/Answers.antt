@@ -2,7 +2,7 @@ use Rattle.std.proofs.Common.{ℕ, ap, subst, sym, arith, All, length, ◌<◌, 
 use Rattle.cca_base.specs.declared.cube.Pair.{Pair}
 use Rattle.cca_base.specs.Goals.{IsFirstUnreached}
 use Rattle.cca_base.specs.Orders.{IsFirstMissing}
-use Rattle.planner_step.specs.Planning.{AreReached}
+use Rattle.cca_base.specs.Steps.{AreReached}
 use Rattle.planner_step.specs.Toward.{IsWantedPair}
 use Rattle.planner_step.proofs.Replies.{goal_within, goal_few, unreached_answer, first_wanted, send_answer, found_few}
 use Rattle.planner_step.proofs.next.answer_by_rule.Goals as goal

@@ -1,5 +1,5 @@
 use Rattle.std.proofs.Common.{take, ◌≤◌, ◌+◌}
-use Rattle.planner_step.specs.Planning.{AreReached}
+use Rattle.cca_base.specs.Steps.{AreReached}
 use Rattle.planner_step.proofs.reached.first_unreached.Given as goal
 
 abbrev pub invariant-loop-i : goal.invariant-loop-i

@@ -3,9 +3,8 @@ use Rattle.cca_base.specs.PlantModel.{PlantModel}
 use Rattle.cca_base.specs.Accepted.{CompiledModel}
 use Rattle.cca_base.specs.Model.{WellFormed, mode_counts}
 use Rattle.cca_base.specs.Relations.{AreExactly}
-use Rattle.reversibility.specs.Levels.{AreOpenMoves, AreMovesWithin}
+use Rattle.reversibility.specs.Levels.{AreOpenMoves, AreMovesWithin, IsAmong}
 use Rattle.reversibility.specs.ClassParts.{ClassParts, in_row}
-use Rattle.reversibility.specs.Levels.{IsAmong}
 use Rattle.reversibility.proofs.OpenMoves.{within_modes}
 use Rattle.policy_tables.specs.Leaving.{LeavesMode, AreLeaving, IsOpenAt, AreCubesTo}
 use Rattle.policy_tables.proofs.Leavers.{leaving_from, leaving_open}

@@ -1,5 +1,5 @@
 use Rattle.prime_implicants.specs.Found.{AgreesTo}
-use Rattle.std.proofs.Common.{rules, arith, ◌≡◌, true, ◌<◌, ◌≤◌, ◌+◌, length, Some, None, sym, ◌∙◌, ap}
+use Rattle.std.proofs.Common.{rules, arith, ◌≡◌, true, ◌<◌, ◌≤◌, ◌+◌, length, Some, None, sym, ◌∙◌, ap, set, get_or, length-set, ◌⊎◌, inl, inr, ◌≢◌}
 use Rattle.prime_implicants.proofs.DenseClauseLaws.{length-within}
 use Rattle.prime_implicants.proofs.PartialValueLaws.{within-set}
 use Rattle.prime_implicants.proofs.NamedRows.{others_stay, others_and_named}
@@ -7,7 +7,6 @@ use Rattle.prime_implicants.proofs.FalsifyingChoices.{whole_found, ended, agrees
 use Rattle.cca_base.specs.Sets.{has}
 use Rattle.std.proofs.lemmas.List.{get_or_read}
 use Rattle.std.proofs.lemmas.Bool.{eqb-false}
-use Rattle.std.proofs.Common.{set, get_or, length-set, ◌⊎◌, inl, inr, ◌≢◌}
 use Rattle.prime_implicants.proofs.choices.+choosing.Goals.{choose-then-not-has+then-len-most+in_ok-choose_after, choose-else-not-has, choose-else-not-has-via-then-not-has+else-len-most, choose-else-not-has-via-else-not-has}
 use Rattle.prime_implicants.proofs.choices.+choosing.Goals as goal
 

@@ -1,8 +1,7 @@
 use Rattle.prime_implicants.specs.DenseClauses.{is_pure, is_wide, is_zero, mentions}
 use Rattle.std.proofs.Common.{rules, length, ◌≡◌, true, get_or}
 use Rattle.std.specs.List.{list_all, filter}
-use Rattle.prime_implicants.proofs.DenseClauseLaws.{rows_in, list_all-filter}
-use Rattle.prime_implicants.proofs.DenseClauseLaws.{zeros_stay}
+use Rattle.prime_implicants.proofs.DenseClauseLaws.{rows_in, list_all-filter, zeros_stay}
 use Rattle.prime_implicants.proofs.PureSubjects.{pure_adds_nothing}
 use Rattle.prime_implicants.proofs.completion.saturate.Goals as goal
 

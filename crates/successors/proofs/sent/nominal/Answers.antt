@@ -2,6 +2,7 @@ use Rattle.std.proofs.Common.{◌≡◌, ℕ, List, Some, length, slice_get, ref
 use Rattle.std.proofs.lemmas.Bool.{both_ways}
 use Rattle.std.proofs.lemmas.List.Elements.{All-contains}
 use Rattle.std.proofs.lemmas.Option.{same_Some, slice_get_within}
+use Rattle.list_laws.proofs.Members.{at_member}
 use Rattle.cca_base.specs.declared.cube.Pair.{Pair}
 use Rattle.cca_base.specs.declared.model.Move.{Move}
 use Rattle.cca_base.specs.PlantModel.{PlantModel}
@@ -9,7 +10,7 @@ use Rattle.cca_base.specs.Model.{IsMove, HasMode}
 use Rattle.cca_base.specs.MoveIndex.{IsMoveNamed}
 use Rattle.cca_base.specs.Successors.{IsCommanded}
 use Rattle.successors.specs.Nominal.{NoneSent}
-use Rattle.successors.proofs.Sending.{among_at, commanded_at, named_by, none_commanded, unnamed}
+use Rattle.successors.proofs.Sending.{commanded_at, named_by, none_commanded, unnamed}
 use Rattle.successors.proofs.sent.nominal.Goals as goal
 
 -- what is read is the move that the command names
@@ -63,4 +64,4 @@ returns-clause-mode c =
     let m = c.args.compiled.now.model in
     let n = named_by c.args.compiled.now.model c.model-model.result.now c.args.state.now.modes c.in_ok-command.field-0 c.in_ok-number.number c.model-model.ensures.value c.in_ok-number.ensures.some in
     subst (λ (x : Move). HasMode m x.component x.target) (step c n)
-    (All-contains (IsMove m) m.moves n.0 c.model-model.ensures.compiled.accepted.well_formed.moves (among_at m.moves c.in_ok-number.number n.0 n.1)).target
+    (All-contains (IsMove m) m.moves n.0 c.model-model.ensures.compiled.accepted.well_formed.moves (at_member m.moves c.in_ok-number.number n.0 n.1)).target

@@ -1,7 +1,8 @@
 use Rattle.std.proofs.Common.{refl, sym, subst, ◌∙◌}
+use Rattle.std.proofs.lemmas.List.{nil_from_length}
 use Rattle.std.specs.BinaryHeap.{heap_items}
 use Rattle.trajectory_estimator.specs.Splits.{IsSearched}
-use Rattle.trajectory_estimator.proofs.Searching.{fewer_left, first_best, first_fits, no_length, none_left, searched_on}
+use Rattle.trajectory_estimator.proofs.Searching.{fewer_left, first_best, first_fits, none_left, searched_on}
 use Rattle.trajectory_estimator.proofs.best.best_box.Goals as goal
 
 pub loop-first-init : goal.loop-first-init
@@ -39,4 +40,4 @@ loop-first-preserved c =
 
 pub returns : goal.returns
 returns c =
-    none_left c.args.query.now (subst (IsSearched c.args.query.now) (no_length (heap_items c.loop-first.boxes) (sym c.loop-first.boxes.data.ok.0 ∙ c.in_default.ensures.none)) c.loop-first.invariant.searched)
+    none_left c.args.query.now (subst (IsSearched c.args.query.now) (nil_from_length (heap_items c.loop-first.boxes) (sym c.loop-first.boxes.data.ok.0 ∙ c.in_default.ensures.none)) c.loop-first.invariant.searched)

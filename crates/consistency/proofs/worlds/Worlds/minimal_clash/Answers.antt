@@ -1,12 +1,12 @@
 use Rattle.std.proofs.Common.{◌≡◌, ◌∙◌, All, Contains, ap, subst, sym}
 use Rattle.std.proofs.lemmas.List.Elements.{All-filter}
 use Rattle.std.proofs.lemmas.List.Kept.{AllPairs-filter}
+use Rattle.list_laws.proofs.Members.{all_from, from_filter}
 use Rattle.cca_base.specs.declared.cube.Pair.{Pair}
 use Rattle.cca_base.specs.Cube.{IsCube}
 use Rattle.cca_base.specs.Model.{HasMode}
 use Rattle.cca_base.specs.Repairs.{pairs_of}
 use Rattle.cca_base.specs.Shown.{Clash}
-use Rattle.cca_base.proofs.Members.{all_from, from_filter}
 use Rattle.consistency.specs.Cores.{IsCore, pairs_in}
 use Rattle.consistency.specs.Subjects.{is_in}
 use Rattle.cca_base.proofs.StatePairs.{pairs_have_modes}

@@ -1,7 +1,7 @@
 use Rattle.std.proofs.Common.{◌≡◌, ◌∷◌, Some, None, Result, Err, ap, map, refl, subst, sym}
 use Rattle.cca_base.specs.declared.events.Stop.{Stop}
+use Rattle.cca_base.specs.Refusals.{Answers}
 use Rattle.text_base.specs.Lexemes.{lexeme_of}
-use Rattle.script_reader.specs.SaidLines.{Answers}
 use Rattle.control_syntax.specs.declared.line.Line.{Line}
 use Rattle.control_syntax.specs.Codes.{IsSaidHere}
 use Rattle.control_syntax.specs.Reading.{Reading}

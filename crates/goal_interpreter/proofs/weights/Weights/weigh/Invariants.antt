@@ -1,6 +1,6 @@
 use Rattle.std.proofs.Common.{◌≡◌, ◌≤◌, ◌*◌, take}
 use Rattle.wish_laws.specs.Settled.{weight_of}
-use Rattle.goal_interpreter.specs.declared.weights.TheConstants.{MAX_WEIGHT}
+use Rattle.cca_base.specs.declared.limits.TheConstants.{MAX_WEIGHT}
 use Rattle.goal_interpreter.proofs.weights.Weights.weigh.Given as goal
 
 abbrev pub invariant-loop-c : goal.invariant-loop-c

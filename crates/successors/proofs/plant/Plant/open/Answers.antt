@@ -1,8 +1,7 @@
 use Rattle.std.proofs.Common.{length, sym, ap, subst, ◌∙◌, arith}
 use Rattle.cca_base.specs.PlantModel.{PlantModel}
 use Rattle.cca_base.specs.State.{IsState}
-use Rattle.cca_base.proofs.StartLaws.{start_state, starts_more}
-use Rattle.cca_base.proofs.StartLaws.{starts_all}
+use Rattle.cca_base.proofs.StartLaws.{start_state, starts_more, starts_all}
 use Rattle.successors.proofs.plant.Plant.open.Goals as goal
 
 pub loop-component-preserved : goal.loop-component-preserved

@@ -2,8 +2,7 @@ use Rattle.std.proofs.Common.{◌<◌, ◌+◌, ◌≤◌, length, take, sym, ap
 use Rattle.std.proofs.lemmas.List.{length-set, take_all, take_more_set}
 use Rattle.cca_base.specs.PlantModel.{PlantModel}
 use Rattle.cca_base.specs.State.{IsState}
-use Rattle.cca_base.proofs.StartLaws.{start_state, starts_more}
-use Rattle.cca_base.proofs.StartLaws.{starts_all}
+use Rattle.cca_base.proofs.StartLaws.{start_state, starts_more, starts_all}
 use Rattle.successors.proofs.plant.Plant.reset.Goals as goal
 
 pub loop-at-preserved : goal.loop-at-preserved

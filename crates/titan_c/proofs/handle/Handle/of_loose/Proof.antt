@@ -20,8 +20,7 @@ use Rattle.std.proofs.raw_atomic.Walks.{proved_at}
 use Rattle.std.proofs.alloc.Global.TheLaws as heap_laws
 use Rattle.std.specs.contracts.impls.GlobalAllocator.TheImpl.{ghosts}
 use Rattle.loose_box.proofs.Values.{both, Loose, loose_good, loose_out}
-use Rattle.titan_c.specs.Owned.{the_row as K}
-use Rattle.titan_c.specs.Owned.{handle_owns}
+use Rattle.titan_c.specs.Owned.{the_row as K, handle_owns}
 use Rattle.titan_c.proofs.Held.{Z, held_in}
 use Rattle.titan_c.specs.contracts.handle.Handle.of_loose as F
 use Rattle.titan_c.specs.contracts.handle.Handle.of_loose.Key.{name as #self}

@@ -2,10 +2,10 @@ use Rattle.std.proofs.Common.{◌≤◌, ◌^◌, length, ap, sym, subst, ◌∙
 use Rattle.std.specs.Option.{is_some}
 use Rattle.cca_base.specs.Accepted.{CompiledModel}
 use Rattle.cca_base.specs.PlantModel.{PlantModel}
-use Rattle.script_reader.specs.SaidLines.{Answers}
 use Rattle.watch_lines.specs.WatchEvents.{IsWatchEventOf}
 use Rattle.watch_form.specs.WatchMachine.{WatchState}
 use Rattle.cca_base.proofs.CommandPlaces.{few_commands}
+use Rattle.cca_base.specs.Refusals.{Answers}
 use Rattle.watch_form.proofs.watching.Watching.read.Goals as goal
 
 pub read_watch_line-requires-clause-few : goal.read_watch_line-requires-clause-few

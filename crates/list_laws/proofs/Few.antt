@@ -1,4 +1,4 @@
--- What the small models share.
+-- What holds of each of a few elements, or of each of a few numbers.
 use Rattle.std.proofs.Common.{◌<◌, ℕ, zero, suc, [], ◌∷◌, All, arith}
 use Rattle.std.proofs.lemmas.List.Elements.{All-cons, All-nil}
 

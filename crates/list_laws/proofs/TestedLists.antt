@@ -1,19 +1,13 @@
--- Sets within others, and tests of lists that grow by one element.
-use Rattle.std.proofs.Common.{◌≡◌, ℕ, ◌<◌, ◌==◌, ◌||◌, ◌&&◌, Bool, true, List, [], ◌∷◌, ◌++◌, length, All, bit_or, sym, ap, subst, ◌∙◌, arith}
+-- Tests of lists that grow by one element.
+use Rattle.std.proofs.Common.{◌≡◌, ◌<◌, ◌||◌, ◌&&◌, Bool, true, List, [], ◌∷◌, ◌++◌, length, All, sym, ap, subst, ◌∙◌, arith}
 use Rattle.std.specs.List.{list_all}
-use Rattle.std.proofs.lemmas.Bool.{eqb-true, and_parts, and_from}
+use Rattle.std.proofs.lemmas.Bool.{and_parts, and_from}
 use Rattle.std.proofs.lemmas.List.{length_push, length-append}
 use Rattle.std.proofs.lemmas.List.Elements.{All-take, All-get_or, All-push}
 use Rattle.std.proofs.lemmas.List.Folds.{list_all-append}
 use Rattle.std.proofs.Math.Seq.{get_or-append_seam, take-append_seam}
 use Rattle.std.proofs.Math.Bool.{and_assoc, or_assoc}
 use mathlib.Core.Bool.{and-true, or_comm, or-and_distrib_left}
-use Rattle.cca_base.proofs.SetLaws.{has-or}
-use Rattle.cca_base.specs.Sets.{has}
-
--- a set that the union does not change has all of the other
-pub within : (a b v : ℕ) → (bit_or a b == b) ≡ true → has a v ≡ true → has b v ≡ true
-within a b v h k = subst (λ s. has s v ≡ true) (eqb-true (bit_or a b) b h) (has-or a b v ∙ ap (λ x. x || has b v) k)
 
 pub or_swap : (a b c : Bool) → ((a || b) || c) ≡ ((a || c) || b)
 or_swap a b c = or_assoc a b c ∙ ap (λ x. a || x) (or_comm b c) ∙ sym (or_assoc a c b)

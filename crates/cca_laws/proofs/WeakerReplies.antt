@@ -13,7 +13,6 @@ use Rattle.cca_base.specs.Goals.{IsGoodReply}
 use Rattle.cca_base.specs.Choice.{IsChosenReply}
 use Rattle.cca_base.specs.Trace.{ExecutiveState, start, ReplyRule, IsReply, TickShows}
 use Rattle.cca_base.specs.Runs.{TickRecord, Ticks, Trace}
-use Rattle.trace_laws.specs.Events.{Acts, Makes}
 
 abbrev pub IsWeaker : ReplyRule → ReplyRule → Type 0
 IsWeaker answers others = (s : List ℕ) (goal : List Pair) (reply : Reply) → answers s goal reply → others s goal reply
@@ -47,14 +46,6 @@ module _ (answers others : ReplyRule) (weaker : IsWeaker answers others) where
   ticks_too b x since (event.Fault p ∷ events) ts (y, change, rest) = (y, change, ticks_too b y (since ++ event.Fault p ∷ []) events ts rest)
   ticks_too b x since (event.Mirror v ∷ events) ts (y, change, rest) = (y, change, ticks_too b y (since ++ event.Mirror v ∷ []) events ts rest)
   ticks_too b x since (event.Reset ∷ events) ts (y, change, rest) = (y, change, ticks_too b y (since ++ event.Reset ∷ []) events ts rest)
-
-  acts_too : (b : CompiledModel) (x : ExecutiveState) (e : Event) (y : ExecutiveState) (report : Option TickReport) → Acts b answers x e y report → Acts b others x e y report
-  acts_too b x e y None h = h
-  acts_too b x e y (Some report) h = (h.0, h.1, tick_too b.model x report.shown y h.2)
-
-  makes_too : (b : CompiledModel) (x : ExecutiveState) (events : List Event) (y : ExecutiveState) (reports : List TickReport) → Makes b answers x events y reports → Makes b others x events y reports
-  makes_too b x [] y reports h = h
-  makes_too b x (e ∷ events) y reports (z, report, rest, act, made, split) = (z, report, rest, acts_too b x e z report act, makes_too b z events y rest made, split)
 
 weaker_trace : (b : CompiledModel) (answers others : ReplyRule) (events : List Event) (reports : List TickReport) → IsWeaker answers others → Trace b answers events reports → Trace b others events reports
 weaker_trace b answers others events reports weaker t = record { ticks = t.ticks; made = ticks_too answers others weaker b (start b.model 0) [] events t.ticks t.made; reported = t.reported }
