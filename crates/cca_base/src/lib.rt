@@ -27,7 +27,7 @@ pub use compiled::Compiled;
 pub use cube::{Cube, Pair};
 pub use events::{Detail, Event, PlanEnd, Refusal, Reply, Route, Shown, Stop, TickReport};
 pub use formula::{Formula, Subject, holds_at};
-pub use laws::formulas_are_within;
+pub use laws::{codes_are_fixed, formulas_are_within, limits_are_fixed};
 pub use least::lesser;
 pub use limits::{
     MAX_BOUND, MAX_CHOICES, MAX_COMPONENTS, MAX_COST, MAX_DEPTH, MAX_FAILURES, MAX_MOVES, MAX_NAME,

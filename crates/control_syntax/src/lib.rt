@@ -14,7 +14,7 @@ mod reader;
 mod words;
 
 pub use laws::{blocks_by_lines, forms, lines_are_one, programs_are_one, programs_are_read};
-pub use limits::{MAX_BLOCKS, MAX_LINES, MAX_ROUNDS};
+pub use limits::{MAX_BLOCKS, MAX_LINES, MAX_ROUNDS, limits_are_fixed};
 pub use part::Part;
 pub use program_end::ProgramEnd;
 pub use reader::ProgramReader;

@@ -11,7 +11,7 @@ mod target;
 mod weights;
 mod wish;
 
-pub use target::{MAX_IMPLICANTS, Target};
+pub use target::{MAX_IMPLICANTS, Target, limit_is_fixed};
 pub use weights::Weights;
 pub use wish::{interpret, interpret_by};
 

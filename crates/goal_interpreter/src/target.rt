@@ -1,9 +1,17 @@
 //! What is answered for a wish.
 
+ghost use Rattle.std.specs.Prelude.{◌≡◌};
+ghost use Rattle.goal_interpreter.specs.declared.target.TheConstants.{MAX_IMPLICANTS};
+
 use cca_base::{Goal, State};
 
 /// The most prime implicants of a wish.
 pub const MAX_IMPLICANTS: usize = 4096;
+
+/// The limit by its number.
+pub fn limit_is_fixed()
+    ensures { MAX_IMPLICANTS ≡ 4096 }
+{}
 
 /// The target of a wish, or why there is none.
 #[derive(Debug, Drop)]

@@ -1,5 +1,8 @@
 //! The numbers of the reasons for a no.
 
+ghost use Rattle.std.specs.Prelude.{◌≡◌};
+ghost use Rattle.plan_checker.specs.declared.reasons.TheConstants.{LINE, COST, WORLD, STEP, PLAN, GOAL, BACK, ANSWER, LONG};
+
 /// The line, or one that belongs to it, is missing or another.
 pub const LINE: u8 = 1;
 
@@ -26,3 +29,16 @@ pub const ANSWER: u8 = 8;
 
 /// The plan or the way back is too long to be printed.
 pub const LONG: u8 = 9;
+
+/// The reasons by their numbers.
+pub fn reasons_are_fixed()
+    ensures line { LINE ≡ 1 }
+    ensures cost { COST ≡ 2 }
+    ensures world { WORLD ≡ 3 }
+    ensures step { STEP ≡ 4 }
+    ensures plan { PLAN ≡ 5 }
+    ensures goal { GOAL ≡ 6 }
+    ensures back { BACK ≡ 7 }
+    ensures answer { ANSWER ≡ 8 }
+    ensures long { LONG ≡ 9 }
+{}

@@ -23,7 +23,7 @@ mod words;
 pub use commands::{command_of, command_places};
 pub use compiled::show_lines;
 pub use json::json_of;
-pub use limits::MAX_TRACE_LINE;
+pub use limits::{MAX_TRACE_LINE, limit_is_fixed};
 pub use proof_lines::{route_lines, world_line};
 pub use read_parts::read_count;
 pub use refusal::refusal_line;

@@ -9,6 +9,7 @@ use crate::read_report::read_report;
 use crate::words::words_of;
 use cca_base::{Model, PlanEnd, TickReport, World};
 use std::alloc::{AllocError, Global};
+use thiserror::Error;
 
 /// A line of a printed trace.
 #[derive(Debug, Drop)]
@@ -24,11 +25,13 @@ pub enum TraceLine {
 }
 
 /// Why no value is read from a line.
-#[derive(Clone, Copy, Debug, PartialEq, Eq)]
+#[derive(Clone, Copy, Debug, PartialEq, Eq, Error)]
 pub enum LineFault {
     /// The line is no text of a value that fits the model.
+    #[error("the line is no text of a value that fits the model")]
     NotALine,
-    /// Memory ran out.
+    /// There was not enough memory.
+    #[error("out of memory")]
     Memory,
 }
 

@@ -29,7 +29,7 @@ mod window;
 mod window_box;
 
 pub use best::best_trajectory;
-pub use record::{MAX_WINDOW, Record};
+pub use record::{MAX_WINDOW, Record, window_is_fixed};
 pub use tracker::Tracker;
 pub use trajectory::Trajectory;
 pub use window::Window;

@@ -2,12 +2,18 @@
 
 ghost use Rattle.std.specs.Prelude.{◌≡◌, ◌≤◌, ◌++◌, ◌∷◌, [], IfOk, drop, length, map};
 ghost use Rattle.trajectory_estimator.specs.Asked.{entry_of};
+ghost use Rattle.trajectory_estimator.specs.declared.record.TheConstants.{MAX_WINDOW};
 
 use cca_base::{List, Seen};
 use std::alloc::{AllocError, Global};
 
 /// The most ticks that a window has.
 pub const MAX_WINDOW: usize = 8;
+
+/// The limit by its number.
+pub fn window_is_fixed()
+    ensures { MAX_WINDOW ≡ 8 }
+{}
 
 /// What is known of one tick.
 #[derive(Debug, Drop)]
