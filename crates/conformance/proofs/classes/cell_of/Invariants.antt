@@ -1,4 +1,0 @@
-use Rattle.conformance.proofs.classes.cell_of.Given as goal
-
-abbrev pub ghosts-cell_at : goal.ghosts-cell_at
-ghosts-cell_at a = record { name = a.blank.name; parts = a.blank.parts }
