@@ -3,14 +3,20 @@
 ghost use Rattle.std.specs.Prelude.{IfSome};
 ghost use Rattle.cca_base.specs.Prelude.{AreRows};
 
-use crate::compiled::compiled_of;
+use acceptance::accept;
 use cca_base::*;
-use conformance_parts::{Pairs, STICKING_VALVE, pair, seen};
+use conformance_parts::{Pairs, STICKING_VALVE, model_of, pair, seen};
 use cost_search::Search;
 use mode_estimator::{Estimate, estimate};
 use std::alloc::Global;
 use std::test::*;
 use successors::{Plant, choices};
+
+/// What is compiled of the model of this text.
+fn compiled_of(alloc: Global, text: &str) -> Option<Compiled> {
+    let model = model_of(alloc, text)?;
+    accept(alloc, model).ok()
+}
 
 /// What the components may become where the valve is to open and the first command came before.
 fn next_choices(alloc: Global, compiled: &Compiled) -> Option<Choices>

@@ -2,8 +2,6 @@
 #![tactic(auto)]
 
 #[cfg(test)]
-mod compiled;
-#[cfg(test)]
 mod estimates;
 #[cfg(test)]
 mod windows;

@@ -3,9 +3,9 @@
 ghost use Rattle.std.specs.Prelude.{◌≡◌, ◌≤◌, ◌<◌, ◌+◌, All, IfSome, map};
 ghost use Rattle.trajectory_estimator.specs.Asked.{AreValues, entry_of};
 
-use crate::compiled::compiled_of;
+use acceptance::accept;
 use cca_base::*;
-use conformance_parts::{Pairs, STICKING_VALVE, seen, state_of};
+use conformance_parts::{Pairs, STICKING_VALVE, model_with, seen, state_of};
 use std::alloc::Global;
 use std::test::*;
 use trajectory_estimator::{MAX_WINDOW, Record, Tracker, Trajectory, Window, best_trajectory};
@@ -13,9 +13,15 @@ use trajectory_estimator::{MAX_WINDOW, Record, Tracker, Trajectory, Window, best
 /// A command, and values of variables.
 type Row<'a> = (Option<u16>, Pairs<'a>);
 
-/// The valve that sticks, with a driver that fails.
-fn failing_driver(alloc: Global) -> Option<String> {
-    format!(in alloc; "{STICKING_VALVE}\nfail drv on -> off cost 2").ok()
+/// A line by which the driver of the valve fails, and one that adds nothing.
+const FAILING_DRIVER: &str = "fail drv on -> off cost 2";
+
+const NOTHING_MORE: &str = "";
+
+/// What is compiled of the valve that sticks, with one more line.
+fn valve_with(alloc: Global, more: &str) -> Option<Compiled> {
+    let model = model_with(alloc, STICKING_VALVE, more)?;
+    accept(alloc, model).ok()
 }
 
 /// The driver is switched on, a tick passes, and then the valve is opened, but nothing flows.
@@ -67,9 +73,9 @@ fn best_from(
     best_trajectory(alloc, compiled, &anchor, &records).ok()
 }
 
-/// The same of the model of this text, from the start of the valve and its driver.
-fn best_of(alloc: Global, text: &str, rows: &[Row<'_>]) -> Option<Option<Trajectory>> {
-    let compiled = compiled_of(alloc, text)?;
+/// The same of the valve with one more line, from its start and that of its driver.
+fn best_of(alloc: Global, more: &str, rows: &[Row<'_>]) -> Option<Option<Trajectory>> {
+    let compiled = valve_with(alloc, more)?;
     best_from(alloc, &compiled, &[0, 0], rows)
 }
 
@@ -93,24 +99,16 @@ fn is_path(path: &Trajectory, wanted: Path<'_>) -> bool {
 }
 
 /// Whether the rows are best explained so.
-fn explains(alloc: Global, text: &str, rows: &[Row<'_>], wanted: Path<'_>) -> bool {
-    match best_of(alloc, text, rows) {
+fn explains(alloc: Global, more: &str, rows: &[Row<'_>], wanted: Path<'_>) -> bool {
+    match best_of(alloc, more, rows) {
         Some(Some(path)) => is_path(&path, wanted),
         _ => false,
     }
 }
 
-/// Whether the rows over the valve with a driver that fails are best explained so.
-fn explains_failing(alloc: Global, rows: &[Row<'_>], wanted: Path<'_>) -> bool {
-    match failing_driver(alloc) {
-        Some(text) => explains(alloc, text.as_str(), rows, wanted),
-        None => false,
-    }
-}
-
 /// Whether nothing explains the rows.
-fn is_unexplained(alloc: Global, text: &str, rows: &[Row<'_>]) -> bool {
-    match best_of(alloc, text, rows) {
+fn is_unexplained(alloc: Global, rows: &[Row<'_>]) -> bool {
+    match best_of(alloc, NOTHING_MORE, rows) {
         Some(None) => true,
         _ => false,
     }
@@ -119,15 +117,15 @@ fn is_unexplained(alloc: Global, text: &str, rows: &[Row<'_>]) -> bool {
 #[test]
 fn the_best_trajectory_has_an_earlier_failure(rt: HostRuntime) {
     let driver: [&[u8]; 4] = [&[0, 0], &[1, 0], &[0, 0], &[0, 0]];
-    assert!(rt; explains_failing(rt.alloc(), NO_FLOW, (&driver, 2)));
+    assert!(rt; explains(rt.alloc(), FAILING_DRIVER, NO_FLOW, (&driver, 2)));
     let valve: [&[u8]; 4] = [&[0, 0], &[1, 0], &[1, 0], &[1, 2]];
-    assert!(rt; explains(rt.alloc(), STICKING_VALVE, NO_FLOW, (&valve, 4)));
+    assert!(rt; explains(rt.alloc(), NOTHING_MORE, NO_FLOW, (&valve, 4)));
 }
 
 #[test]
 fn a_window_may_be_empty_or_unexplained(rt: HostRuntime) {
-    assert!(rt; explains(rt.alloc(), STICKING_VALVE, &[], (&[], 0)));
-    assert!(rt; is_unexplained(rt.alloc(), STICKING_VALVE, FLOW));
+    assert!(rt; explains(rt.alloc(), NOTHING_MORE, &[], (&[], 0)));
+    assert!(rt; is_unexplained(rt.alloc(), FLOW));
 }
 
 /// What the tracker answers to a tick with this row.
@@ -174,25 +172,17 @@ fn is_holding(answer: &Option<Window>) -> bool {
     }
 }
 
-/// A tracker over the model of this text, before its first tick.
-fn opened(alloc: Global, text: &str) -> Option<Tracker>
+/// A tracker over the valve with one more line, before its first tick.
+fn opened(alloc: Global, more: &str) -> Option<Tracker>
     ensures { IfSome result (λ t. t.state.ticks ≡ 0) }
 {
-    let compiled = compiled_of(alloc, text)?;
+    let compiled = valve_with(alloc, more)?;
     Tracker::open(alloc, compiled).ok()
-}
-
-/// A tracker over the valve with a driver that fails, before its first tick.
-fn opened_failing(alloc: Global) -> Option<Tracker>
-    ensures { IfSome result (λ t. t.state.ticks ≡ 0) }
-{
-    let text = failing_driver(alloc)?;
-    opened(alloc, text.as_str())
 }
 
 /// Whether a fourth tick revises the third.
 fn revises_the_third_tick(alloc: Global) -> bool {
-    let Some(mut tracker) = opened_failing(alloc) else {
+    let Some(mut tracker) = opened(alloc, FAILING_DRIVER) else {
         return false;
     };
     let first = ticked(alloc, &mut tracker, (None, &[]));
@@ -214,7 +204,7 @@ fn restarts(tracker: &mut Tracker) -> bool
 
 /// Whether a tick that nothing explains is followed by holding, until a reset.
 fn holds_until_a_reset(alloc: Global) -> bool {
-    let Some(mut tracker) = opened(alloc, STICKING_VALVE) else {
+    let Some(mut tracker) = opened(alloc, NOTHING_MORE) else {
         return false;
     };
     let first = ticked(alloc, &mut tracker, (None, &[(0, 1)]));

@@ -31,6 +31,17 @@ pub fn model_of(alloc: Global, text: &str) -> Option<Model>
     Some(reader.finish())
 }
 
+/// The model of this text with one more line.
+pub fn model_with(alloc: Global, text: &str, line: &str) -> Option<Model>
+    ensures { IfSome result (λ m. IsComplete m) }
+{
+    let mut reader = reader_of(alloc, text)?;
+    if !takes(&mut reader, line) {
+        return None;
+    }
+    Some(reader.finish())
+}
+
 /// A valve that sticks, with the driver that it needs.
 pub const STICKING_VALVE: &str = "titan 1
 component drv = off, on start off
