@@ -1,5 +1,4 @@
-//! Calls of the rooms `control`, `run`, `forms`, `program` and `library` that no run of the program shows, with enough memory, as tests; and a
-//! caller of the top call that meets no fault.
+//! Calls of the rooms `control` and `run` that no run of the program shows, with enough memory, as tests.
 #![tactic(auto)]
 
 #[cfg(test)]
@@ -8,14 +7,7 @@ mod checkers;
 mod compiled;
 #[cfg(test)]
 mod executives;
-mod limits;
 #[cfg(test)]
 mod programs;
 #[cfg(test)]
-mod sessions;
-mod steady;
-#[cfg(test)]
 mod trials;
-
-pub use limits::line_limits;
-pub use steady::run_steady;
