@@ -1,5 +1,5 @@
 -- What a line of a trace leads to, by what was read of it and by the verdict on its tick.
-use Rattle.std.proofs.Common.{◌≡◌, ℕ, ◌+◌, List, Option, Some, None, Result, Ok, Err, IfOk, refl, sym, ap, subst, ◌∙◌}
+use Rattle.std.proofs.Common.{◌≡◌, ℕ, ◌+◌, List, [], ◌++◌, Option, Some, None, Result, Ok, Err, IfOk, refl, sym, ap, subst, ◌∙◌, append-nil}
 use Rattle.std.specs.declared.alloc.AllocError.{AllocError}
 use Rattle.cca_base.specs.declared.events.Event.{Event}
 use Rattle.cca_base.specs.declared.events.Shown.{Shown}
@@ -8,16 +8,17 @@ use Rattle.cca_base.specs.PlantModel.{PlantModel}
 use Rattle.cca_base.specs.Trace.{ExecutiveState}
 use Rattle.cca_base.specs.declared.events.Route.{Route}
 use Rattle.cca_base.specs.declared.state.World.{World}
+use Rattle.line_machine.specs.Outs.{Appended, Buffered}
+use Rattle.line_machine.specs.declared.machine.End.{End}
 use Rattle.line_machine.specs.declared.machine.End.TheVariants as ends
-use Rattle.line_machine.specs.declared.machine.Said.{Said}
 use Rattle.plan_checker.specs.Checked.{Takes, TakesAtYes, OnYes, IsExplained, ShowsSuccessor}
 use Rattle.plan_checker.specs.declared.reasons.TheConstants.{LINE}
 use Rattle.plan_checker.specs.declared.verdict.Verdict.{Verdict}
 use Rattle.trace_text.specs.declared.trace_line.TraceLine.{TraceLine}
 use Rattle.plan_checker.specs.Reasons.{Printed, OnEstimate, IsVerdict}
 use Rattle.plan_checker.specs.declared.verdict.Verdict.TheVariants.{Yes, No}
-use Rattle.check_form.specs.CheckStages.{SaysOf}
-use Rattle.check_form.specs.CheckTrace.{TraceSoFar, TraceOutcome, Follows, Fails, ComesTo, SeesPairs, SaysLine, ByLines, LeadsBehind, TraceLeads}
+use Rattle.check_form.specs.CheckStages.{SaysBy, SaysOf}
+use Rattle.check_form.specs.CheckTrace.{TraceSoFar, TraceOutcome, Follows, Fails, ComesTo, SeesPairs, SaysLine, ByVerdict, ByLines, LeadsBehind, TraceLeads}
 use Rattle.check_form.specs.TickLines.{TickLines, NotNext, More, Whole, next_lines, printed_of}
 use Rattle.check_form.specs.Verdicts.{no_line}
 use Rattle.check_form.specs.declared.tick_lines.PrintedTick.{PrintedTick}
@@ -55,10 +56,14 @@ module _ (m : PlantModel) (x : TraceSoFar) (t : PrintedTick) (w : Option World) 
       (No reason, subst (λ (p : Printed). IsVerdict m x.state p (No reason)) (handed_is t w r e f) (subst (λ (z : Verdict). IsVerdict m x.state (handed t w r e f) z) is_no says), refl)
 
 -- a No is printed
-pub says_no : (Leads : TraceOutcome → Type 0) (x y : TraceSoFar) (ticks reason : ℕ) (r : Result Said AllocError) → Leads (Fails reason) → ticks ≡ x.state.ticks → IfOk r (λ said. said.text.items ≡ no_line (ticks + 1) reason) → IfOk r (λ said. said.end ≡ Some ends.Rejected)
-    → IfOk r (λ said. SaysOf Leads x y said)
-says_no Leads x y ticks reason (Ok said) leads same text end = (Fails reason, leads, (end, text ∙ ap (λ (k : ℕ). no_line (k + 1) reason) same))
-says_no Leads x y ticks reason (Err e) leads same text end = tt
+pub says_no : (Leads : TraceOutcome → Type 0) (x y : TraceSoFar) (ticks reason : ℕ) (old new : Buffered) → Leads (Fails reason) → ticks ≡ x.state.ticks → new.bytes ≡ old.bytes ++ no_line (ticks + 1) reason
+    → Appended (SaysOf Leads x y (Some ends.Rejected)) old new
+says_no Leads x y ticks reason old new leads same behind =
+    record { text = no_line (ticks + 1) reason; is = (Fails reason, leads, (refl, ap (λ (k : ℕ). no_line (k + 1) reason) same)); behind = behind }
+
+-- nothing is printed
+pub says_nothing : (Leads : TraceOutcome → Type 0) (x y : TraceSoFar) (out : Buffered) → Leads (Follows y) → Appended (SaysOf Leads x y None) out out
+says_nothing Leads x y out leads = record { text = []; is = (Follows y, leads, (refl, refl, refl)); behind = sym (append-nil out.bytes) }
 
 module _ (m : PlantModel) (x : TraceSoFar) (l : List ℕ) (events : List Event) (said : Option TraceLine) (says : SaysLine m l said) where
   pub not_a_line : said ≡ None → LeadsBehind (Some events) m x l (Fails LINE)
@@ -74,12 +79,28 @@ module _ (m : PlantModel) (x : TraceSoFar) (l : List ℕ) (events : List Event) 
     pub more_next : (more : TickSoFar) → More more ≡ next_lines ticks lines value → LeadsBehind (Some events) m x l (Follows (record { state = x.state; behind = Some events; lines = more }))
     more_next more e = by_next (More more) (Follows (record { state = x.state; behind = Some events; lines = more })) e refl
 
+    -- the tick is whole, and it is judged, whatever is still kept of its lines
+    module _ (tick : Printed) (z y : TraceSoFar) (stays : z.state ≡ x.state) where
+      judges_so : (o : TraceOutcome) → ByLines (Whole tick) m z events o → ByLines (Whole tick) m x events o
+      judges_so o h = subst (λ (w : ExecutiveState). (v : Verdict) × IsVerdict m w tick v × ByVerdict v m w tick events o) stays h
+
+      says_so : (o : TraceOutcome) (end : Option End) (text : List ℕ) → SaysBy o z y end text → SaysBy o x y end text
+      says_so (Follows t) end text h = h
+      says_so (Fails reason) end text h = (h.0, h.1 ∙ ap (λ (w : ExecutiveState). no_line (w.ticks + 1) reason) stays)
+
+      pub whole_next : (r : Result (Option End) AllocError) (old new : Buffered) → Whole tick ≡ next_lines ticks lines value → IfOk r (λ e. Appended (SaysOf (ByLines (Whole tick) m z events) z y e) old new)
+          → IfOk r (λ e. Appended (SaysOf (LeadsBehind (Some events) m x l) x y e) old new)
+      whole_next (Ok e) old new is h =
+          let (o, by, says) = h.is in
+          record { text = h.text; is = (o, by_next (Whole tick) o is (judges_so o by), says_so o e h.text says); behind = h.behind }
+      whole_next (Err e) old new is h = tt
+
 -- where a tick comes
-pub line_says : (m : PlantModel) (s : ExecutiveState) (lines : TickSoFar) (behind : Option (List Event)) (y : TraceSoFar) (l : List ℕ) (events : List Event) (r : Result Said AllocError) → behind ≡ Some events
-    → IfOk r (λ z. SaysOf (TraceLeads m (record { state = s; behind = Some events; lines = lines }) l) (record { state = s; behind = Some events; lines = lines }) y z)
-    → IfOk r (λ z. SaysOf (TraceLeads m (record { state = s; behind = behind; lines = lines }) l) (record { state = s; behind = behind; lines = lines }) y z)
-line_says m s lines behind y l events r is h =
-    subst (λ (b : Option (List Event)). IfOk r (λ z. SaysOf (TraceLeads m (record { state = s; behind = b; lines = lines }) l) (record { state = s; behind = b; lines = lines }) y z)) (sym is) h
+pub line_says : (m : PlantModel) (s : ExecutiveState) (lines : TickSoFar) (behind : Option (List Event)) (y : TraceSoFar) (l : List ℕ) (events : List Event) (r : Result (Option End) AllocError) (old new : Buffered) → behind ≡ Some events
+    → IfOk r (λ e. Appended (SaysOf (TraceLeads m (record { state = s; behind = Some events; lines = lines }) l) (record { state = s; behind = Some events; lines = lines }) y e) old new)
+    → IfOk r (λ e. Appended (SaysOf (TraceLeads m (record { state = s; behind = behind; lines = lines }) l) (record { state = s; behind = behind; lines = lines }) y e) old new)
+line_says m s lines behind y l events r old new is h =
+    subst (λ (b : Option (List Event)). IfOk r (λ e. Appended (SaysOf (TraceLeads m (record { state = s; behind = b; lines = lines }) l) (record { state = s; behind = b; lines = lines }) y e) old new)) (sym is) h
 
 -- and where none comes
 pub none_behind : (m : PlantModel) (x : TraceSoFar) (l : List ℕ) → x.behind ≡ None → TraceLeads m x l (Fails LINE)

@@ -2,6 +2,7 @@
 use Rattle.std.proofs.Common.{◌≡◌, ℕ, List, refl, sym, ap, subst}
 use Rattle.cca_base.specs.declared.events.Refusal.{Refusal}
 use Rattle.cca_base.specs.PlantModel.{PlantModel}
+use Rattle.line_forms.proofs.EndsRefused.{lines_fixed}
 use Rattle.line_machine.specs.declared.machine.End.{End}
 use Rattle.line_machine.specs.declared.machine.End.TheVariants.{Ended, Rejected, Refused}
 use Rattle.line_machine.proofs.RunsAreOne.{IsFixed}
@@ -11,16 +12,16 @@ use Rattle.model_form.specs.ModelTexts.{ModelText, EndsModel}
 use Rattle.model_form.proofs.FormEnds.{form_is_fixed}
 use Rattle.check_form.specs.CheckEnds.{EndsByModel, IsJudged, IsAllYes, HasFirstNo, HasFirstRefusal}
 use Rattle.check_form.specs.CheckForm.{check_form, check_machine, judged, IsCheck}
-use Rattle.check_form.specs.CheckMachine.{checking_machine}
+use Rattle.check_form.specs.CheckMachine.{check_lines, checking_machine}
 use Rattle.model_form.specs.OneStep.{goes_on_one_way}
-use Rattle.check_form.specs.CheckOneStep.{check_steps_are_one, check_closes_are_one}
+use Rattle.check_form.specs.CheckOneStep.{said_one, serves_one}
 use Rattle.check_form.specs.CheckTrace.{CheckEnd, AllYes, FirstNo, FirstRefusal}
 use Rattle.check_form.proofs.CheckTexts.{checks_are_judged}
 use Rattle.model_form.specs.FormStates.{form_first}
 
 -- a state and a line lead to one state and one text
 pub check_fixed : IsFixed check_machine
-check_fixed = form_is_fixed check_form checking_machine (λ f b n u v a c. goes_on_one_way) (record { steps = check_steps_are_one; closes = check_closes_are_one })
+check_fixed = form_is_fixed check_form checking_machine (λ f b n u v a c. goes_on_one_way) (lines_fixed check_lines said_one serves_one)
 
 -- ---- what the end says
 

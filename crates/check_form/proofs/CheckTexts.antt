@@ -10,7 +10,6 @@ use Rattle.line_machine.specs.Next.{Next, GoesOn, Stops}
 use Rattle.line_machine.specs.Runs.{TransitionByCode, Transition}
 use Rattle.line_machine.specs.declared.machine.End.{End}
 use Rattle.line_machine.specs.declared.machine.End.TheVariants as ends
-use Rattle.plan_checker.specs.declared.reasons.TheConstants.{LINE}
 use Rattle.model_form.specs.Acceptance.{Acceptance, AcceptedAs, RefusedFor, IsAcceptanceOf}
 use Rattle.check_form.specs.CheckEnds.{EndsByScript, EndsByAcceptance}
 use Rattle.check_form.specs.CheckForm.{check_form, judged, IsCheck, ChecksAreJudged}
@@ -18,15 +17,16 @@ use Rattle.model_form.specs.Answers.{Answer, answer, AnswersByAcceptance, Answer
 use Rattle.model_form.specs.ModelTexts.{ModelText, WholeModel}
 use Rattle.model_form.specs.ModelTexts as models
 use Rattle.model_form.proofs.TextsAreAnswers.{texts_are_answers}
-use Rattle.check_form.specs.CheckMachine.{CheckState, InScript, InTrace, ScriptSteps, TraceSteps, TraceCloses, checking_machine}
+use Rattle.check_form.specs.CheckMachine.{CheckState, InScript, InTrace, TraceSteps, checking_machine, trace_closing}
 use Rattle.check_form.specs.CheckScript.{ScriptSoFar, ScriptOutcome, Reads, Ends, Refuses, ScriptLeads, ScriptText, Traced, RefusedScript, LeadsByCode, After, ReadsScript, no_events}
 use Rattle.check_form.specs.CheckTrace.{TraceSoFar, TraceOutcome, Follows, Fails, TraceLeads, CheckEnd, FirstRefusal, JudgesByCode, JudgesLines, end_behind, no_to, trace_line_code}
 use Rattle.model_form.specs.Limits.{line_code}
 use Rattle.trace_text.specs.Json.{refusal_text}
-use Rattle.check_form.specs.Verdicts.{no_line, checked_line}
+use Rattle.check_form.specs.Verdicts.{no_line}
 use Rattle.line_machine.specs.Completes.{Completes}
 use Rattle.line_machine.proofs.RunLines.{first_line, line_first, at_stop, stops, at_end, ends as closed}
 use Rattle.model_form.proofs.SameAnswer.{same_answer}
+use Rattle.check_form.proofs.CheckItems.{ScriptSteps, script_does, script_leads, trace_does, trace_leads}
 
 -- the program ends behind a line
 stopped_there : (f : End) (n : ℕ) (ls : List (List ℕ)) (u : Next CheckState) (x text : List ℕ) (e : End) (rest : List ℕ) → (u ≡ Stops f) × (x ≡ text) → Completes checking_machine u n ls e rest → answer e (x ++ rest) ≡ answer f text
@@ -66,9 +66,9 @@ module _ (b : CompiledModel) (compiled : IsCompiled b) where
     judges : JudgesLines m x n ls end
     is : o ≡ judged end
 
-  closes_is : (behind : Option (List Event)) (x : TraceSoFar) (e : End) (text : List ℕ) → TraceCloses behind x e text → answer e text ≡ judged (end_behind behind x)
-  closes_is None x e text h = same_answer h.0 h.1
-  closes_is (Some events) x e text h = same_answer h.0 h.1
+  closes_is : (behind : Option (List Event)) (x : TraceSoFar) → trace_closing behind x ≡ judged (end_behind behind x)
+  closes_is None x = refl
+  closes_is (Some events) x = refl
 
   module _ (x : TraceSoFar) (n : ℕ) (l : List ℕ) (ls : List (List ℕ)) where
     -- the line and the later ones are judged so, by the code of its length, and that is printed
@@ -89,27 +89,30 @@ module _ (b : CompiledModel) (compiled : IsCompiled b) where
         → ((t : TraceSoFar) → Completes checking_machine (GoesOn (InTrace b t)) (n + 1) ls e rest → TraceEnds t (n + 1) ls (answer e rest)) → LineEnds c (answer e (a ++ rest))
     line_ends (Some code) u a e rest by c on =
         record { end = FirstRefusal m (n + 1) (bare code); judges = refl; is = stopped_there ends.Refused (n + 1) ls u a (refusal_text false m (n + 1) (bare code)) e rest by c }
-    line_ends None u a e rest (done, o, leads, by) c on = step_ends o u a e rest leads by c on
+    line_ends None u a e rest does c on =
+        let (o, leads, by) = trace_leads b (n + 1) l u a x does in
+        step_ends o u a e rest leads by c on
 
   trace_says : (ls : List (List ℕ)) (x : TraceSoFar) (n : ℕ) (e : End) (text : List ℕ) → Completes checking_machine (GoesOn (InTrace b x)) n ls e text → TraceEnds x n ls (answer e text)
   trace_says [] x n e text c =
-      record { end = end_behind x.behind x; judges = refl; is = closes_is x.behind x e text (at_end checking_machine (GoesOn (InTrace b x)) n e text c) }
+      record { end = end_behind x.behind x; judges = refl; is = at_end checking_machine (GoesOn (InTrace b x)) n e text c ∙ closes_is x.behind x }
   trace_says (l ∷ ls) x n e text c =
       let t = first_line checking_machine (InTrace b x) n l ls e text c in
       let r = line_ends x n l ls (trace_line_code (n + 1) l) t.next t.first e t.rest t.takes t.completes (λ y d. trace_says ls y (n + 1) e t.rest d) in
       record { end = r.end; judges = r.judges; is = ap (λ (z : List ℕ). answer e z) t.parts ∙ r.is }
 
   -- and the other way round
-  comes_closed : (behind : Option (List Event)) (x : TraceSoFar) (n : ℕ) → x.behind ≡ behind → Comes (GoesOn (InTrace b x)) n [] (judged (end_behind behind x))
-  comes_closed None x n is = end_comes (InTrace b x) n ends.Ended (checked_line x.state.ticks) (subst (λ (z : Option (List Event)). TraceCloses z x ends.Ended (checked_line x.state.ticks)) (sym is) (refl, refl))
-  comes_closed (Some events) x n is = end_comes (InTrace b x) n ends.Rejected (no_line (x.state.ticks + 1) LINE) (subst (λ (z : Option (List Event)). TraceCloses z x ends.Rejected (no_line (x.state.ticks + 1) LINE)) (sym is) (refl, refl))
+  comes_closed : (x : TraceSoFar) (n : ℕ) → Comes (GoesOn (InTrace b x)) n [] (judged (end_behind x.behind x))
+  comes_closed x n =
+      let closing = trace_closing x.behind x in
+      subst (λ (o : Answer). Comes (GoesOn (InTrace b x)) n [] o) (closes_is x.behind x) (end_comes (InTrace b x) n closing.end closing.text refl)
 
   module _ (x : TraceSoFar) (n : ℕ) (l : List ℕ) (ls : List (List ℕ)) (end : CheckEnd) where
     takes_code : (code : ℕ) → Some code ≡ trace_line_code (n + 1) l → Transition checking_machine (InTrace b x) (n + 1) l (Stops ends.Refused) (refusal_text false m (n + 1) (bare code))
     takes_code code f = subst (λ (o : Option ℕ). TransitionByCode checking_machine o (InTrace b x) (n + 1) l (Stops ends.Refused) (refusal_text false m (n + 1) (bare code))) f (refl, refl)
 
     takes_line : (o : TraceOutcome) (u : Next CheckState) (a : List ℕ) → None ≡ trace_line_code (n + 1) l → TraceLeads m x l o → TraceSteps o b x u a → Transition checking_machine (InTrace b x) (n + 1) l u a
-    takes_line o u a f leads by = subst (λ (c : Option ℕ). TransitionByCode checking_machine c (InTrace b x) (n + 1) l u a) f (compiled, o, leads, by)
+    takes_line o u a f leads by = subst (λ (c : Option ℕ). TransitionByCode checking_machine c (InTrace b x) (n + 1) l u a) f (trace_does b (n + 1) l u a x compiled o leads by)
 
     judged_comes : (c : Option ℕ) → c ≡ trace_line_code (n + 1) l → JudgesByCode c m x (n + 1) l (λ t. JudgesLines m t (n + 1) ls end) end
         → ((t : TraceSoFar) → JudgesLines m t (n + 1) ls end → Comes (GoesOn (InTrace b t)) (n + 1) ls (judged end)) → Comes (GoesOn (InTrace b x)) n (l ∷ ls) (judged end)
@@ -123,7 +126,7 @@ module _ (b : CompiledModel) (compiled : IsCompiled b) where
         subst (λ (z : CheckEnd). Comes (GoesOn (InTrace b x)) n (l ∷ ls) (judged z)) (sym is) (stop_comes (InTrace b x) n l ls ends.Rejected text (takes_line (Fails reason) (Stops ends.Rejected) text f leads (refl, refl)))
 
   trace_comes : (ls : List (List ℕ)) (x : TraceSoFar) (n : ℕ) (end : CheckEnd) → JudgesLines m x n ls end → Comes (GoesOn (InTrace b x)) n ls (judged end)
-  trace_comes [] x n end is = subst (λ (z : CheckEnd). Comes (GoesOn (InTrace b x)) n [] (judged z)) (sym is) (comes_closed x.behind x n refl)
+  trace_comes [] x n end is = subst (λ (z : CheckEnd). Comes (GoesOn (InTrace b x)) n [] (judged z)) (sym is) (comes_closed x n)
   trace_comes (l ∷ ls) x n end h = judged_comes x n l ls end (trace_line_code (n + 1) l) refl h (λ t k. trace_comes ls t (n + 1) end k)
 
   -- ---- the script
@@ -172,12 +175,13 @@ module _ (b : CompiledModel) (compiled : IsCompiled b) where
     script_line_ends : (c : Option ℕ) (u : Next CheckState) (a : List ℕ) (e : End) (rest : List ℕ) → c ≡ line_code (n + 1) l → TransitionByCode checking_machine c (InScript b s) (n + 1) l u a → Completes checking_machine u (n + 1) ls e rest
         → ((t : ScriptSoFar) → Completes checking_machine (GoesOn (InScript b t)) (n + 1) ls e rest → ScriptEnds t (n + 1) ls (answer e rest)) → ScriptEnds s n (l ∷ ls) (answer e (a ++ rest))
     script_line_ends (Some code) u a e rest f by d on = refused_ends (Some code) code u a e rest f refl by d
-    script_line_ends None u a e rest f (done, o, leads, by) d on = outcome_ends o u a e rest f leads by d on
+    script_line_ends None u a e rest f does d on =
+        let (o, leads, by) = script_leads b (n + 1) l u a s does in
+        outcome_ends o u a e rest f leads by d on
 
   script_says : (ls : List (List ℕ)) (s : ScriptSoFar) (n : ℕ) (e : End) (text : List ℕ) → Completes checking_machine (GoesOn (InScript b s)) n ls e text → ScriptEnds s n ls (answer e text)
   script_says [] s n e text c =
-      let p = at_end checking_machine (GoesOn (InScript b s)) n e text c in
-      record { text = RefusedScript n (bare ENDS_EARLY); reads = refl; end = FirstRefusal m n (bare ENDS_EARLY); ends_so = refl; is = same_answer p.0 p.1 }
+      record { text = RefusedScript n (bare ENDS_EARLY); reads = refl; end = FirstRefusal m n (bare ENDS_EARLY); ends_so = refl; is = at_end checking_machine (GoesOn (InScript b s)) n e text c }
   script_says (l ∷ ls) s n e text c =
       let t = first_line checking_machine (InScript b s) n l ls e text c in
       subst (λ (z : List ℕ). ScriptEnds s n (l ∷ ls) (answer e z)) (sym t.parts)
@@ -194,7 +198,7 @@ module _ (b : CompiledModel) (compiled : IsCompiled b) where
     takes_script_code code f = subst (λ (o : Option ℕ). TransitionByCode checking_machine o (InScript b s) (n + 1) l (Stops ends.Refused) (refusal_text false m (n + 1) (bare code))) f (refl, refl)
 
     takes_script_line : (o : ScriptOutcome) (u : Next CheckState) (a : List ℕ) → None ≡ line_code (n + 1) l → ScriptLeads m s l o → ScriptSteps o b s (n + 1) u a → Transition checking_machine (InScript b s) (n + 1) l u a
-    takes_script_line o u a f leads by = subst (λ (c : Option ℕ). TransitionByCode checking_machine c (InScript b s) (n + 1) l u a) f (compiled, o, leads, by)
+    takes_script_line o u a f leads by = subst (λ (c : Option ℕ). TransitionByCode checking_machine c (InScript b s) (n + 1) l u a) f (script_does b (n + 1) l u a s compiled o leads by)
 
     refused_comes : (code : ℕ) → text ≡ RefusedScript (n + 1) (bare code) → Transition checking_machine (InScript b s) (n + 1) l (Stops ends.Refused) (refusal_text false m (n + 1) (bare code)) → Comes (GoesOn (InScript b s)) n (l ∷ ls) (judged end)
     refused_comes code is takes =
@@ -219,7 +223,7 @@ module _ (b : CompiledModel) (compiled : IsCompiled b) where
 
   script_comes : (ls : List (List ℕ)) (s : ScriptSoFar) (n : ℕ) (text : ScriptText) (end : CheckEnd) → ReadsScript m s n ls text → EndsByScript m text end → Comes (GoesOn (InScript b s)) n ls (judged end)
   script_comes [] s n text end is so =
-      stopped_comes s n [] text n (bare ENDS_EARLY) end is so (end_comes (InScript b s) n ends.Refused (refusal_text false m n (bare ENDS_EARLY)) (refl, refl))
+      stopped_comes s n [] text n (bare ENDS_EARLY) end is so (end_comes (InScript b s) n ends.Refused (refusal_text false m n (bare ENDS_EARLY)) refl)
   script_comes (l ∷ ls) s n text end (o, leads, after) so =
       script_line_comes s n l ls text end so (line_code (n + 1) l) o refl leads after (λ t reads. script_comes ls t (n + 1) text end reads so)
 

@@ -1,6 +1,9 @@
 pub mod CheckAgrees
 pub mod CheckEvents
+pub mod CheckItems
+pub mod CheckKeeps
 pub mod CheckLines
 pub mod CheckStatuses
+pub mod CheckSteps
 pub mod CheckTexts
 pub mod NotBefore

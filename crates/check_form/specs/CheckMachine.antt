@@ -1,23 +1,29 @@
 -- The machine of a check behind its model: it reads a script, and then judges a printed trace, line by line. It prints only where it ends.
-use Rattle.std.specs.Prelude.{◌≡◌, ⊤, ℕ, ◌+◌, false, List, Option, Some, None}
-use Rattle.line_machine.specs.Next.{Next, Stops}
-use Rattle.line_machine.specs.declared.machine.End.{End}
-use Rattle.line_machine.specs.declared.machine.End.TheVariants as ends
-use Rattle.line_machine.specs.declared.machine.Machine.{Ghosts}
+use Rattle.std.specs.Prelude.{◌≡◌, ⊤, ℕ, ◌+◌, Bool, true, false, List, Option, Some, None, Result, Ok, Err}
 use Rattle.cca_base.specs.declared.codes.TheConstants.{ENDS_EARLY}
+use Rattle.cca_base.specs.declared.cube.Pair.{Pair}
 use Rattle.cca_base.specs.declared.events.Event.{Event}
 use Rattle.cca_base.specs.Accepted.{CompiledModel, IsCompiled}
 use Rattle.cca_base.specs.PlantModel.{PlantModel}
 use Rattle.cca_base.specs.Refusals.{bare}
-use Rattle.cca_base.specs.Trace.{start}
-use Rattle.plan_checker.specs.declared.reasons.TheConstants.{LINE}
-use Rattle.trace_text.specs.Json.{refusal_text}
-use Rattle.check_form.specs.CheckScript.{ScriptSoFar, ScriptOutcome, Reads, Ends, Refuses, ScriptLeads, no_events}
-use Rattle.check_form.specs.CheckTrace.{TraceSoFar, TraceOutcome, Follows, Fails, ComesTo, TraceLeads}
-use Rattle.model_form.specs.ModelSteps.{GoesOnIn, RefusesLine}
-use Rattle.check_form.specs.Verdicts.{no_line, checked_line}
+use Rattle.cca_base.specs.Trace.{MayCome, start}
+use Rattle.line_forms.specs.LinesMachine.{lines_machine}
+use Rattle.line_forms.specs.declared.line_form.LineForm.{Ghosts as LineGhosts}
+use Rattle.line_machine.specs.Next.{Next, Stops}
+use Rattle.line_machine.specs.declared.machine.End.TheVariants as ends
+use Rattle.line_machine.specs.declared.machine.Machine.{Ghosts}
+use Rattle.model_form.specs.Answers.{Answer, answer, refused_answer}
+use Rattle.model_form.specs.ModelSteps.{GoesOnIn}
 use Rattle.model_form.specs.declared.limits.TheConstants.{MAX_LINE}
+use Rattle.plan_checker.specs.declared.reasons.TheConstants.{LINE}
+use Rattle.script_reader.specs.EventLines.{event_line}
+use Rattle.trace_laws.specs.Events.{PendingAfter}
 use Rattle.trace_text.specs.declared.limits.TheConstants.{MAX_TRACE_LINE}
+use Rattle.check_form.specs.CheckScript.{ScriptSoFar, is_trace_line, no_events, with_event}
+use Rattle.check_form.specs.CheckTrace.{TraceSoFar, TraceOutcome, Follows, Fails, ComesTo, TraceLeads}
+use Rattle.check_form.specs.Verdicts.{no_line, checked_line}
+use Rattle.check_form.specs.declared.item.CheckItem.{CheckItem}
+use Rattle.check_form.specs.declared.item.CheckItem.TheVariants as items
 
 -- where a check stands behind an accepted model: in its script, or in its trace
 pub data CheckState : Type 0 where
@@ -38,11 +44,38 @@ limit_in (InTrace b x) = MAX_TRACE_LINE
 abbrev pub check_first : CompiledModel → CheckState
 check_first b = InScript b no_events
 
--- by what a line makes of the script: behind the line `trace` the events up to the first tick are made
-abbrev pub ScriptSteps : ScriptOutcome → CompiledModel → ScriptSoFar → ℕ → Next CheckState → List ℕ → Type 0
-ScriptSteps (Reads t) b s n u text = GoesOnIn (InScript b t) u text
-ScriptSteps Ends b s n u text = (x : TraceSoFar) × ComesTo b.model (start b.model 0) s.events x × GoesOnIn (InTrace b x) u text
-ScriptSteps (Refuses code) b s n u text = RefusesLine false b.model n (bare code) u text
+-- ---- what a line says
+
+-- what a line of the script asks for: its end, or what an event line says
+abbrev pub script_item : Bool → Result (Option Event) ℕ → Result (Option CheckItem) ℕ
+script_item true said = Ok (Some items.Trace)
+script_item false (Err code) = Err code
+script_item false (Ok None) = Ok None
+script_item false (Ok (Some e)) = Ok (Some (items.Keeps e))
+
+-- what a line says: in the script what it asks for there; in the trace that it is judged, whatever stands in the line
+abbrev pub SaysIn : CheckState → List ℕ → Result (Option CheckItem) ℕ → Type 0
+SaysIn (InScript b s) line said = IsCompiled b × (said ≡ script_item (is_trace_line line) (event_line b.model s.pending s.mirrored line))
+SaysIn (InTrace b x) line said = IsCompiled b × (said ≡ Ok (Some (items.Judges line)))
+
+-- an event that is kept may come, and no line is judged in the script
+abbrev pub FitsScript : PlantModel → ScriptSoFar → CheckItem → Type 0
+FitsScript m s (items.Keeps e) = MayCome m s.pending s.mirrored e
+FitsScript m s items.Trace = Unit {0}
+FitsScript m s (items.Judges line) = ⊥
+
+-- in the trace lines are judged alone
+abbrev pub FitsTrace : CheckItem → Type 0
+FitsTrace (items.Keeps e) = ⊥
+FitsTrace items.Trace = ⊥
+FitsTrace (items.Judges line) = Unit {0}
+
+-- what is known of what is asked for
+abbrev pub FitsIn : CheckState → CheckItem → Type 0
+FitsIn (InScript b s) item = FitsScript b.model s item
+FitsIn (InTrace b x) item = FitsTrace item
+
+-- ---- what is done for it
 
 -- a No is printed, and the program ends
 abbrev pub Rejects : TraceSoFar → ℕ → Next CheckState → List ℕ → Type 0
@@ -53,27 +86,48 @@ abbrev pub TraceSteps : TraceOutcome → CompiledModel → TraceSoFar → Next C
 TraceSteps (Follows t) b x u text = GoesOnIn (InTrace b t) u text
 TraceSteps (Fails reason) b x u text = Rejects x reason u text
 
--- what a line leads to
-abbrev pub CheckSteps : CheckState → ℕ → List ℕ → Next CheckState → List ℕ → Type 0
-CheckSteps (InScript b s) n line u text = IsCompiled b × (o : ScriptOutcome) × ScriptLeads b.model s line o × ScriptSteps o b s n u text
-CheckSteps (InTrace b x) n line u text = IsCompiled b × (o : TraceOutcome) × TraceLeads b.model x line o × TraceSteps o b x u text
+-- in the script an event is kept; and behind the line `trace` the events up to the first tick are made
+abbrev pub ServesScript : CheckItem → CompiledModel → ScriptSoFar → Next CheckState → List ℕ → Type 0
+ServesScript (items.Keeps e) b s u text = (after : List Pair) × PendingAfter s.pending e after × GoesOnIn (InScript b (with_event s e after)) u text
+ServesScript items.Trace b s u text = (x : TraceSoFar) × ComesTo b.model (start b.model 0) s.events x × GoesOnIn (InTrace b x) u text
+ServesScript (items.Judges line) b s u text = ⊥
+
+-- in the trace a line is judged
+abbrev pub ServesTrace : CheckItem → CompiledModel → TraceSoFar → Next CheckState → List ℕ → Type 0
+ServesTrace (items.Keeps e) b x u text = ⊥
+ServesTrace items.Trace b x u text = ⊥
+ServesTrace (items.Judges line) b x u text = (o : TraceOutcome) × TraceLeads b.model x line o × TraceSteps o b x u text
+
+-- what is done, wherever the check stands
+abbrev pub ServesIn : CheckItem → CheckState → Next CheckState → List ℕ → Type 0
+ServesIn item (InScript b s) u text = ServesScript item b s u text
+ServesIn item (InTrace b x) u text = ServesTrace item b x u text
+
+-- ---- the end of the input
 
 -- the end of a trace: no tick is left, or a line of the next one is missing
-abbrev pub TraceCloses : Option (List Event) → TraceSoFar → End → List ℕ → Type 0
-TraceCloses None x e text = (e ≡ ends.Ended) × (text ≡ checked_line x.state.ticks)
-TraceCloses (Some events) x e text = (e ≡ ends.Rejected) × (text ≡ no_line (x.state.ticks + 1) LINE)
+abbrev pub trace_closing : Option (List Event) → TraceSoFar → Answer
+trace_closing None x = answer ends.Ended (checked_line x.state.ticks)
+trace_closing (Some events) x = answer ends.Rejected (no_line (x.state.ticks + 1) LINE)
 
--- what the end of the input leads to: a script has to end with the line `trace`
-abbrev pub CheckCloses : CheckState → ℕ → End → List ℕ → Type 0
-CheckCloses (InScript b s) n e text = (e ≡ ends.Refused) × (text ≡ refusal_text false b.model n (bare ENDS_EARLY))
-CheckCloses (InTrace b x) n e text = TraceCloses x.behind x e text
+-- what is printed at the end of the input: a script has to end with the line `trace`
+abbrev pub closing_in : CheckState → ℕ → Answer
+closing_in (InScript b s) n = refused_answer false b.model n (bare ENDS_EARLY)
+closing_in (InTrace b x) n = trace_closing x.behind x
+
+-- what a line says, and what is done for it
+abbrev pub check_lines : LineGhosts CheckState CheckItem
+check_lines = record {
+  model_of = model_of;
+  is_json = λ s. false;
+  limit_of = limit_in;
+  said = SaysIn;
+  fits = FitsIn;
+  serves = λ item s n u text. ServesIn item s u text;
+  closing = closing_in;
+  awaits = λ s n. ⊤;
+}
 
 -- the machine of a document and its printed trace
 abbrev pub checking_machine : Ghosts CheckState
-checking_machine = record {
-  limit_of = limit_in;
-  refusal = λ s n code. refusal_text false (model_of s) n (bare code);
-  steps = CheckSteps;
-  closes = CheckCloses;
-  awaits = λ s n. ⊤;
-}
+checking_machine = lines_machine check_lines

@@ -1,5 +1,5 @@
--- In a check a state and a line lead to one state and one text, and so does the end of the input. The proofs stand here since a machine names them.
-use Rattle.std.proofs.Common.{◌≡◌, ◌⊎◌, ◌<◌, ◌+◌, ℕ, Bool, true, false, List, [], ◌∷◌, Option, Some, None, Result, Ok, Err, Contains, inl, inr, refl, sym, ap, subst, ◌∙◌}
+-- In a check a line says one thing, and an item that is said leads to one state and one text. The proofs stand here since a form of lines names them.
+use Rattle.std.proofs.Common.{◌≡◌, ◌⊎◌, ◌<◌, ◌+◌, ℕ, List, [], ◌∷◌, Option, Some, None, Result, Ok, Contains, inl, inr, refl, sym, ap, subst, ◌∙◌}
 use Rattle.std.proofs.lemmas.Bool.{cases_order}
 use Rattle.cca_base.specs.declared.cube.Pair.{Pair}
 use Rattle.cca_base.specs.declared.events.Event.{Event}
@@ -13,19 +13,19 @@ use Rattle.cca_base.specs.Trace.{ExecutiveState, Changes, command_of, start}
 use Rattle.cca_base.proofs.NominalLaws.{one_nominal}
 use Rattle.cca_laws.proofs.OneOrder.{one_union}
 use Rattle.line_machine.specs.Next.{Next, GoesOn}
-use Rattle.line_machine.specs.declared.machine.End.{End}
 use Rattle.plan_checker.specs.Checked.{Takes}
 use Rattle.plan_checker.specs.Reasons.{Printed, IsVerdict}
 use Rattle.plan_checker.specs.declared.verdict.Verdict.{Verdict}
 use Rattle.plan_checker.specs.declared.verdict.Verdict.TheVariants.{Yes, No}
-use Rattle.script_reader.specs.EventLines.{event_line}
 use Rattle.trace_laws.specs.Events.{AsGiven, IsTick}
 use Rattle.trace_laws.proofs.PendingKnown.{one_pending}
 use Rattle.trace_text.specs.declared.trace_line.TraceLine.{TraceLine}
 use Rattle.trace_text.proofs.OneTextEach.{lines_are_told_apart}
-use Rattle.check_form.specs.CheckMachine.{CheckState, InScript, InTrace, ScriptSteps, TraceSteps, CheckSteps, TraceCloses, CheckCloses}
-use Rattle.check_form.specs.CheckScript.{ScriptSoFar, ScriptOutcome, Reads, Ends, Refuses, EventLeads, LeadsUnless, ScriptLeads, is_trace_line, with_event}
+use Rattle.check_form.specs.CheckMachine.{CheckState, InScript, InTrace, TraceSteps, SaysIn, ServesIn, check_lines}
+use Rattle.check_form.specs.CheckScript.{with_event}
 use Rattle.check_form.specs.CheckTrace.{TraceSoFar, TraceOutcome, Follows, Fails, ComesTo, SaysLine, ByVerdict, ByLines, LeadsBehind, TraceLeads, with_said}
+use Rattle.check_form.specs.declared.item.CheckItem.{CheckItem}
+use Rattle.check_form.specs.declared.item.CheckItem.TheVariants as items
 use Rattle.check_form.specs.TickLines.{TickLines, NotNext, More, Whole}
 use Rattle.model_form.specs.OneStep.{AreOne}
 
@@ -57,20 +57,6 @@ comes_once (e ∷ events) m x t u (inl h) (inr (z, d, k)) = absurd (never_tick m
 comes_once (e ∷ events) m x t u (inr (y, c, h)) (inl k) = absurd (never_tick m x e y k.0 c)
 comes_once (e ∷ events) m x t u (inr (y, c, h)) (inr (z, d, k)) =
     comes_once events m z t u (subst (λ (w : ExecutiveState). ComesTo m w events t) (one_changed m x e y z c d) h) k
-
--- ---- a line of the script
-
-event_once : (r : Result (Option Event) ℕ) (s : ScriptSoFar) (o p : ScriptOutcome) → EventLeads r s o → EventLeads r s p → o ≡ p
-event_once (Err code) s o p h k = h ∙ sym k
-event_once (Ok None) s o p h k = h ∙ sym k
-event_once (Ok (Some e)) s o p (a, known, h) (b, known', k) = h ∙ ap (λ (z : List Pair). Reads (with_event s e z)) (sym (one_pending s.pending e a b known known')) ∙ sym k
-
-unless_once : (ends : Bool) (r : Result (Option Event) ℕ) (s : ScriptSoFar) (o p : ScriptOutcome) → LeadsUnless ends r s o → LeadsUnless ends r s p → o ≡ p
-unless_once true r s o p h k = h ∙ sym k
-unless_once false r s o p h k = event_once r s o p h k
-
-script_leads_once : (m : PlantModel) (s : ScriptSoFar) (l : List ℕ) (o p : ScriptOutcome) → ScriptLeads m s l o → ScriptLeads m s l p → o ≡ p
-script_leads_once m s l o p h k = unless_once (is_trace_line l) (event_line m s.pending s.mirrored l) s o p h k
 
 -- ---- a line of the trace
 
@@ -123,28 +109,26 @@ behind_once (Some events) m good x l o p (a, says, h) (b, says', k) =
 trace_leads_once : (m : PlantModel) → WellFormed m → (x : TraceSoFar) (l : List ℕ) (o p : TraceOutcome) → TraceLeads m x l o → TraceLeads m x l p → o ≡ p
 trace_leads_once m good x l o p h k = behind_once x.behind m good x l o p h k
 
--- ---- the machine
-
-script_step_one : (o : ScriptOutcome) (b : CompiledModel) (s : ScriptSoFar) (n : ℕ) (u v : Next CheckState) (a c : List ℕ) → ScriptSteps o b s n u a → ScriptSteps o b s n v c → AreOne u v a c
-script_step_one (Reads t) b s n u v a c h k = (h.0 ∙ sym k.0, h.1 ∙ sym k.1)
-script_step_one (Refuses code) b s n u v a c h k = (h.0 ∙ sym k.0, h.1 ∙ sym k.1)
-script_step_one Ends b s n u v a c (x, comes, h) (y, comes', k) =
-    (h.0 ∙ ap (λ (z : TraceSoFar). GoesOn (InTrace b z)) (comes_once s.events b.model (start b.model 0) x y comes comes') ∙ sym k.0, h.1 ∙ sym k.1)
+-- ---- the lines
 
 trace_step_one : (o : TraceOutcome) (b : CompiledModel) (x : TraceSoFar) (u v : Next CheckState) (a c : List ℕ) → TraceSteps o b x u a → TraceSteps o b x v c → AreOne u v a c
 trace_step_one (Follows t) b x u v a c h k = (h.0 ∙ sym k.0, h.1 ∙ sym k.1)
 trace_step_one (Fails reason) b x u v a c h k = (h.0 ∙ sym k.0, h.1 ∙ sym k.1)
 
-pub check_steps_are_one : (s : CheckState) (n : ℕ) (l : List ℕ) (u v : Next CheckState) (a c : List ℕ) → CheckSteps s n l u a → CheckSteps s n l v c → (u ≡ v) × (a ≡ c)
-check_steps_are_one (InScript b s) n l u v a c (compiled, o, leads, h) (compiled', p, leads', k) =
-    script_step_one p b s n u v a c (subst (λ (z : ScriptOutcome). ScriptSteps z b s n u a) (script_leads_once b.model s l o p leads leads') h) k
-check_steps_are_one (InTrace b x) n l u v a c (compiled, o, leads, h) (compiled', p, leads', k) =
-    trace_step_one p b x u v a c (subst (λ (z : TraceOutcome). TraceSteps z b x u a) (trace_leads_once b.model compiled.accepted.well_formed x l o p leads leads') h) k
+serves_in : (i : CheckItem) (s : CheckState) (l : List ℕ) (u v : Next CheckState) (a c : List ℕ) → SaysIn s l (Ok (Some i)) → ServesIn i s u a → ServesIn i s v c → AreOne u v a c
+serves_in (items.Keeps e) (InScript b s) l u v a c says (after, known, h) (other, also, k) =
+    (h.0 ∙ ap (λ (z : List Pair). GoesOn (InScript b (with_event s e z))) (one_pending s.pending e other after also known) ∙ sym k.0, h.1 ∙ sym k.1)
+serves_in items.Trace (InScript b s) l u v a c says (x, comes, h) (y, comes', k) =
+    (h.0 ∙ ap (λ (z : TraceSoFar). GoesOn (InTrace b z)) (comes_once s.events b.model (start b.model 0) x y comes comes') ∙ sym k.0, h.1 ∙ sym k.1)
+serves_in (items.Judges line) (InScript b s) l u v a c says h k = absurd h
+serves_in (items.Keeps e) (InTrace b x) l u v a c says h k = absurd h
+serves_in items.Trace (InTrace b x) l u v a c says h k = absurd h
+serves_in (items.Judges line) (InTrace b x) l u v a c says (o, leads, h) (p, leads', k) =
+    trace_step_one p b x u v a c (subst (λ (z : TraceOutcome). TraceSteps z b x u a) (trace_leads_once b.model says.0.accepted.well_formed x line o p leads leads') h) k
 
-trace_closes_one : (behind : Option (List Event)) (x : TraceSoFar) (e f : End) (a c : List ℕ) → TraceCloses behind x e a → TraceCloses behind x f c → (e ≡ f) × (a ≡ c)
-trace_closes_one None x e f a c h k = (h.0 ∙ sym k.0, h.1 ∙ sym k.1)
-trace_closes_one (Some events) x e f a c h k = (h.0 ∙ sym k.0, h.1 ∙ sym k.1)
+pub serves_one : (i : CheckItem) (s : CheckState) (l : List ℕ) (n : ℕ) (u v : Next CheckState) (a c : List ℕ) → check_lines.said s l (Ok (Some i)) → check_lines.serves i s n u a → check_lines.serves i s n v c → (u ≡ v) × (a ≡ c)
+serves_one i s l n u v a c says h k = serves_in i s l u v a c says h k
 
-pub check_closes_are_one : (s : CheckState) (n : ℕ) (e f : End) (a c : List ℕ) → CheckCloses s n e a → CheckCloses s n f c → (e ≡ f) × (a ≡ c)
-check_closes_are_one (InScript b s) n e f a c h k = (h.0 ∙ sym k.0, h.1 ∙ sym k.1)
-check_closes_are_one (InTrace b x) n e f a c h k = trace_closes_one x.behind x e f a c h k
+pub said_one : (s : CheckState) (l : List ℕ) (a b : Result (Option CheckItem) ℕ) → check_lines.said s l a → check_lines.said s l b → a ≡ b
+said_one (InScript b s) l r q h k = h.1 ∙ sym k.1
+said_one (InTrace b x) l r q h k = h.1 ∙ sym k.1

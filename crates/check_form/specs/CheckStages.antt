@@ -1,28 +1,24 @@
 -- Where the code of `check` stands, and what is known of it.
-use Rattle.std.specs.Prelude.{◌≡◌, ℕ, ◌+◌, List, [], ◌∷◌, Option, Some, None, Result, Ok, Err, IfSome}
+use Rattle.std.specs.Prelude.{◌≡◌, ℕ, ◌+◌, List, [], ◌∷◌, Option, Some, None, IfSome}
 use Rattle.std.specs.Option.{option_map}
 use Rattle.cca_base.specs.declared.cube.Pair.{Pair}
 use Rattle.cca_base.specs.declared.events.Event.{Event}
-use Rattle.cca_base.specs.declared.events.Stop.{Stop}
-use Rattle.cca_base.specs.declared.events.Stop.TheVariants as stops
 use Rattle.cca_base.specs.Accepted.{CompiledModel}
 use Rattle.cca_base.specs.Cube.{IsRising}
 use Rattle.cca_base.specs.State.{HasWorlds}
 use Rattle.cca_base.specs.PlantModel.{PlantModel}
 use Rattle.cca_base.specs.Trace.{MayCome, ExecutiveState}
 use Rattle.consistency.specs.Worlds.{AreWorldsOf}
+use Rattle.line_machine.specs.declared.machine.End.{End}
 use Rattle.line_machine.specs.declared.machine.End.TheVariants as ends
-use Rattle.line_machine.specs.declared.machine.Said.{Said}
 use Rattle.plan_checker.specs.Standing.{FitsModel}
 use Rattle.trace_laws.specs.Events.{PendingAfter, mirrored_after}
 use Rattle.check_form.specs.CheckMachine.{CheckState, InScript, InTrace}
-use Rattle.check_form.specs.CheckScript.{ScriptSoFar, Reads, Ends, Refuses, ScriptLeads}
+use Rattle.check_form.specs.CheckScript.{ScriptSoFar}
 use Rattle.check_form.specs.CheckTrace.{TraceSoFar, TraceOutcome, Follows, Fails, ComesTo}
 use Rattle.check_form.specs.declared.checking.Part.{Part}
 use Rattle.check_form.specs.declared.checking.Part.TheVariants as parts
 use Rattle.check_form.specs.Verdicts.{no_line}
-use Rattle.check_form.specs.declared.check_script.ScriptEnd.{ScriptEnd}
-use Rattle.check_form.specs.declared.check_script.ScriptEnd.TheVariants as going
 use Rattle.check_form.specs.declared.check_script.ScriptEvents.{ScriptEvents}
 use Rattle.check_form.specs.declared.check_trace.TraceCheck.{TraceCheck}
 
@@ -87,21 +83,14 @@ KeepsPart m (parts.Trace t) = KeepsCheck m t
 
 -- ---- what code answers
 
--- what code answers of a line of the script; out of memory says nothing
-abbrev pub AnswersScript : Result ScriptEnd Stop → PlantModel → ScriptSoFar → List ℕ → ScriptSoFar → Type 0
-AnswersScript (Ok going.Going) m s l t = ScriptLeads m s l (Reads t)
-AnswersScript (Ok going.Trace) m s l t = ScriptLeads m s l Ends × (t ≡ s)
-AnswersScript (Err stops.Memory) m s l t = Unit {0}
-AnswersScript (Err (stops.Refused refusal)) m s l t = ScriptLeads m s l (Refuses refusal.code)
+-- what code answers and appends, by what a line of the trace leads to: it goes on there, or a No is printed
+abbrev pub SaysBy : TraceOutcome → TraceSoFar → TraceSoFar → Option End → List ℕ → Type 0
+SaysBy (Follows t) x y end text = (end ≡ None) × (text ≡ []) × (t ≡ y)
+SaysBy (Fails reason) x y end text = (end ≡ Some ends.Rejected) × (text ≡ no_line (x.state.ticks + 1) reason)
 
--- what code says by what a line of the trace leads to: it goes on there, or a No is printed
-abbrev pub SaysBy : TraceOutcome → TraceSoFar → TraceSoFar → Said → Type 0
-SaysBy (Follows t) x y said = (said.end ≡ None) × (said.text.items ≡ []) × (t ≡ y)
-SaysBy (Fails reason) x y said = (said.end ≡ Some ends.Rejected) × (said.text.items ≡ no_line (x.state.ticks + 1) reason)
-
--- a line leads to what code says
-abbrev pub SaysOf : (TraceOutcome → Type 0) → TraceSoFar → TraceSoFar → Said → Type 0
-SaysOf Leads x y said = (o : TraceOutcome) × Leads o × SaysBy o x y said
+-- a line leads to what code answers and appends
+abbrev pub SaysOf : (TraceOutcome → Type 0) → TraceSoFar → TraceSoFar → Option End → List ℕ → Type 0
+SaysOf Leads x y end text = (o : TraceOutcome) × Leads o × SaysBy o x y end text
 
 -- the first events were made, from x on, and the others may come
 pub record Advances (m : PlantModel) (x : ExecutiveState) (events : List Event) (y : ExecutiveState) (rest : List Event) : Type 0 where

@@ -1,11 +1,14 @@
 //! The script of an input for `check`: its events are kept up to the line `trace`, and not made.
 
-ghost use Rattle.std.specs.Prelude.{◌≡◌, IfOk, OnOk};
+ghost use Rattle.std.specs.Prelude.{◌≡◌, IfOk, IfSome, OnOk};
 ghost use Rattle.cca_base.specs.Prelude.{MayCome};
+ghost use Rattle.script_reader.specs.EventLines.{AnswersAs, event_line};
 ghost use Rattle.trace_laws.specs.Events.{PendingAfter};
+ghost use Rattle.check_form.specs.CheckMachine.{FitsScript, script_item};
 ghost use Rattle.check_form.specs.CheckScript.{is_trace_line, no_events, with_event};
-ghost use Rattle.check_form.specs.CheckStages.{AnswersScript, KeepsScript, script_of};
+ghost use Rattle.check_form.specs.CheckStages.{KeepsScript, script_of};
 
+use crate::item::{CheckItem, copied_event};
 use cca_base::{Event, Model, Stop};
 use script_reader::{NamedModel, read_named_event};
 use std::alloc::{AllocError, Global};
@@ -18,15 +21,6 @@ use trace_laws::Known;
 pub struct ScriptEvents {
     pub events: VecDeque<Event>,
     pub known: Known,
-}
-
-/// Whether a line of the script ends it.
-#[derive(Clone, Copy, Debug, PartialEq, Eq)]
-pub enum ScriptEnd {
-    /// More of the script may come.
-    Going,
-    /// The line was `trace`.
-    Trace,
 }
 
 /// Whether the only token of a line is the word `trace`. The error is out of memory.
@@ -55,43 +49,44 @@ impl ScriptEvents {
         }
     }
 
-    /// Keeps an event.
-    fn keep(&mut self, alloc: Global, model: &Model, event: Event) -> Result<(), AllocError>
+    /// Keeps an event. The error is out of memory.
+    pub fn keep(&mut self, alloc: Global, model: &Model, event: &Event) -> Result<(), AllocError>
         requires may_come { MayCome model.now (script_of self.old).pending
-            (script_of self.old).mirrored event }
+            (script_of self.old).mirrored event.now }
         requires keeps { KeepsScript model.now (script_of self.old) }
         ensures event { OnOk result ((after : _)
-            × PendingAfter (script_of self.old).pending event after
-            × (script_of self.new ≡ with_event (script_of self.old) event after)) }
+            × PendingAfter (script_of self.old).pending event.now after
+            × (script_of self.new ≡ with_event (script_of self.old) event.now after)) }
         ensures keeps { KeepsScript model.now (script_of self.new) }
     {
-        let known = self.known.after(alloc, model, &event)?;
-        self.events.push_back(event)?;
+        let known = self.known.after(alloc, model, event)?;
+        let own = copied_event(alloc, event)?;
+        self.events.push_back(own)?;
         self.known = known;
         Ok(())
     }
 
-    /// Reads a line of the script.
-    pub fn line(
-        &mut self,
+    /// What a line of the script asks for.
+    pub fn read(
+        &self,
         alloc: Global,
         named: NamedModel<'_>,
         line: &[u8],
-    ) -> Result<ScriptEnd, Stop>
-        requires keeps { KeepsScript named (script_of self.old) }
-        ensures answer { AnswersScript result named.entry (script_of self.old) line.now
-            (script_of self.new) }
-        ensures keeps { KeepsScript named.entry (script_of self.new) }
+    ) -> Result<Option<CheckItem>, Stop>
+        ensures answer { AnswersAs result (script_item (is_trace_line line.now)
+            (event_line named.entry (script_of self.now).pending (script_of self.now).mirrored
+            line.now)) }
+        ensures fits { IfOk result (λ item. IfSome item
+            (FitsScript named.entry (script_of self.now))) }
     {
-        let model = named.model();
         if is_trace_line(alloc, line)? {
-            return Ok(ScriptEnd::Trace);
+            return Ok(Some(CheckItem::Trace));
         }
         let Known { pending, mirrored } = &self.known;
-        let event = read_named_event(alloc, line, named, pending, *mirrored)?;
-        if let Some(event) = event {
-            self.keep(alloc, model, event)?;
+        match read_named_event(alloc, line, named, pending, *mirrored) {
+            Ok(Some(event)) => Ok(Some(CheckItem::Keeps(event))),
+            Ok(None) => Ok(None),
+            Err(stop) => Err(stop),
         }
-        Ok(ScriptEnd::Going)
     }
 }

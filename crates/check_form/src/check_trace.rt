@@ -1,22 +1,22 @@
 //! The trace of an input for `check`: a checker follows the script's events, and judges each tick by the lines that are printed of it.
 
-ghost use Rattle.std.specs.Prelude.{◌≡◌, ◌+◌, ◌++◌, ◌∷◌, [], ℕ, IfOk, OnOk, Some, None};
+ghost use Rattle.std.specs.Prelude.{◌≡◌, [], IfOk, OnOk, None};
 ghost use Rattle.std.specs.Option.{option_map};
 ghost use Rattle.cca_base.specs.Prelude.{start, HasWorlds, IsCompiled};
 ghost use Rattle.consistency.specs.Worlds.{AreWorldsOf};
-ghost use Rattle.line_machine.specs.Next.{next_of};
+ghost use Rattle.line_machine.specs.Outs.{Appended, IsFront};
+ghost use Rattle.model_form.specs.Answers.{answer};
 ghost use Rattle.plan_checker.specs.Standing.{FitsModel};
-ghost use Rattle.check_form.specs.CheckMachine.{TraceCloses};
+ghost use Rattle.check_form.specs.CheckMachine.{trace_closing};
 ghost use Rattle.check_form.specs.CheckStages.{KeepsCheck, MayComeBehind, MayComeInTurn, MayJudge, SaysOf, trace_of, waiting};
 ghost use Rattle.check_form.specs.CheckTrace.{ByLines, ComesTo, SaysLine, TraceLeads, before_tick};
 ghost use Rattle.check_form.specs.TickLines.{Whole, printed_of};
 
 use crate::tick_lines::{PrintedTick, TickLines, TickSoFar, next_lines};
-use crate::verdicts::{checked_line, no_line, rejected};
+use crate::verdicts::{say_checked, say_no};
 use cca_base::{Event, Model};
 use consistency::Worlds;
-use line_machine::{End, Said};
-use model_form::nothing;
+use line_machine::{End, Out};
 use plan_checker::reasons::LINE;
 use plan_checker::{Checker, Verdict};
 use std::alloc::{AllocError, Global};
@@ -111,19 +111,22 @@ impl TraceCheck {
         Ok(())
     }
 
-    /// Judges a tick, behind which these events come.
+    /// Judges a tick, behind which these events come, and appends what is printed. The error is out of memory.
     fn judge(
         &mut self,
         alloc: Global,
         model: &Model,
         tick: &PrintedTick,
         events: VecDeque<Event>,
-    ) -> Result<Said, AllocError>
+        out: &mut Out,
+    ) -> Result<Option<End>, AllocError>
         requires may { MayJudge model.now self.old events.items }
-        ensures says { IfOk result (λ said.
-            SaysOf (ByLines (Whole (printed_of tick.now)) model.now (waiting self.old events.items)
-            events.items) (waiting self.old events.items) (trace_of self.new) said) }
+        ensures says { IfOk result (λ end. Appended
+            (SaysOf (ByLines (Whole (printed_of tick.now)) model.now (waiting self.old events.items)
+            events.items) (waiting self.old events.items) (trace_of self.new) end)
+            out.old out.new) }
         ensures keeps { KeepsCheck model.now self.new }
+        ensures front { IsFront out.old out.new }
     {
         let ticks = self.checker.ticks();
         let verdict = self.checker.check_tick_by(
@@ -136,66 +139,93 @@ impl TraceCheck {
         match verdict {
             Verdict::Yes => {
                 self.go_on(model, events)?;
-                Ok(nothing(alloc))
+                Ok(None)
             }
-            Verdict::No(reason) => rejected(alloc, ticks, reason),
+            Verdict::No(reason) => {
+                say_no(alloc, ticks, reason, out)?;
+                Ok(Some(End::Rejected))
+            }
         }
     }
 
-    /// Takes a line of a tick behind which these events come.
+    /// Takes a line of a tick behind which these events come, and appends what is printed. The error is out of memory.
     fn tick_line(
         &mut self,
         alloc: Global,
         model: &Model,
         line: &[u8],
         events: VecDeque<Event>,
-    ) -> Result<Said, AllocError>
+        out: &mut Out,
+    ) -> Result<Option<End>, AllocError>
         requires may { MayJudge model.now self.old events.items }
-        ensures says { IfOk result (λ said.
-            SaysOf (TraceLeads model.now (waiting self.old events.items) line.now)
-            (waiting self.old events.items) (trace_of self.new) said) }
+        ensures says { IfOk result (λ end. Appended
+            (SaysOf (TraceLeads model.now (waiting self.old events.items) line.now)
+            (waiting self.old events.items) (trace_of self.new) end) out.old out.new) }
         ensures keeps { KeepsCheck model.now self.new }
+        ensures front { IsFront out.old out.new }
     {
         let ticks = self.checker.ticks();
         let Some(value) = read(alloc, model, line)? else {
-            return rejected(alloc, ticks, LINE);
+            say_no(alloc, ticks, LINE, out)?;
+            return Ok(Some(End::Rejected));
         };
         let lines = mem::replace(&mut self.lines, TickSoFar::Nothing);
         match next_lines(ticks, lines, value) {
-            TickLines::NotNext => rejected(alloc, ticks, LINE),
+            TickLines::NotNext => {
+                say_no(alloc, ticks, LINE, out)?;
+                Ok(Some(End::Rejected))
+            }
             TickLines::More(lines) => {
                 self.lines = lines;
                 self.behind = Some(events);
-                Ok(nothing(alloc))
+                Ok(None)
             }
-            TickLines::Whole(tick) => self.judge(alloc, model, &tick, events),
+            TickLines::Whole(tick) => self.judge(alloc, model, &tick, events, out),
         }
     }
 
-    /// Takes a line of the trace.
-    pub fn line(&mut self, alloc: Global, model: &Model, line: &[u8]) -> Result<Said, AllocError>
+    /// Takes a line of the trace, and appends what is printed. The error is out of memory.
+    pub fn line(
+        &mut self,
+        alloc: Global,
+        model: &Model,
+        line: &[u8],
+        out: &mut Out,
+    ) -> Result<Option<End>, AllocError>
         requires worlds { HasWorlds model.now }
         requires keeps { KeepsCheck model.now self.old }
-        ensures says { IfOk result (λ said.
-            SaysOf (TraceLeads model.now (trace_of self.old) line.now) (trace_of self.old)
-            (trace_of self.new) said) }
+        ensures says { IfOk result (λ end. Appended
+            (SaysOf (TraceLeads model.now (trace_of self.old) line.now) (trace_of self.old)
+            (trace_of self.new) end) out.old out.new) }
         ensures keeps { KeepsCheck model.now self.new }
+        ensures front { IsFront out.old out.new }
     {
         match mem::replace(&mut self.behind, None) {
-            Some(events) => self.tick_line(alloc, model, line, events),
-            None => rejected(alloc, self.checker.ticks(), LINE),
+            Some(events) => self.tick_line(alloc, model, line, events, out),
+            None => {
+                say_no(alloc, self.checker.ticks(), LINE, out)?;
+                Ok(Some(End::Rejected))
+            }
         }
     }
 
-    /// Takes the end of the trace.
-    pub fn close(&self, alloc: Global) -> Result<(Vec<u8>, End), AllocError>
-        ensures { IfOk result (λ said.
-            TraceCloses (trace_of self.now).behind (trace_of self.now) said.1 said.0.items) }
+    /// Takes the end of the trace, and appends what is printed. The error is out of memory.
+    pub fn close(&self, alloc: Global, out: &mut Out) -> Result<End, AllocError>
+        ensures closes { IfOk result (λ end. Appended
+            (λ text. answer end text ≡ trace_closing (trace_of self.now).behind (trace_of self.now))
+            out.old out.new) }
+        ensures front { IsFront out.old out.new }
     {
         let ticks = self.checker.ticks();
         match &self.behind {
-            Some(_) => Ok((no_line(alloc, ticks, LINE)?, End::Rejected)),
-            None => Ok((checked_line(alloc, ticks)?, End::Ended)),
+            Some(_) => {
+                say_no(alloc, ticks, LINE, out)?;
+                Ok(End::Rejected)
+            }
+            None => {
+                say_checked(alloc, ticks, out)?;
+                Ok(End::Ended)
+            }
         }
     }
 }

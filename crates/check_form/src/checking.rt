@@ -1,17 +1,16 @@
 //! The machine of a check behind its model: it reads a script, and then judges a printed trace of it, line by line.
 
 ghost use Rattle.std.specs.Prelude.{◌≡◌, IfOk};
-ghost use Rattle.check_form.specs.CheckMachine.{model_of};
 ghost use Rattle.model_form.specs.FormStates.{form_first};
 
-use crate::check_script::{ScriptEnd, ScriptEvents};
+use crate::check_script::ScriptEvents;
 use crate::check_trace::TraceCheck;
+use crate::item::{CheckItem, copied};
 use cca_base::codes::ENDS_EARLY;
-use cca_base::{Model, Refusal};
-use line_machine::{End, Machine, Said};
-use model_form::{
-    Accepted, BehindModel, MAX_LINE, OfLines, WithModel, nothing, refusal_of, refuse_stop,
-};
+use cca_base::{Model, Refusal, Stop};
+use line_forms::{LineForm, Lines, OpensLines};
+use line_machine::{End, Out};
+use model_form::{Accepted, MAX_LINE, OfLines, WithModel, refuse_to};
 use std::alloc::{AllocError, Global};
 use std::mem;
 use trace_text::MAX_TRACE_LINE;
@@ -46,7 +45,7 @@ impl std::marker::Model for Checking {
     ghost invariant = { λ c. KeepsPart c.accepted.model c.part };
 }
 
-impl BehindModel for Checking {
+impl OpensLines<CheckItem> for Checking {
     ghost use Rattle.check_form.specs.CheckMachine.{check_first};
 
     ghost first = { check_first };
@@ -59,36 +58,40 @@ impl BehindModel for Checking {
     }
 }
 
-impl Checking {
-    /// The model.
-    fn model(&self) -> &Model
-        ensures { result.now ≡ model_of self.now }
-    {
+// What is said and done stands in `check_lines` (specs/CheckMachine.antt).
+impl LineForm<CheckItem> for Checking {
+    ghost use Rattle.check_form.specs.CheckMachine.{check_lines};
+    ghost use Rattle.check_form.specs.CheckOneStep.{said_one, serves_one};
+
+    ghost model_of = { check_lines.model_of };
+
+    ghost is_json = { check_lines.is_json };
+
+    ghost limit_of = { check_lines.limit_of };
+
+    ghost said = { check_lines.said };
+
+    ghost fits = { check_lines.fits };
+
+    ghost serves = { check_lines.serves };
+
+    ghost closing = { check_lines.closing };
+
+    ghost awaits = { check_lines.awaits };
+
+    ghost said_one = { said_one };
+
+    ghost serves_one = { serves_one };
+
+    ghost awaits_on = { λ x n h. tt };
+
+    fn model(&self) -> &Model {
         self.accepted.compiled().model()
     }
-}
 
-// By the clauses of the trait a line gives `CheckSteps`, and the end of the input `CheckCloses` (specs/CheckMachine.antt).
-impl Machine for Checking {
-    ghost use Rattle.std.specs.Prelude.{⊤, false};
-    ghost use Rattle.cca_base.specs.Prelude.{bare};
-    ghost use Rattle.trace_text.specs.Json.{refusal_text};
-    ghost use Rattle.check_form.specs.CheckMachine.{CheckCloses, CheckSteps, limit_in, model_of};
-    ghost use Rattle.check_form.specs.CheckOneStep.{check_closes_are_one, check_steps_are_one};
-
-    ghost limit_of = { limit_in };
-
-    ghost refusal = { λ s n code. refusal_text false (model_of s) n (bare code) };
-
-    ghost steps = { CheckSteps };
-
-    ghost closes = { CheckCloses };
-
-    ghost awaits = { λ s n. ⊤ };
-
-    ghost steps_are_one = { check_steps_are_one };
-
-    ghost closes_are_one = { check_closes_are_one };
+    fn is_json(&self) -> bool {
+        false
+    }
 
     fn limit(&self) -> usize {
         match &self.part {
@@ -97,43 +100,62 @@ impl Machine for Checking {
         }
     }
 
-    fn refuse(&self, alloc: Global, number: u64, code: u8) -> Result<Vec<u8>, AllocError> {
-        let refusal = Refusal::bare(code);
-        refusal_of(alloc, false, self.model(), number, &refusal)
+    fn read(&self, alloc: Global, line: &[u8]) -> Result<Option<CheckItem>, Stop> {
+        let _compiled = self.accepted.compiled().model();
+        match &self.part {
+            Part::Script(script) => script.read(alloc, self.accepted.named(), line),
+            Part::Trace(_) => {
+                let bytes = copied(alloc, line)?;
+                Ok(Some(CheckItem::Judges(bytes)))
+            }
+        }
     }
 
-    fn step(&mut self, alloc: Global, number: u64, line: &[u8]) -> Result<Said, AllocError> {
+    fn serve(
+        &mut self,
+        alloc: Global,
+        _number: u64,
+        item: &CheckItem,
+        out: &mut Out,
+    ) -> Result<Option<End>, AllocError> {
         let model = self.accepted.compiled().model();
         match &mut self.part {
-            Part::Trace(trace) => trace.line(alloc, model, line),
-            Part::Script(script) => match script.line(alloc, self.accepted.named(), line) {
-                Ok(ScriptEnd::Going) => Ok(nothing(alloc)),
-                Ok(ScriptEnd::Trace) => {
+            Part::Script(script) => match item {
+                CheckItem::Keeps(event) => {
+                    script.keep(alloc, model, event)?;
+                    Ok(None)
+                }
+                CheckItem::Trace => {
                     let read = mem::replace(script, ScriptEvents::new(alloc));
                     let ScriptEvents { events, .. } = read;
                     let trace = TraceCheck::open(alloc, model, events)?;
                     self.part = Part::Trace(trace);
-                    Ok(nothing(alloc))
+                    Ok(None)
                 }
-                Err(stop) => refuse_stop(alloc, false, model, number, &stop),
+                CheckItem::Judges(_) => unreachable!(),
+            },
+            Part::Trace(trace) => match item {
+                CheckItem::Judges(line) => trace.line(alloc, model, line.as_slice(), out),
+                CheckItem::Keeps(_) | CheckItem::Trace => unreachable!(),
             },
         }
     }
 
-    fn close(&mut self, alloc: Global, count: u64) -> Result<(Vec<u8>, End), AllocError> {
+    fn close(&mut self, alloc: Global, count: u64, out: &mut Out) -> Result<End, AllocError> {
         match &self.part {
-            Part::Trace(trace) => trace.close(alloc),
+            Part::Trace(trace) => trace.close(alloc, out),
             Part::Script(_) => {
                 let refusal = Refusal::bare(ENDS_EARLY);
-                let text = refusal_of(alloc, false, self.model(), count, &refusal)?;
-                Ok((text, End::Refused))
+                let model = self.accepted.compiled().model();
+                refuse_to(alloc, false, model, count, &refusal, out)?;
+                Ok(End::Refused)
             }
         }
     }
 }
 
 /// The form `check`: behind the model stand a script, a line `trace`, and a printed trace.
-pub type CheckMachine = WithModel<OfLines, Checking>;
+pub type CheckMachine = WithModel<OfLines, Lines<Checking, CheckItem>>;
 
 /// The form before the first line.
 pub fn open_check(alloc: Global) -> Result<CheckMachine, AllocError>

@@ -5,9 +5,11 @@
 mod check_script;
 mod check_trace;
 mod checking;
+mod item;
 mod laws;
 mod tick_lines;
 mod verdicts;
 
 pub use checking::{CheckMachine, Checking, open_check};
+pub use item::CheckItem;
 pub use laws::checks_are_judged;

@@ -1,10 +1,9 @@
 //! What is printed of a verdict on a trace.
 
-ghost use Rattle.std.specs.Prelude.{◌≡◌, ◌+◌, Some, IfOk};
-ghost use Rattle.line_machine.specs.declared.machine.End.TheVariants.{Rejected};
+ghost use Rattle.std.specs.Prelude.{◌≡◌, ◌+◌, ◌++◌, OnErr, OnOk};
 ghost use Rattle.check_form.specs.Verdicts.{checked_line, no_line, reason_name};
 
-use line_machine::{End, Said};
+use line_machine::Out;
 use plan_checker::reasons::{ANSWER, BACK, COST, GOAL, LINE, PLAN, STEP, WORLD};
 use std::alloc::{AllocError, Global};
 
@@ -25,32 +24,22 @@ fn reason_name(reason: u8) -> &'static str
     }
 }
 
-/// The line of a No to the tick behind so many.
-pub fn no_line(alloc: Global, ticks: u64, reason: u8) -> Result<Vec<u8>, AllocError>
-    ensures { IfOk result (λ text. text.items ≡ no_line (ticks + 1) reason) }
+/// Appends the line of a No to the tick behind so many. The error is out of memory, and then all is as it was.
+pub fn say_no(alloc: Global, ticks: u64, reason: u8, out: &mut Out) -> Result<(), AllocError>
+    ensures ok { OnOk result (out.new.bytes ≡ out.old.bytes ++ no_line (ticks + 1) reason) }
+    ensures err { OnErr result (out.new ≡ out.old) }
 {
     let tick = u128::from(ticks) + 1;
     let name = reason_name(reason);
     let text = format!(in alloc; "no {tick} {reason} {name}\n")?;
-    Ok(text.into_bytes())
+    out.push(text.as_bytes())
 }
 
-/// The line of a trace all of whose ticks got a Yes.
-pub fn checked_line(alloc: Global, ticks: u64) -> Result<Vec<u8>, AllocError>
-    ensures { IfOk result (λ text. text.items ≡ checked_line ticks) }
+/// Appends the line of a trace all of whose ticks got a Yes. The error is out of memory, and then all is as it was.
+pub fn say_checked(alloc: Global, ticks: u64, out: &mut Out) -> Result<(), AllocError>
+    ensures ok { OnOk result (out.new.bytes ≡ out.old.bytes ++ checked_line ticks) }
+    ensures err { OnErr result (out.new ≡ out.old) }
 {
     let text = format!(in alloc; "checked {ticks}\n")?;
-    Ok(text.into_bytes())
-}
-
-/// The line of a No is printed, and the program ends.
-pub fn rejected(alloc: Global, ticks: u64, reason: u8) -> Result<Said, AllocError>
-    ensures text { IfOk result (λ said. said.text.items ≡ no_line (ticks + 1) reason) }
-    ensures end { IfOk result (λ said. said.end ≡ Some Rejected) }
-{
-    let text = no_line(alloc, ticks, reason)?;
-    Ok(Said {
-        text,
-        end: Some(End::Rejected),
-    })
+    out.push(text.as_bytes())
 }

@@ -10,7 +10,6 @@ use cca_base::*;
 use conformance_parts::{STICKING_VALVE, model_of, pair, state_of};
 use control_program::Runner;
 use control_syntax::{Part, ProgramEnd, ProgramReader};
-use formula_syntax::NamedModel;
 use std::alloc::Global;
 use std::test::*;
 
@@ -46,7 +45,7 @@ const ON_OR_OFF: &[&str] = &[
 ];
 
 /// Whether the program goes on behind each of the lines.
-fn goes_on(reader: &mut ProgramReader, model: &NamedModel, lines: &[&str]) -> bool
+fn goes_on(reader: &mut ProgramReader, model: &Model, lines: &[&str]) -> bool
     requires going { reader.old.whole ≡ None }
     requires kept { MayRunSoFar model.now reader.old }
     ensures going { IsTrue result → reader.new.whole ≡ None }
@@ -62,7 +61,7 @@ fn goes_on(reader: &mut ProgramReader, model: &NamedModel, lines: &[&str]) -> bo
 }
 
 /// The program of these lines, if it goes on behind each of them and is whole behind the line `end`.
-fn program_of(alloc: Global, model: &NamedModel, lines: &[&str]) -> Option<Part>
+fn program_of(alloc: Global, model: &Model, lines: &[&str]) -> Option<Part>
     ensures { IfSome result (MayRun model.now) }
 {
     let mut reader = ProgramReader::open(alloc).ok()?;
@@ -132,7 +131,7 @@ fn is_program(program: &Part) -> bool {
 
 /// Whether the lines are read to their tree.
 fn is_read(alloc: Global, model: &Model) -> bool {
-    match program_of(alloc, &NamedModel::of_model(model), OPEN_AND_OFF) {
+    match program_of(alloc, model, OPEN_AND_OFF) {
         Some(program) => is_program(&program),
         None => false,
     }
@@ -155,7 +154,7 @@ fn a_program_is_read_to_its_tree(rt: HostRuntime) {
 fn runner_of(alloc: Global, model: &Model, lines: &[&str]) -> Option<Runner>
     ensures { IfSome result (λ r. All (IsFormula model.now) (formulas_left r.program)) }
 {
-    let program = program_of(alloc, &NamedModel::of_model(model), lines)?;
+    let program = program_of(alloc, model, lines)?;
     Runner::open(alloc, program).ok()
 }
 

@@ -4,11 +4,10 @@ use Rattle.std.proofs.lemmas.List.{length-append}
 use Rattle.std.proofs.Math.Bool.{and-true, and_assoc}
 use Rattle.list_laws.proofs.Elements.{all_left, all_right}
 use Rattle.cca_base.specs.declared.cube.Pair.{Pair}
-use Rattle.cca_base.specs.Model.{IsFormula}
 use Rattle.cca_base.specs.PlantModel.{PlantModel}
 use Rattle.control_laws.specs.Rest.{Rest as rest, Rests as rests, joined}
 use Rattle.control_program.specs.Flat.{Entry, count, size, laid, all_laid}
-use Rattle.control_program.specs.Formulas.{formulas_left, all_formulas_left}
+use Rattle.control_program.specs.Formulas.{formulas_left, all_formulas_left, IsWithin}
 use Rattle.control_program.specs.Marks.{Tree, Trees, none, more, begun, all_begun, rest_of, rests_of, has_ended, is_nothing, is_none, IsProper, AreProper}
 use Rattle.control_program.specs.Places.{StandsAt, StandAt}
 use Rattle.control_program.specs.Turned.{AllBecame, HasTurned, HaveTurned}
@@ -26,7 +25,7 @@ pub record Along (in_order : Bool) (m : PlantModel) (e : List ℕ) (front : List
   pub many : count todo + gone ≡ parts
   pub asks : all ≡ asked ++ own
   pub proper : AreProper todo
-  pub formulas : All (IsFormula m) (all_formulas_left (all_begun todo))
+  pub formulas : All (IsWithin m) (all_formulas_left (all_begun todo))
   pub ended : over ≡ is_none (rests_of done)
   pub goes : (others : List Pair) (ys : Trees) → AllBecame in_order m e todo others ys → AllBecame in_order m e xs (own ++ others) (plus done ys)
 
@@ -97,12 +96,12 @@ module _ (m : PlantModel) (e : List ℕ) where
     unfolding IsProper
     part_proper f = subst AreProper f.is a.proper
 
-    pub part_formulas : (f : FirstLeft a.todo) → All (IsFormula m) (formulas_left (begun f.part)) × All (IsFormula m) (all_formulas_left (all_begun f.others))
+    pub part_formulas : (f : FirstLeft a.todo) → All (IsWithin m) (formulas_left (begun f.part)) × All (IsWithin m) (all_formulas_left (all_begun f.others))
     unfolding formulas_left begun
     part_formulas f =
-        let both = subst (λ v. All (IsFormula m) (all_formulas_left (all_begun v))) f.is a.formulas in (
-          all_left (IsFormula m) (formulas_left (begun f.part)) (all_formulas_left (all_begun f.others)) both,
-          all_right (IsFormula m) (formulas_left (begun f.part)) (all_formulas_left (all_begun f.others)) both,
+        let both = subst (λ v. All (IsWithin m) (all_formulas_left (all_begun v))) f.is a.formulas in (
+          all_left (IsWithin m) (formulas_left (begun f.part)) (all_formulas_left (all_begun f.others)) both,
+          all_right (IsWithin m) (formulas_left (begun f.part)) (all_formulas_left (all_begun f.others)) both,
         )
 
     pub part_nodes : (f : FirstLeft a.todo) → entries ≡ (front ++ all_laid a.done []) ++ laid f.part (all_laid f.others after)

@@ -6,7 +6,6 @@ use Rattle.std.proofs.lemmas.Result.{IfOk-weaker}
 use Rattle.list_laws.proofs.Elements.{all_left, all_right}
 use Rattle.cca_base.specs.declared.cube.Pair.{Pair}
 use Rattle.cca_base.specs.declared.formula.Formula.{Formula}
-use Rattle.cca_base.specs.Model.{IsFormula}
 use Rattle.control_program.specs.declared.asking.Asking.{Asking}
 use Rattle.control_program.specs.declared.asking.Course.{Course}
 use Rattle.control_program.specs.declared.nodes.Kind.{Kind}
@@ -14,7 +13,7 @@ use Rattle.control_program.specs.declared.nodes.Mark.{Mark}
 use Rattle.control_program.specs.declared.nodes.Node.{Node}
 use Rattle.control_program.specs.Courses.{StandsIn, Takes, TakesIn, TurnsIn}
 use Rattle.control_program.specs.Flat.{Marked, Entry, size, laid, tail_of}
-use Rattle.control_program.specs.Formulas.{formulas_left}
+use Rattle.control_program.specs.Formulas.{formulas_left, IsWithin}
 use Rattle.control_program.specs.Marks.{first, second, Tree, begun, rest_of, IsProper}
 use Rattle.control_program.specs.Places.{IsOfKind, choice_of, marked}
 use Rattle.control_program.specs.Turned.{Became, HasTurned, Chooses}
@@ -38,15 +37,15 @@ module _ (a : Asking) (ms : List Mark) (at : ℕ) (s : StandsIn a ms at) (f : Fo
   unfolding IsProper
   parts_proper = let p = subst IsProper two.2 s.proper in (p.1, p.2)
 
-  choose_formulas : All (IsFormula a.rules.now.model.now) (f ∷ formulas_left (begun two.0) ++ formulas_left (begun two.1))
+  choose_formulas : All (IsWithin a.rules.now.model.now) (f ∷ formulas_left (begun two.0) ++ formulas_left (begun two.1))
   unfolding formulas_left begun
-  choose_formulas = subst (λ v. All (IsFormula a.rules.now.model.now) (formulas_left (begun v))) two.2 s.formulas
+  choose_formulas = subst (λ v. All (IsWithin a.rules.now.model.now) (formulas_left (begun v))) two.2 s.formulas
 
-  one_left : All (IsFormula a.rules.now.model.now) (f ∷ formulas_left (begun two.0))
-  one_left = all_left (IsFormula a.rules.now.model.now) (f ∷ formulas_left (begun two.0)) (formulas_left (begun two.1)) choose_formulas
+  one_left : All (IsWithin a.rules.now.model.now) (f ∷ formulas_left (begun two.0))
+  one_left = all_left (IsWithin a.rules.now.model.now) (f ∷ formulas_left (begun two.0)) (formulas_left (begun two.1)) choose_formulas
 
-  pub choose_formula : IsFormula a.rules.now.model.now f
-  choose_formula = All-head (IsFormula a.rules.now.model.now) f (formulas_left (begun two.0)) one_left
+  pub choose_formula : IsWithin a.rules.now.model.now f
+  choose_formula = All-head (IsWithin a.rules.now.model.now) f (formulas_left (begun two.0)) one_left
 
   -- the list with the choice written
   module _ (w : Mark) where
@@ -68,7 +67,7 @@ module _ (a : Asking) (ms : List Mark) (at : ℕ) (s : StandsIn a ms at) (f : Fo
       place = place_behind s.before head at s.place;
       nodes = chosen_nodes;
       proper = parts_proper.0;
-      formulas = All-tail (IsFormula a.rules.now.model.now) f (formulas_left (begun two.0)) one_left;
+      formulas = All-tail (IsWithin a.rules.now.model.now) f (formulas_left (begun two.0)) one_left;
     }
 
     two_place : (n : ℕ) → n ≡ size two.0 → length ((s.before ++ head ∷ []) ++ laid two.0 []) ≡ at + 1 + n
@@ -84,7 +83,7 @@ module _ (a : Asking) (ms : List Mark) (at : ℕ) (s : StandsIn a ms at) (f : Fo
       place = two_place n is;
       nodes = chosen_nodes ∙ behind_one_part (s.before ++ head ∷ []) two.0 (laid two.1 s.after);
       proper = parts_proper.1;
-      formulas = all_right (IsFormula a.rules.now.model.now) (f ∷ formulas_left (begun two.0)) (formulas_left (begun two.1)) choose_formulas;
+      formulas = all_right (IsWithin a.rules.now.model.now) (f ∷ formulas_left (begun two.0)) (formulas_left (begun two.1)) choose_formulas;
     }
 
   one_turns : Chooses a.rules.now.model.now a.estimate.now.modes (choice_of k) f true → (asked : List Pair) (ended : Bool) (entries : List Entry) (all : List Pair)

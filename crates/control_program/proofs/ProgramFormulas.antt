@@ -1,14 +1,18 @@
--- What holds of the formulas of a program holds of those of what is left of it at the start: by this a caller meets the condition of a turn.
+-- What holds of the formulas of a program holds of those of what is left of it at the start, and formulas of a model are within it: by these a
+-- caller meets the condition of a turn.
 use Rattle.std.proofs.Common.{List, [], ◌∷◌, map, flat_map, All, sym, subst}
-use Rattle.std.proofs.lemmas.List.Elements.{All-nil, All-cons, All-head, All-tail, All-append}
+use Rattle.std.proofs.lemmas.List.Elements.{All-nil, All-cons, All-head, All-tail, All-append, All-weaker}
 use Rattle.list_laws.proofs.Elements.{all_left, all_right}
 use Rattle.cca_base.specs.declared.formula.Formula.{Formula}
+use Rattle.cca_base.specs.Model.{IsFormula}
+use Rattle.cca_base.specs.PlantModel.{PlantModel}
+use Rattle.cca_base.proofs.HeldFormulas.{formula_within}
 use Rattle.control_syntax.specs.Program.{formulas_of, formulas_step}
 use Rattle.control_syntax.specs.declared.part.Part.{Part}
 use Rattle.control_syntax.specs.declared.part.Part.TheOpen.{Part-F}
 use Rattle.control_syntax.specs.declared.part.Part.TheFolds.{fold-roll-Part, ind-Part, map-Part}
 use Rattle.control_laws.specs.Rest.{Rest as rest, rests, rest_step, whole}
-use Rattle.control_program.specs.Formulas.{formulas_left, all_formulas_left}
+use Rattle.control_program.specs.Formulas.{formulas_left, all_formulas_left, IsWithin}
 
 module _ (P : Formula → Type 0) where
   abbrev Holds : Part → Type 0
@@ -48,3 +52,6 @@ module _ (P : Formula → Type 0) where
   formulas_of_whole = ind-Part Holds (λ x y is h.
       subst (λ r. All P (formulas_left r)) (sym (fold-roll-Part rest rest_step x))
       (subst Layer is (layer y) (subst (All P) (fold-roll-Part (List Formula) formulas_step x) h)))
+
+pub formulas_within : (m : PlantModel) (fs : List Formula) → All (IsFormula m) fs → All (IsWithin m) fs
+formulas_within m = All-weaker (IsFormula m) (IsWithin m) (formula_within m)

@@ -3,7 +3,6 @@ use Rattle.std.proofs.Common.{◌≡◌, ◌+◌, ◌-◌, ◌<◌, ◌≤◌, �
 use Rattle.std.proofs.lemmas.Option.{slice_get-get_or}
 use Rattle.list_laws.proofs.Elements.{all_left}
 use Rattle.cca_base.specs.declared.cube.Pair.{Pair}
-use Rattle.cca_base.specs.Model.{IsFormula}
 use Rattle.control_laws.specs.Rest.{Rest as rest}
 use Rattle.control_program.specs.declared.asking.Asking.{Asking}
 use Rattle.control_program.specs.declared.nodes.Kind.{Kind}
@@ -11,7 +10,7 @@ use Rattle.control_program.specs.declared.nodes.Mark.{Mark}
 use Rattle.control_program.specs.declared.nodes.Node.{Node}
 use Rattle.control_program.specs.Courses.{StandsIn, RoundAt, EndsRound}
 use Rattle.control_program.specs.Flat.{Marked, Entry, fresh_entry, size, laid}
-use Rattle.control_program.specs.Formulas.{formulas_left}
+use Rattle.control_program.specs.Formulas.{formulas_left, IsWithin}
 use Rattle.control_program.specs.Marks.{Tree, begun, cleared, again, rest_of, has_ended, is_nothing, IsProper}
 use Rattle.control_program.specs.Places.{IsOfKind, IsCleared, marked, rounds_of}
 use Rattle.control_program.specs.Turned.{Became, HasTurned}
@@ -108,11 +107,11 @@ module _ (a : Asking) (ms : List Mark) (at : ℕ) (s : StandsIn a ms at) (number
   unfolding IsProper
   body_proper = (subst IsProper body.1 s.proper).1
 
-  pub body_formulas : All (IsFormula a.rules.now.model.now) (formulas_left (begun body.0))
+  pub body_formulas : All (IsWithin a.rules.now.model.now) (formulas_left (begun body.0))
   unfolding formulas_left begun
   body_formulas =
-      all_left (IsFormula a.rules.now.model.now) (formulas_left (begun body.0)) (formulas_left (begun body.0))
-      (subst (λ v. All (IsFormula a.rules.now.model.now) (formulas_left (begun v))) body.1 s.formulas)
+      all_left (IsWithin a.rules.now.model.now) (formulas_left (begun body.0)) (formulas_left (begun body.0))
+      (subst (λ v. All (IsWithin a.rules.now.model.now) (formulas_left (begun v))) body.1 s.formulas)
 
   abbrev pub body_stands : StandsIn a ms (at + 1)
   body_stands = record {

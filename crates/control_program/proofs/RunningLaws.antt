@@ -1,7 +1,6 @@
 -- What a runner's fields stand for, and what a turn and a reset make of them.
 use Rattle.std.proofs.Common.{◌≡◌, ◌≤◌, ℕ, Bool, true, false, List, [], ◌∷◌, length, Option, Some, None, All, IsNone, IsTrue, refl, sym, ap, subst, ◌∙◌, arith, append-nil}
 use Rattle.cca_base.specs.declared.cube.Pair.{Pair}
-use Rattle.cca_base.specs.Model.{IsFormula}
 use Rattle.cca_base.specs.PlantModel.{PlantModel}
 use Rattle.control_syntax.specs.declared.part.Part.{Part}
 use Rattle.control_laws.specs.Rest.{Rest as rest, whole}
@@ -9,7 +8,7 @@ use Rattle.control_laws.specs.Turns.{TurnsBy, firsts, fresh}
 use Rattle.control_program.specs.declared.nodes.Mark.{Mark}
 use Rattle.control_program.specs.declared.nodes.Node.{Node}
 use Rattle.control_program.specs.Flat.{Entry, laid, read, root}
-use Rattle.control_program.specs.Formulas.{formulas_left}
+use Rattle.control_program.specs.Formulas.{formulas_left, IsWithin}
 use Rattle.control_program.specs.Marks.{Tree, begun, cleared, rest_of, is_nothing}
 use Rattle.control_program.specs.Opened.{opened}
 use Rattle.control_program.specs.Places.{StandsAt, IsCleared, marked}
@@ -65,7 +64,7 @@ module _ (ns : List Node) (ms : List Mark) (over : Bool) (r : RunsBy ns ms over)
       control-laid ns ms' (cleared r.tree) (reset_nodes ms' count full clear) ∙ control-cleared r.tree ∙ ap (λ c. fresh c.program) (sym control_is)
 
   -- ---- a turn
-  abbrev pub whole_stands : (m : PlantModel) (entries : List Entry) → entries ≡ marked ns ms → All (IsFormula m) (formulas_left (control_of ns ms).program) → StandsAt m entries 0
+  abbrev pub whole_stands : (m : PlantModel) (entries : List Entry) → entries ≡ marked ns ms → All (IsWithin m) (formulas_left (control_of ns ms).program) → StandsAt m entries 0
   whole_stands m entries same formulas = record {
     before = [];
     tree = r.tree;
@@ -73,11 +72,11 @@ module _ (ns : List Node) (ms : List Mark) (over : Bool) (r : RunsBy ns ms over)
     place = refl;
     nodes = same ∙ r.is;
     proper = r.proper;
-    formulas = subst (λ c. All (IsFormula m) (formulas_left c.program)) control_is formulas;
+    formulas = subst (λ c. All (IsWithin m) (formulas_left c.program)) control_is formulas;
   }
 
 module _ (ns : List Node) (ms : List Mark) (over : Bool) (r : RunsBy ns ms over) (m : PlantModel) (nodes : List Node) (marks : List Mark) (same_nodes : nodes ≡ ns) (same_marks : marks ≡ ms)
-    (formulas : All (IsFormula m) (formulas_left (control_of ns ms).program)) where
+    (formulas : All (IsWithin m) (formulas_left (control_of ns ms).program)) where
   abbrev pub all_stands : StandsAt m (marked nodes marks) 0
   all_stands = whole_stands ns ms over r m (marked nodes marks) (ap (λ v. marked v marks) same_nodes ∙ ap (marked ns) same_marks) formulas
 

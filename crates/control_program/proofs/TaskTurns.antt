@@ -4,7 +4,6 @@ use Rattle.std.proofs.lemmas.List.Elements.{All-head}
 use Rattle.std.proofs.lemmas.Result.{IfOk-weaker}
 use Rattle.cca_base.specs.declared.cube.Pair.{Pair}
 use Rattle.cca_base.specs.declared.formula.Formula.{Formula}
-use Rattle.cca_base.specs.Model.{IsFormula}
 use Rattle.cca_base.specs.State.{Holds}
 use Rattle.control_laws.specs.Rest.{Rests as rests}
 use Rattle.control_program.specs.declared.asking.Asking.{Asking}
@@ -15,7 +14,7 @@ use Rattle.control_program.specs.declared.nodes.Node.{Node}
 use Rattle.control_program.specs.declared.nodes.Task.{Task}
 use Rattle.control_program.specs.Courses.{StandsIn, StandIn, TaskIn, WorksIn, TurnIn, HasParts, HasWorked, task_tree}
 use Rattle.control_program.specs.Flat.{Marked, Entry, count, size, all_size, laid, all_laid, head_of, tail_of}
-use Rattle.control_program.specs.Formulas.{formulas_left, all_formulas_left}
+use Rattle.control_program.specs.Formulas.{formulas_left, all_formulas_left, IsWithin}
 use Rattle.control_program.specs.Marks.{Tree, Trees, none, begun, all_begun, several, rest_of, has_ended, is_nothing, IsProper, AreProper}
 use Rattle.control_program.specs.Places.{marked, marked_task, is_ended}
 use Rattle.control_program.specs.Turned.{Became, HasTurned, HaveTurned, Reaches}
@@ -159,10 +158,10 @@ module _ (a : Asking) (ms : List Mark) (at : ℕ) (asked all : List Pair) where
     asks = same ∙ sym (append-nil asked);
   }
 
-pub await_formula : (a : Asking) (ms : List Mark) (at : ℕ) (f : Formula) (s : TaskIn a ms at (Task.Await f)) → IsFormula a.rules.now.model.now f
+pub await_formula : (a : Asking) (ms : List Mark) (at : ℕ) (f : Formula) (s : TaskIn a ms at (Task.Await f)) → IsWithin a.rules.now.model.now f
 unfolding begun formulas_left
 await_formula a ms at f s =
-    All-head (IsFormula a.rules.now.model.now) f [] (subst (λ v. All (IsFormula a.rules.now.model.now) (formulas_left (begun v))) s.is s.stands.formulas)
+    All-head (IsWithin a.rules.now.model.now) f [] (subst (λ v. All (IsWithin a.rules.now.model.now) (formulas_left (begun v))) s.is s.stands.formulas)
 
 formulas-several : (o : Bool) (xs : rests) → formulas_left (several o xs) ≡ all_formulas_left xs
 unfolding formulas_left
@@ -181,11 +180,11 @@ module _ (a : Asking) (ms : List Mark) (at : ℕ) (o : Bool) (n : ℕ) (s : Task
   unfolding IsProper
   parts_proper = subst IsProper s.is s.stands.proper
 
-  pub parts_formulas : All (IsFormula a.rules.now.model.now) (all_formulas_left (all_begun s.parts))
+  pub parts_formulas : All (IsWithin a.rules.now.model.now) (all_formulas_left (all_begun s.parts))
   unfolding begun
   parts_formulas =
-      subst (All (IsFormula a.rules.now.model.now)) (formulas-several o (all_begun s.parts))
-      (subst (λ v. All (IsFormula a.rules.now.model.now) (formulas_left (begun v))) s.is s.stands.formulas)
+      subst (All (IsWithin a.rules.now.model.now)) (formulas-several o (all_begun s.parts))
+      (subst (λ v. All (IsWithin a.rules.now.model.now) (formulas_left (begun v))) s.is s.stands.formulas)
 
   abbrev pub parts_stand : StandIn a ms (at + 1) n
   parts_stand = record {

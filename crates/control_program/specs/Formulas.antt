@@ -1,6 +1,8 @@
--- The formulas on which what is left of a program waits or chooses.
-use Rattle.std.specs.Prelude.{List, [], ◌∷◌, ◌++◌}
+-- The formulas on which what is left of a program waits or chooses, and which of them may be asked of a model.
+use Rattle.std.specs.Prelude.{List, [], ◌∷◌, ◌++◌, length, IsTrue}
 use Rattle.cca_base.specs.declared.formula.Formula.{Formula}
+use Rattle.cca_base.specs.Formula.{is_within}
+use Rattle.cca_base.specs.PlantModel.{PlantModel}
 use Rattle.control_laws.specs.Rest.{Rest as rest, Rests as rests}
 
 unfoldable mutual
@@ -17,3 +19,7 @@ unfoldable mutual
   pub all_formulas_left : rests → List Formula
   all_formulas_left rests.none = []
   all_formulas_left (rests.more x xs) = formulas_left x ++ all_formulas_left xs
+
+-- each subject of the formula is one of the model's components and variables
+abbrev pub IsWithin : PlantModel → Formula → Type 0
+IsWithin m f = IsTrue (is_within (length m.components) (length m.variables) f)

@@ -1,13 +1,12 @@
 -- What stands at a place of the flat list: the code's nodes with their marks.
 use Rattle.std.specs.Prelude.{◌≡◌, ℕ, Bool, true, false, ◌+◌, List, [], ◌∷◌, ◌++◌, length, map, slice_get, Some, All}
-use Rattle.cca_base.specs.Model.{IsFormula}
 use Rattle.cca_base.specs.PlantModel.{PlantModel}
 use Rattle.control_program.specs.declared.nodes.Kind.{Kind}
 use Rattle.control_program.specs.declared.nodes.Mark.{Mark}
 use Rattle.control_program.specs.declared.nodes.Node.{Node}
 use Rattle.control_program.specs.declared.nodes.Task.{Task}
 use Rattle.control_program.specs.Flat.{Marked, Entry, fresh_entry, count, laid, all_laid, head_of, tail_of}
-use Rattle.control_program.specs.Formulas.{formulas_left, all_formulas_left}
+use Rattle.control_program.specs.Formulas.{formulas_left, all_formulas_left, IsWithin}
 use Rattle.control_program.specs.Marks.{Choice, open_yet, first, second, Tree, Trees, begun, all_begun, IsProper, AreProper}
 
 -- what a mark says: whether the node has ended, which part was chosen, and how many rounds are left
@@ -87,7 +86,7 @@ pub record StandsAt (m : PlantModel) (entries : List Entry) (at : ℕ) : Type 0 
   pub place : length before ≡ at
   pub nodes : entries ≡ before ++ laid tree after
   pub proper : IsProper tree
-  pub formulas : All (IsFormula m) (formulas_left (begun tree))
+  pub formulas : All (IsWithin m) (formulas_left (begun tree))
 
 -- so many parts stand at the place, one behind the other
 pub record StandAt (m : PlantModel) (entries : List Entry) (at n : ℕ) : Type 0 where
@@ -98,4 +97,4 @@ pub record StandAt (m : PlantModel) (entries : List Entry) (at n : ℕ) : Type 0
   pub number : count trees ≡ n
   pub nodes : entries ≡ before ++ all_laid trees after
   pub proper : AreProper trees
-  pub formulas : All (IsFormula m) (all_formulas_left (all_begun trees))
+  pub formulas : All (IsWithin m) (all_formulas_left (all_begun trees))

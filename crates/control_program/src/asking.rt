@@ -1,7 +1,8 @@
 //! What a turn asks the estimate.
 
 ghost use Rattle.std.specs.Prelude.{◌≡◌, ◌++◌, ◌↔◌, All, IsTrue, IfOk};
-ghost use Rattle.cca_base.specs.Prelude.{pairs_of, Holds, IsFormula, IsState};
+ghost use Rattle.cca_base.specs.Prelude.{pairs_of, Holds, IsState};
+ghost use Rattle.control_program.specs.Formulas.{IsWithin};
 ghost use Rattle.control_program.specs.Turned.{Chooses, Reaches};
 ghost use Rattle.control_program.specs.Places.{choice_of};
 
@@ -32,7 +33,7 @@ pub(crate) struct Course {
 
 /// Whether the formula is true in every world of the estimate. The error is out of memory.
 pub(crate) fn holds(asking: &Asking, formula: &Formula) -> Result<bool, AllocError>
-    requires { IsFormula asking.now.rules.now.model.now formula.now }
+    requires { IsWithin asking.now.rules.now.model.now formula.now }
     ensures { IfOk result (λ b.
         IsTrue b ↔ Holds asking.now.rules.now.model.now asking.now.estimate.now.modes formula.now) }
 {
@@ -75,7 +76,7 @@ pub(crate) fn takes_first(
     mark: Mark,
     formula: &Formula,
 ) -> Result<bool, AllocError>
-    requires { IsFormula asking.now.rules.now.model.now formula.now }
+    requires { IsWithin asking.now.rules.now.model.now formula.now }
     ensures { IfOk result (λ first. Chooses asking.now.rules.now.model.now asking.now.estimate.now.modes
         (choice_of mark) formula.now first) }
 {

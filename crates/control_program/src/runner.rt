@@ -1,11 +1,11 @@
 //! The runner of a control program.
 
 ghost use Rattle.std.specs.Prelude.{◌≡◌, ◌↔◌, All, IfOk, OnErr, IsTrue, IsNone};
-ghost use Rattle.cca_base.specs.Prelude.{IsFormula, IsState};
+ghost use Rattle.cca_base.specs.Prelude.{IsState};
 ghost use Rattle.consistency.specs.Worlds.{AreWorldsOf};
 ghost use Rattle.control_laws.specs.Rest.{whole};
 ghost use Rattle.control_laws.specs.Turns.{TurnsBy, fresh};
-ghost use Rattle.control_program.specs.Formulas.{formulas_left};
+ghost use Rattle.control_program.specs.Formulas.{formulas_left, IsWithin};
 
 use crate::asking::{Asking, Course};
 use crate::goals::firsts;
@@ -67,7 +67,7 @@ impl Runner {
     ) -> Result<List<Pair>, AllocError>
         requires of { AreWorldsOf model.now worlds.now }
         requires state { IsState model.now estimate.now.modes }
-        requires formulas { All (IsFormula model.now) (formulas_left self.old.program) }
+        requires formulas { All (IsWithin model.now) (formulas_left self.old.program) }
         ensures ok { IfOk result (λ goal.
             TurnsBy model.now estimate.now.modes self.old goal self.new) }
         ensures err { OnErr result (self.new ≡ self.old) }
@@ -98,7 +98,7 @@ impl Runner {
     /// A turn with the estimate: what it asks for. The clauses of the model's rules are made anew. The error is out of memory.
     pub fn turn(&mut self, model: &Model, estimate: &State) -> Result<List<Pair>, AllocError>
         requires state { IsState model.now estimate.now.modes }
-        requires formulas { All (IsFormula model.now) (formulas_left self.old.program) }
+        requires formulas { All (IsWithin model.now) (formulas_left self.old.program) }
         ensures ok { IfOk result (λ goal.
             TurnsBy model.now estimate.now.modes self.old goal self.new) }
         ensures err { OnErr result (self.new ≡ self.old) }

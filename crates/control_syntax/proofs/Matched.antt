@@ -3,7 +3,6 @@ use Rattle.std.proofs.Common.{◌≡◌, ◌+◌, ℕ, Bool, true, false, not, L
 use Rattle.std.proofs.lemmas.List.Sums.{sum_by-cons}
 use Rattle.cca_base.specs.PlantModel.{PlantModel}
 use Rattle.control_syntax.specs.Codes.{IsChoose}
-use Rattle.control_syntax.specs.Items.{Otherwise, Done, End}
 use Rattle.control_syntax.specs.Matched.{AreParts, EndInChoose, IsReadBehind, LimitsCountLines, ReadsAs, UnmatchedByLines, closes_block}
 use Rattle.control_syntax.specs.Reading.{Place, Reading, after, block_part, moved, nothing_read, put_in, turned_block}
 use Rattle.control_syntax.specs.Tests.{begins_block, is_choose, is_inside, is_unmatched}

@@ -16,10 +16,9 @@ use crate::place::move_place;
 use crate::program_end::ProgramEnd;
 use crate::words::words_line;
 use cca_base::codes::MALFORMED;
-use cca_base::{List, Stop};
+use cca_base::{List, Model, Stop};
 use formula_syntax::NamedModel;
 use std::alloc::{AllocError, Global};
-use std::marker::Model;
 use std::mem;
 use text_base::{Token, TokenFault, tokens};
 
@@ -51,7 +50,7 @@ pub struct ProgramReader {
     whole: Option<Part>,
 }
 
-impl Model for ProgramReader {
+impl std::marker::Model for ProgramReader {
     ghost use Rattle.std.specs.Coded.{codes};
     ghost use Rattle.control_syntax.specs.contracts.block.Block as block_contract;
     ghost use Rattle.control_syntax.specs.contracts.part.Part as part_contract;
@@ -152,8 +151,19 @@ impl ProgramReader {
     }
 
     /// Reads the next line behind the line `script`, without its LF, and answers whether the program has ended with it. The refusal has the
-    /// least code that applies, and no detail.
-    pub fn line(&mut self, model: &NamedModel, text: &[u8]) -> Result<ProgramEnd, Stop>
+    /// least code that applies, and no detail. Names are found by a walk over the model.
+    pub fn line(&mut self, model: &Model, text: &[u8]) -> Result<ProgramEnd, Stop>
+        requires going { self.old.whole ≡ None }
+        ensures answer { Leads model.now self.old text.now result self.new }
+        ensures whole { IfOk result (λ end. HasEnded end self.new.whole) }
+        ensures kept { MayRunSoFar model.now self.old → MayRunSoFar model.now self.new }
+        ensures err { OnErr result (self.new ≡ self.old) }
+    {
+        self.line_named(&NamedModel::of_model(model), text)
+    }
+
+    /// The same for a model with its names.
+    pub fn line_named(&mut self, model: &NamedModel, text: &[u8]) -> Result<ProgramEnd, Stop>
         requires going { self.old.whole ≡ None }
         ensures answer { Leads model.now self.old text.now result self.new }
         ensures whole { IfOk result (λ end. HasEnded end self.new.whole) }

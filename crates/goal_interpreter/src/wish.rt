@@ -1,7 +1,7 @@
 //! The lightest settled state that holds a wish.
 
-ghost use Rattle.std.specs.Prelude.{IfOk};
-ghost use Rattle.cca_base.specs.Prelude.{AreReached, IsFormula, IsState};
+ghost use Rattle.std.specs.Prelude.{length, IfOk, IsTrue};
+ghost use Rattle.cca_base.specs.Prelude.{is_within, AreReached, IsState};
 ghost use Rattle.guard_compiler.specs.Rules.{AreRulesOf};
 ghost use Rattle.reversibility.specs.ClassParts.{CoversState};
 ghost use Rattle.planner_step.specs.Planning.{IsGoal};
@@ -32,7 +32,8 @@ pub fn interpret_by(
 ) -> Result<Target, AllocError>
     requires rules { AreRulesOf tables.now.classes.compiled.model rules.now }
     requires covers { CoversState tables.now.classes state.now.modes }
-    requires formula { IsFormula tables.now.classes.compiled.model formula.now }
+    requires formula { IsTrue (is_within (length tables.now.classes.compiled.model.components)
+        (length tables.now.classes.compiled.model.variables) formula.now) }
     requires weights { AreWeights tables.now.classes.compiled.model weights.now.rows }
     ensures target { IfOk result (IsTargetFor tables.now.classes.compiled weights.now.rows
         state.now.modes formula.now) }
@@ -74,7 +75,8 @@ pub fn interpret(
     weights: &Weights,
 ) -> Result<Target, AllocError>
     requires covers { CoversState tables.now.classes state.now.modes }
-    requires formula { IsFormula tables.now.classes.compiled.model formula.now }
+    requires formula { IsTrue (is_within (length tables.now.classes.compiled.model.components)
+        (length tables.now.classes.compiled.model.variables) formula.now) }
     requires weights { AreWeights tables.now.classes.compiled.model weights.now.rows }
     ensures target { IfOk result (IsTargetFor tables.now.classes.compiled weights.now.rows
         state.now.modes formula.now) }

@@ -4,6 +4,7 @@ pub mod Calls
 pub mod DriverInvariant
 pub mod LastBytes
 pub mod LengthCodes
+pub mod Fronts
 pub mod JoinedLines
 pub mod RunsAreOne
 pub mod SentPieces

@@ -1,6 +1,7 @@
 -- A line that is taken: what it may print.
-use Rattle.std.proofs.Common.{◌≡◌, ℕ, List, ◌++◌, length, Option, Some, None, sym, ap, subst, ◌∙◌}
+use Rattle.std.proofs.Common.{◌≡◌, ℕ, List, [], ◌++◌, length, Option, Some, None, sym, ap, subst, ◌∙◌}
 use Rattle.line_machine.specs.Next.{Next, Stops}
+use Rattle.line_machine.specs.Outs.{Appended, Buffered}
 use Rattle.line_machine.specs.Runs.{length_code, TransitionByCode, Transition}
 use Rattle.line_machine.specs.Sent.{SentFront}
 use Rattle.line_machine.specs.SentCut.{SentCut}
@@ -19,6 +20,10 @@ sent_cut-map P Q Memory out out' f h = h
 -- and so is the front of one
 pub front-cut : (P Q : List ℕ → Type 0) (c : Cut) (out out' : Option (List ℕ)) → ((x : List ℕ) → P x → Q x) → c ≡ WriteFault → SentFront P out out' → SentCut c Q out out'
 front-cut P Q c out out' f e h = rw e (sent_cut-map P Q WriteFault out out' f h)
+
+-- what was appended to a buffer without bytes is what stands in it
+pub appended_alone : (Is : List ℕ → Type 0) (old new : Buffered) → old.bytes ≡ [] → Appended Is old new → Is new.bytes
+appended_alone Is old new none h = subst Is (sym (h.behind ∙ ap (λ (l : List ℕ). l ++ h.text) none)) h.is
 
 module _ {S : Type 0} (m : Ghosts S) (s : S) (limit n : ℕ) (l : List ℕ) (is : limit ≡ m.limit_of s) where
   pub takes_refused : (code : ℕ) (x : List ℕ) → Some code ≡ length_code limit n (length l) → x ≡ m.refusal s n code → Transition m s n l (Stops Refused) x

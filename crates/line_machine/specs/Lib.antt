@@ -4,10 +4,12 @@ pub mod Completes
 pub mod Driven
 pub mod Faults
 pub mod Found
+pub mod Fronts
 pub mod IsDriven
 pub mod KnownInput
 pub mod Lines
 pub mod Next
+pub mod Outs
 pub mod Runs
 pub mod Sent
 pub mod SentCut

@@ -12,6 +12,7 @@ use crate::buffer::{FillStop, Found, LineBuffer};
 use crate::intake::Intake;
 use crate::line::{refuse, take_last, take_line};
 use crate::machine::{End, LONG_LINE, MAX_LINES, Machine, TOO_MANY_LINES};
+use crate::out::Out;
 use crate::send::Cut;
 use std::alloc::Global;
 use titan_wire::Sink;
@@ -51,6 +52,7 @@ fn drive_lines<M: Machine, S, K: Sink, I: Intake<S, K>>(
         K.faults sink.new ≡ K.faults sink.old }
 {
     let mut buffer = LineBuffer::new(alloc);
+    let mut out = Out::new(alloc);
     let mut count: u64 = 0;
     'lines: loop {
         let (limit, code) = next_limit(machine, count);
@@ -61,16 +63,16 @@ fn drive_lines<M: Machine, S, K: Sink, I: Intake<S, K>>(
         };
         let len = match found {
             Found::Line(len) => len,
-            Found::Long => match refuse(alloc, machine, count + 1, code, sink) {
+            Found::Long => match refuse(alloc, machine, count + 1, code, &mut out, sink) {
                 Ok(()) => return Ok(End::Refused),
                 Err(cut) => return Err(cut),
             },
             Found::Last => {
                 let len = buffer.len();
-                return take_last(alloc, machine, count, buffer.front(len), sink);
+                return take_last(alloc, machine, count, buffer.front(len), &mut out, sink);
             }
         };
-        let said = match take_line(alloc, machine, count + 1, buffer.front(len), sink) {
+        let said = match take_line(alloc, machine, count + 1, buffer.front(len), &mut out, sink) {
             Ok(said) => said,
             Err(cut) => return Err(cut),
         };

@@ -1,6 +1,7 @@
 //! Laws of every machine: its text is one, and monotone in the input by the prefix order.
 ghost use Rattle.std.specs.Prelude.{◌≡◌, ℕ, List, [], ◌++◌};
 ghost use Rattle.line_machine.specs.Runs.{IsSure, IsText, IsPrefix, IsQuiet};
+ghost use Rattle.line_machine.specs.Fronts.{PrintsByLines, PrintsSoFar};
 ghost use Rattle.line_machine.specs.Next.{Next, GoesOn, Stops};
 ghost use Rattle.line_machine.specs.declared.machine.End.{End};
 
@@ -29,4 +30,7 @@ pub fn sure_text_laws<M: Machine>(_of: PhantomData<M>)
     ensures quiet { (s t : M) (a x : List ℕ) → IsQuiet M.Machine →
         IsSure M.Machine s a (GoesOn t) x →
         x ≡ [] }
+
+    // A machine that prints by lines has printed, whatever of it went out, nothing yet or the whole text of some bytes that came first.
+    ensures fronts { (s : M) → PrintsByLines M.Machine s → PrintsSoFar M.Machine s }
 {}

@@ -10,6 +10,7 @@ mod laws;
 mod line;
 mod machine;
 mod opened;
+mod out;
 mod send;
 
 pub use buffer::lf_place;
@@ -17,6 +18,7 @@ pub use driver::drive;
 pub use intake::{Intake, Unwatched};
 pub use laws::sure_text_laws;
 pub use line::length_code;
-pub use machine::{End, LONG_LINE, MAX_LINES, Machine, Said, TOO_MANY_LINES};
+pub use machine::{End, LONG_LINE, MAX_LINES, Machine, TOO_MANY_LINES};
 pub use opened::drive_opened;
+pub use out::Out;
 pub use send::Cut;

@@ -1,5 +1,5 @@
 //! One turn of the driver: a line, the refusal of a line, or the end of the input, with what is printed for it.
-ghost use Rattle.std.specs.Prelude.{◌≡◌, ◌≢◌, ◌≤◌, ◌<◌, ◌+◌, ◌^◌, ℕ, List, length, None, option_map, IfOk, IfErr, IfNone, OnErr, IsErrOf};
+ghost use Rattle.std.specs.Prelude.{◌≡◌, ◌≢◌, ◌≤◌, ◌<◌, ◌+◌, ◌^◌, ℕ, List, [], length, None, option_map, IfOk, IfErr, IfNone, OnOk, OnErr, IsErrOf};
 ghost use Rattle.titan_wire.specs.Wire.{Rose, HasRoom};
 ghost use Rattle.line_machine.specs.Next.{Next, next_of};
 ghost use Rattle.line_machine.specs.Sent.{Sent, SentFront};
@@ -8,7 +8,8 @@ ghost use Rattle.line_machine.specs.Runs.{length_code, MayPrint, Transition, End
 ghost use Rattle.line_machine.specs.declared.machine.End.{End};
 
 use crate::machine::{End, LONG_LINE, MAX_LINES, Machine, TOO_MANY_LINES};
-use crate::send::{Cut, send};
+use crate::out::Out;
+use crate::send::{Cut, send_out};
 use std::alloc::Global;
 use titan_wire::Sink;
 
@@ -27,42 +28,49 @@ pub fn length_code(limit: usize, number: u64, len: usize) -> Option<u8>
     }
 }
 
-/// Prints the refusal of a line.
+/// Prints the refusal of a line, by a buffer that is empty before and behind it.
 pub fn refuse<M: Machine, K: Sink>(
     alloc: Global,
     machine: &M,
     number: u64,
     code: u8,
+    out: &mut Out,
     sink: &mut K,
 ) -> Result<(), Cut>
-    requires { HasRoom (K.space sink.old) (length (M.refusal machine.now number code)) }
+    requires empty { out.old.bytes ≡ [] }
+    requires room { HasRoom (K.space sink.old) (length (M.refusal machine.now number code)) }
     ensures ok { IfOk result (λ _. Sent (λ x. x ≡ M.refusal machine.now number code)
         (K.written sink.old) (K.written sink.new) (K.space sink.old) (K.space sink.new)) }
+    ensures empty { OnOk result (out.new.bytes ≡ []) }
     ensures cut { IfErr result (λ c. SentCut c (λ x. x ≡ M.refusal machine.now number code)
         (K.written sink.old) (K.written sink.new)) }
     ensures quiet { ¬ (IsErrOf result Cut.WriteFault) → K.faults sink.new ≡ K.faults sink.old }
     ensures fault { IsErrOf result Cut.WriteFault → Rose (K.faults sink.old) (K.faults sink.new) }
 {
-    match machine.refuse(alloc, number, code) {
-        Ok(text) => send(sink, text.as_slice()),
+    match machine.refuse(alloc, number, code, out) {
+        Ok(()) => send_out(out, sink),
         Err(_) => Err(Cut::Memory),
     }
 }
 
-/// Hands a line to the machine, and prints what it says. A line that is too long or one too many is refused before.
+/// Hands a line to the machine, and prints what it says, by a buffer that is empty before and behind it. A line that is too long or one too
+/// many is refused before.
 pub fn take_line<M: Machine, K: Sink>(
     alloc: Global,
     machine: &mut M,
     number: u64,
     line: &[u8],
+    out: &mut Out,
     sink: &mut K,
 ) -> Result<Option<End>, Cut>
+    requires empty { out.old.bytes ≡ [] }
     requires room { (text : List ℕ) → MayPrint M.Machine machine.old number line.now text →
         HasRoom (K.space sink.old) (length text) }
     requires turn { M.awaits machine.old number }
     ensures ok { IfOk result (λ end. Sent (Transition M.Machine machine.old number line.now
         (next_of machine.new end)) (K.written sink.old) (K.written sink.new) (K.space sink.old)
         (K.space sink.new)) }
+    ensures empty { OnOk result (out.new.bytes ≡ []) }
     ensures turn { IfOk result (λ end. end ≡ None → M.awaits machine.new (number + 1)) }
     ensures cut { IfErr result (λ c. SentCut c (MayPrint M.Machine machine.old number line.now)
         (K.written sink.old) (K.written sink.new)) }
@@ -70,13 +78,13 @@ pub fn take_line<M: Machine, K: Sink>(
     ensures fault { IsErrOf result Cut.WriteFault → Rose (K.faults sink.old) (K.faults sink.new) }
 {
     match length_code(machine.limit(), number, line.len()) {
-        Some(code) => match refuse(alloc, machine, number, code, sink) {
+        Some(code) => match refuse(alloc, machine, number, code, out, sink) {
             Ok(()) => Ok(Some(End::Refused)),
             Err(cut) => Err(cut),
         },
-        None => match machine.step(alloc, number, line) {
-            Ok(said) => match send(sink, said.text.as_slice()) {
-                Ok(()) => Ok(said.end),
+        None => match machine.step(alloc, number, line, out) {
+            Ok(end) => match send_out(out, sink) {
+                Ok(()) => Ok(end),
                 Err(cut) => Err(cut),
             },
             Err(_) => Err(Cut::Memory),
@@ -84,14 +92,15 @@ pub fn take_line<M: Machine, K: Sink>(
     }
 }
 
-/// Prints what the machine says of the end of the input.
+/// Prints what the machine says of the end of the input, by a buffer that is empty before it.
 pub fn finish<M: Machine, K: Sink>(
     alloc: Global,
     machine: &mut M,
     count: u64,
+    out: &mut Out,
     sink: &mut K,
 ) -> Result<End, Cut>
-    requires few { count ≤ MAX_LINES }
+    requires empty { out.old.bytes ≡ [] }
     requires room { (e : End) (text : List ℕ) → M.closes machine.old count e text →
         HasRoom (K.space sink.old) (length text) }
     ensures ok { IfOk result (λ e. Sent (M.closes machine.old count e) (K.written sink.old)
@@ -102,9 +111,9 @@ pub fn finish<M: Machine, K: Sink>(
     ensures quiet { ¬ (IsErrOf result Cut.WriteFault) → K.faults sink.new ≡ K.faults sink.old }
     ensures fault { IsErrOf result Cut.WriteFault → Rose (K.faults sink.old) (K.faults sink.new) }
 {
-    match machine.close(alloc, count) {
-        Ok((text, end)) => {
-            send(sink, text.as_slice())?;
+    match machine.close(alloc, count, out) {
+        Ok(end) => {
+            send_out(out, sink)?;
             Ok(end)
         }
         Err(_) => Err(Cut::Memory),
@@ -117,9 +126,11 @@ pub fn take_last<M: Machine, K: Sink>(
     machine: &mut M,
     count: u64,
     tail: &[u8],
+    out: &mut Out,
     sink: &mut K,
 ) -> Result<End, Cut>
     requires few { count ≤ MAX_LINES }
+    requires empty { out.old.bytes ≡ [] }
     requires turn { M.awaits machine.old (count + 1) }
     requires room { (text : List ℕ) → MayEnd M.Machine machine.old count tail.now text →
         HasRoom (K.space sink.old) (length text) }
@@ -132,14 +143,14 @@ pub fn take_last<M: Machine, K: Sink>(
     ensures fault { IsErrOf result Cut.WriteFault → Rose (K.faults sink.old) (K.faults sink.new) }
 {
     if tail.is_empty() {
-        return finish(alloc, machine, count, sink);
+        return finish(alloc, machine, count, out, sink);
     }
-    let said = match take_line(alloc, machine, count + 1, tail, sink) {
+    let said = match take_line(alloc, machine, count + 1, tail, out, sink) {
         Ok(said) => said,
         Err(cut) => return Err(cut),
     };
     match said {
-        None => return finish(alloc, machine, count + 1, sink),
+        None => return finish(alloc, machine, count + 1, out, sink),
         Some(end) => return Ok(end),
     }
 }

@@ -1,7 +1,9 @@
 //! A form of words as a transducer over lines: a state machine that prints at each step (a Mealy machine).
-ghost use Rattle.std.specs.Prelude.{◌≡◌, ◌≤◌, ◌+◌, ℕ, List, length, None, IfOk};
+ghost use Rattle.std.specs.Prelude.{◌≡◌, ◌≤◌, ◌+◌, ◌++◌, ℕ, List, length, None, IfOk, OnOk};
 ghost use Rattle.line_machine.specs.Next.{Next, next_of};
+ghost use Rattle.line_machine.specs.Outs.{Appended, IsFront};
 
+use crate::out::Out;
 use std::alloc::{AllocError, Global};
 
 /// How a program ends that meets no fault.
@@ -13,13 +15,6 @@ pub enum End {
     Rejected,
     /// A line was refused.
     Refused,
-}
-
-/// What is printed, and how the program ends, if it does.
-#[derive(Debug, Drop)]
-pub struct Said {
-    pub text: Vec<u8>,
-    pub end: Option<End>,
 }
 
 /// Lines of a larger number are refused.
@@ -55,24 +50,32 @@ pub trait Machine {
     fn limit(&self) -> usize
         ensures { result ≡ limit_of self.now };
 
-    /// The text of a refusal.
-    fn refuse(&self, alloc: Global, number: u64, code: u8) -> Result<Vec<u8>, AllocError>
-        ensures { IfOk result (λ v. v.items ≡ refusal self.now number code) };
+    /// Appends the text of a refusal. The error is out of memory.
+    fn refuse(&self, alloc: Global, number: u64, code: u8, out: &mut Out) -> Result<(), AllocError>
+        ensures text { OnOk result
+            (out.new.bytes ≡ out.old.bytes ++ refusal self.now number code) }
+        ensures front { IsFront out.old out.new };
 
-    /// Takes a whole line, without its LF, and answers what is printed and whether that is the end.
-    fn step(&mut self, alloc: Global, number: u64, line: &[u8]) -> Result<Said, AllocError>
-        requires few { number ≤ MAX_LINES }
+    /// Takes a whole line, without its LF: appends what is printed, and answers whether that is the end. The error is out of memory.
+    fn step(
+        &mut self,
+        alloc: Global,
+        number: u64,
+        line: &[u8],
+        out: &mut Out,
+    ) -> Result<Option<End>, AllocError>
         requires short { length line.now ≤ limit_of self.old }
         requires turn { awaits self.old number }
-        ensures steps { IfOk result (λ said.
-            steps self.old number line.now (next_of self.new said.end)
-            said.text.items) }
-        ensures turn { IfOk result (λ said. said.end ≡ None → awaits self.new (number + 1)) };
+        ensures steps { IfOk result (λ end. Appended
+            (steps self.old number line.now (next_of self.new end)) out.old out.new) }
+        ensures turn { IfOk result (λ end. end ≡ None → awaits self.new (number + 1)) }
+        ensures front { IsFront out.old out.new };
 
-    /// Takes the end of the input, behind `count` lines, and answers what is printed and how the program ends.
-    fn close(&mut self, alloc: Global, count: u64) -> Result<(Vec<u8>, End), AllocError>
-        requires few { count ≤ MAX_LINES }
-        ensures { IfOk result (λ said. closes self.old count said.1 said.0.items) };
+    /// Takes the end of the input, behind `count` lines: appends what is printed, and answers how the program ends. The error is out of
+    /// memory.
+    fn close(&mut self, alloc: Global, count: u64, out: &mut Out) -> Result<End, AllocError>
+        ensures closes { IfOk result (λ end. Appended (closes self.old count end) out.old out.new) }
+        ensures front { IsFront out.old out.new };
 
     // A state and a line lead to one state and one text, and a state and the end of the input to one end and one text.
     ghost steps_are_one: { (s : Self) (n : ℕ) (l : List ℕ) (u v : Next Self) (a c : List ℕ) →

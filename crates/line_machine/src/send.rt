@@ -1,10 +1,11 @@
 //! Line-buffered output: a text goes out line by line, each line with its LF as one piece.
-ghost use Rattle.std.specs.Prelude.{◌≡◌, ◌+◌, ◌<◌, ◌≤◌, ◌++◌, length, IfErr, OnOk, OnErr};
+ghost use Rattle.std.specs.Prelude.{◌≡◌, ◌+◌, ◌<◌, ◌≤◌, [], ◌++◌, length, IfErr, OnOk, OnErr};
 ghost use Rattle.titan_wire.specs.Wire.{Rose, HasRoom};
 ghost use Rattle.line_machine.specs.Lines.{IsOneLine};
 ghost use Rattle.line_machine.specs.Sent.{Sent, SentFront};
 
 use crate::buffer::lf_place;
+use crate::out::Out;
 use titan_wire::{PutEnd, Sink, put_all};
 
 /// Why a program stopped short of its end.
@@ -48,4 +49,26 @@ pub fn send<K: Sink>(sink: &mut K, text: &[u8]) -> Result<(), Cut>
         }
     }
     Ok(())
+}
+
+/// Sends what is to be printed, and then clears it.
+pub fn send_out<K: Sink>(out: &mut Out, sink: &mut K) -> Result<(), Cut>
+    requires { HasRoom (K.space sink.old) (length out.old.bytes) }
+    ensures sent { OnOk result (Sent (λ x. x ≡ out.old.bytes) (K.written sink.old)
+        (K.written sink.new) (K.space sink.old) (K.space sink.new)) }
+    ensures empty { OnOk result (out.new.bytes ≡ []) }
+    ensures capacity { out.new.capacity ≡ out.old.capacity }
+    ensures cut { IfErr result (λ c. c ≡ Cut.WriteFault) }
+    ensures front { OnErr result (SentFront (λ x.
+        x ≡ out.old.bytes) (K.written sink.old) (K.written sink.new)) }
+    ensures quiet { OnOk result (K.faults sink.new ≡ K.faults sink.old) }
+    ensures fault { OnErr result (Rose (K.faults sink.old) (K.faults sink.new)) }
+{
+    match send(sink, out.as_slice()) {
+        Ok(()) => {
+            out.clear();
+            Ok(())
+        }
+        Err(cut) => Err(cut),
+    }
 }

@@ -1,9 +1,11 @@
 pub mod EventsAlike
 pub mod MigrateAgrees
 pub mod MigrateEnds
+pub mod MigrateKeeps
 pub mod MigratedDocuments
 pub mod MigratedTexts
 pub mod MigrationsTold
 pub mod ScriptsKept
+pub mod SecondTelling
 pub mod TextsAlike
 pub mod TicksAlike

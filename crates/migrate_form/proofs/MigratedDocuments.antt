@@ -31,9 +31,9 @@ use Rattle.run_form.specs.declared.counts.Counts.{Counts}
 use Rattle.run_form.specs.declared.notation.Notation.{Notation}
 use Rattle.run_form.specs.declared.notation.Notation.TheVariants.{Words}
 use Rattle.run_form.proofs.DocumentEnds.{end_of, the_document}
-use Rattle.run_form.proofs.DocumentsAreOne.{script_one, documents_are_one}
+use Rattle.run_form.proofs.DocumentsAreOne.{documents_are_one}
+use Rattle.run_form.proofs.ReadScripts.{script_model, script_one}
 use Rattle.run_form.proofs.RunDocuments.{run_document}
-use Rattle.run_form.proofs.ScriptRuns.{script_model}
 use Rattle.text_base.specs.Tokens.{Tok, tokens_of}
 use Rattle.trace_text.specs.Refusals.{refusal_line}
 use Rattle.version_laws.specs.Laws.{at_version}

@@ -18,7 +18,7 @@ use Rattle.migrate_form.specs.MigrateMachine.{ScriptSoFar, script_first, migrate
 use Rattle.migrate_form.specs.Migrated.{SaysMigrated, lines_read, migrated_lines, migrated_model}
 use Rattle.migrate_form.specs.declared.migrate.Migrate.{Migrate}
 use Rattle.migrate_form.proofs.EventsAlike.{script_at}
-use Rattle.migrate_form.proofs.ScriptsKept.{kept, prints, runs}
+use Rattle.migrate_form.proofs.SecondTelling.{kept, prints, runs}
 use Rattle.migrate_form.proofs.TextsAlike.{refusal_alike}
 
 -- a document ends with the same line in each version
@@ -36,7 +36,7 @@ module _ (f : Migrate) (b : CompiledModel) (n : ℕ) (ls : List (List ℕ)) (e :
   told : PrintsBehind migrate_form script_machine f b n ls e text → SaysMigrated b n ls e text
   told p =
       let second = in_second b.model in
-      let q = prints second ls [] 0 n e p.rest (subst (λ (v : Next ScriptSoFar). Completes script_machine v n ls e p.rest) p.begins.0 p.completes) in
+      let q = prints second ls n e p.rest (subst (λ (v : Next ScriptSoFar). Completes script_machine v n ls e p.rest) p.begins.0 p.completes) in
       let first : text ≡ migrated_model b.model ++ p.rest = p.parts ∙ ap (λ (z : List ℕ). z ++ p.rest) p.begins.1 in (
         document_at b.model.version q.document,
         script_at second b.model.version ls [] 0 n q.document q.says,
@@ -47,7 +47,7 @@ module _ (f : Migrate) (b : CompiledModel) (n : ℕ) (ls : List (List ℕ)) (e :
   tells (r, says, is) =
       let second = in_second b.model in
       let a : Answer = kept second n ls r.ending in
-      let c : Completes script_machine (GoesOn (script_first second)) n ls a.end a.text = runs second ls [] 0 n (document_at 2 r) (script_at b.model 2 ls [] 0 n r says) in
+      let c : Completes script_machine (GoesOn (script_first second)) n ls a.end a.text = runs second ls n (document_at 2 r) (script_at b.model 2 ls [] 0 n r says) in
       let same : answer e text ≡ with_text (migrated_model b.model) a = is ∙ sym (whole r.ending) in
       record {
         next = GoesOn (script_first second);

@@ -1,22 +1,27 @@
 -- The machine of `migrate`: behind a model it prints the lines of the script's events.
-use Rattle.std.specs.Prelude.{◌≡◌, ⊤, ℕ, List, [], ◌∷◌, ◌++◌, false, Option, Some, None, Result, Ok, Err}
+use Rattle.std.specs.Prelude.{◌≡◌, ⊤, ℕ, List, [], ◌∷◌, ◌++◌, false}
 use Rattle.cca_base.specs.Accepted.{CompiledModel}
 use Rattle.cca_base.specs.Model.{in_second}
 use Rattle.cca_base.specs.PlantModel.{PlantModel}
-use Rattle.cca_base.specs.Refusals.{bare}
+use Rattle.cca_base.specs.Trace.{MayCome}
 use Rattle.cca_base.specs.declared.cube.Pair.{Pair}
 use Rattle.cca_base.specs.declared.events.Event.{Event}
+use Rattle.line_forms.specs.LinesMachine.{lines_machine}
+use Rattle.line_forms.specs.declared.line_form.LineForm.{Ghosts as LineGhosts}
 use Rattle.line_machine.specs.Next.{Next, GoesOn}
+use Rattle.line_machine.specs.declared.machine.End.TheVariants.{Ended}
 use Rattle.line_machine.specs.declared.machine.Machine.{Ghosts}
+use Rattle.model_form.specs.Answers.{answer}
 use Rattle.model_form.specs.FormMachine.{form_machine}
 use Rattle.model_form.specs.FormStates.{FormState}
-use Rattle.model_form.specs.LineMachines.{machine_of_lines}
-use Rattle.model_form.specs.ModelSteps.{GoesOnIn, RefusesLine}
 use Rattle.model_form.specs.declared.form.ModelForm.{Ghosts as FormGhosts}
+use Rattle.model_form.specs.declared.limits.TheConstants.{MAX_LINE}
+use Rattle.run_form.specs.ScriptReading.{as_kept}
 use Rattle.script_reader.specs.EventLines.{event_line}
 use Rattle.trace_laws.specs.Events.{PendingAfter, mirrored_after}
 use Rattle.migrate_form.specs.Migrated.{migrated_model}
 use Rattle.migrate_form.specs.declared.migrate.Migrate.{Migrate}
+use Rattle.migrate_form.specs.declared.script.KeptLine.{KeptLine}
 
 -- where a script stands: its model, and what bears on which events may come next
 pub record ScriptSoFar : Type 0 where
@@ -28,25 +33,40 @@ pub record ScriptSoFar : Type 0 where
 abbrev pub script_first : PlantModel → ScriptSoFar
 script_first m = record { model = m; pending = []; mirrored = 0 }
 
+-- a script begins in this state, and this model is printed in version 2
+abbrev pub BeginsIn : {S : Type 0} → S → PlantModel → Next S → List ℕ → Type 0
+BeginsIn s m u text = (u ≡ GoesOn s) × (text ≡ migrated_model m)
+
 -- behind an accepted model its script begins in version 2, and the model is printed
 abbrev pub Begins : CompiledModel → ℕ → Next ScriptSoFar → List ℕ → Type 0
-Begins b n u text = (u ≡ GoesOn (script_first (in_second b.model))) × (text ≡ migrated_model b.model)
+Begins b n u text = BeginsIn (script_first (in_second b.model)) b.model u text
 
--- a line of the script by what it says: an event's line is printed as it stands, a line that says nothing isn't, or the line is refused
-abbrev pub KeepsBy : Result (Option Event) ℕ → ScriptSoFar → ℕ → List ℕ → Next ScriptSoFar → List ℕ → Type 0
-KeepsBy (Err code) x n line u text = RefusesLine false x.model n (bare code) u text
-KeepsBy (Ok None) x n line u text = GoesOnIn x u text
-KeepsBy (Ok (Some e)) x n line u text =
-    (after : List Pair) × PendingAfter x.pending e after
-    × (u ≡ GoesOn (record x { pending = after; mirrored = mirrored_after x.mirrored e })) × (text ≡ line ++ 10 ∷ [])
+-- an event with its line
+abbrev pub kept_line : List ℕ → Event → KeptLine
+kept_line line e = record { event = e; line = line }
 
--- what a line leads to
-abbrev pub MigrateSteps : ScriptSoFar → ℕ → List ℕ → Next ScriptSoFar → List ℕ → Type 0
-MigrateSteps x n line u text = KeepsBy (event_line x.model x.pending x.mirrored line) x n line u text
+-- an event is followed, and its line printed as it stands
+abbrev pub KeepsLine : KeptLine → ScriptSoFar → Next ScriptSoFar → List ℕ → Type 0
+KeepsLine k x u text =
+    (after : List Pair) × PendingAfter x.pending k.event after
+    × (u ≡ GoesOn (record x { pending = after; mirrored = mirrored_after x.mirrored k.event })) × (text ≡ k.line ++ 10 ∷ [])
 
--- the machine of the script, which may end anywhere
+-- what a line says with what is pending and mirrored, and what is done for its event; a script may end anywhere
+abbrev pub second_lines : LineGhosts ScriptSoFar KeptLine
+second_lines = record {
+  model_of = λ x. x.model;
+  is_json = λ x. false;
+  limit_of = λ x. MAX_LINE;
+  said = λ x line said. said ≡ as_kept (kept_line line) (event_line x.model x.pending x.mirrored line);
+  fits = λ x k. MayCome x.model x.pending x.mirrored k.event;
+  serves = λ k x n u text. KeepsLine k x u text;
+  closing = λ x n. answer Ended [];
+  awaits = λ x n. ⊤;
+}
+
+-- the machine of the script
 abbrev pub script_machine : Ghosts ScriptSoFar
-script_machine = machine_of_lines (λ x. x.model) MigrateSteps (λ x n. ⊤)
+script_machine = lines_machine second_lines
 
 -- what the form says at the line `script`
 abbrev pub migrate_form : FormGhosts Migrate ScriptSoFar

@@ -7,5 +7,5 @@ mod migrate;
 mod script;
 
 pub use laws::{documents_migrate, migrations_are_told};
-pub use migrate::{Migrate, MigrateMachine, open_migrate};
-pub use script::ScriptInSecond;
+pub use migrate::{Migrate, MigrateMachine, OpensSecond, open_migrate};
+pub use script::{KeptLine, ScriptInSecond};

@@ -1,18 +1,26 @@
 //! The script behind an accepted model: its events' lines are printed as they stand.
 
-ghost use Rattle.std.specs.Prelude.{◌≡◌, ◌++◌, ◌∷◌, [], IfOk, OnOk, OnErr};
+ghost use Rattle.std.specs.Prelude.{◌≡◌, ◌++◌, ◌∷◌, [], OnOk, OnErr};
 ghost use Rattle.cca_base.specs.Prelude.{MayCome};
-ghost use Rattle.formula_syntax.specs.Lookups.{NamesFit};
+ghost use Rattle.line_machine.specs.Outs.{IsFront};
 ghost use Rattle.trace_laws.specs.Events.{PendingAfter, mirrored_after};
-ghost use Rattle.migrate_form.specs.MigrateMachine.{script_first};
 
-use cca_base::{Event, Model, Name, Refusal, Subject};
+use crate::migrate::OpensSecond;
+use cca_base::{Event, List, Model, Name, Stop, Subject};
 use indexmap::IndexMap;
-use line_machine::{End, Machine, Said};
-use model_form::{MAX_LINE, nothing, refusal_of, refuse_stop};
+use line_forms::LineForm;
+use line_machine::{End, Out};
+use model_form::MAX_LINE;
 use script_reader::{NamedModel, read_named_event};
 use std::alloc::{AllocError, Global};
 use trace_laws::Known;
+
+/// An event, and its line as it stands, without its LF.
+#[derive(Debug, Drop)]
+pub struct KeptLine {
+    pub event: Event,
+    pub line: List<u8>,
+}
 
 /// A model of version 2, its names, and what bears on which events may come next.
 #[derive(Drop)]
@@ -36,28 +44,30 @@ impl std::marker::Model for ScriptInSecond {
     ghost invariant = { λ s. NamesFit s.names s.model × IsRising s.known.pending.pairs };
 }
 
-/// The line with its LF.
-fn whole_line(alloc: Global, line: &[u8]) -> Result<Vec<u8>, AllocError>
-    ensures { IfOk result (λ text. text.items ≡ line.now ++ 10 ∷ []) }
+/// Appends the line with its LF.
+fn whole_line(line: &[u8], out: &mut Out) -> Result<(), AllocError>
+    ensures text { OnOk result (out.new.bytes ≡ out.old.bytes ++ (line.now ++ 10 ∷ [])) }
+    ensures front { IsFront out.old out.new }
 {
-    let mut text = Vec::from_slice(alloc, line)?;
-    text.push(b'\n')?;
-    Ok(text)
+    out.push(line)?;
+    out.push(b"\n")
 }
 
-impl ScriptInSecond {
-    /// Before the first line of the script.
-    pub fn open(alloc: Global, model: Model, names: IndexMap<Name, Subject>) -> ScriptInSecond
-        requires { NamesFit names model }
-        ensures { result ≡ script_first model }
-    {
+impl OpensSecond<KeptLine> for ScriptInSecond {
+    ghost use Rattle.migrate_form.specs.MigrateMachine.{script_first};
+
+    ghost first = { script_first };
+
+    fn open(alloc: Global, model: Model, names: IndexMap<Name, Subject>) -> ScriptInSecond {
         ScriptInSecond {
             model,
             names,
             known: Known::nothing(alloc),
         }
     }
+}
 
+impl ScriptInSecond {
     /// Follows an event. The error is out of memory, and then the script is as it was.
     fn follow(&mut self, alloc: Global, event: &Event) -> Result<(), AllocError>
         requires { MayCome self.old.model self.old.pending self.old.mirrored event.now }
@@ -76,50 +86,69 @@ impl ScriptInSecond {
     }
 }
 
-// By the clauses of the trait a line gives `MigrateSteps`, and the end of the input `EndsAtEnd` (specs/MigrateMachine.antt).
-impl Machine for ScriptInSecond {
-    ghost use Rattle.model_form.specs.NoLines.{end_one_way};
-    ghost use Rattle.migrate_form.specs.MigrateMachine.{script_machine};
-    ghost use Rattle.migrate_form.specs.OneStep.{steps_one};
+impl LineForm<KeptLine> for ScriptInSecond {
+    ghost use Rattle.migrate_form.specs.MigrateMachine.{second_lines};
+    ghost use Rattle.migrate_form.specs.OneStep.{said_one, serves_one};
 
-    ghost limit_of = { script_machine.limit_of };
+    ghost model_of = { second_lines.model_of };
 
-    ghost refusal = { script_machine.refusal };
+    ghost is_json = { second_lines.is_json };
 
-    ghost steps = { script_machine.steps };
+    ghost limit_of = { second_lines.limit_of };
 
-    ghost closes = { script_machine.closes };
+    ghost said = { second_lines.said };
 
-    ghost awaits = { script_machine.awaits };
+    ghost fits = { second_lines.fits };
 
-    ghost steps_are_one = { steps_one };
+    ghost serves = { second_lines.serves };
 
-    ghost closes_are_one = { λ x n e f a c h k. end_one_way h k };
+    ghost closing = { second_lines.closing };
+
+    ghost awaits = { second_lines.awaits };
+
+    ghost said_one = { said_one };
+
+    ghost serves_one = { serves_one };
+
+    ghost awaits_on = { λ x n h. h };
+
+    fn model(&self) -> &Model {
+        &self.model
+    }
+
+    fn is_json(&self) -> bool {
+        false
+    }
 
     fn limit(&self) -> usize {
         MAX_LINE
     }
 
-    fn refuse(&self, alloc: Global, number: u64, code: u8) -> Result<Vec<u8>, AllocError> {
-        let refusal = Refusal::bare(code);
-        refusal_of(alloc, false, &self.model, number, &refusal)
-    }
-
-    fn step(&mut self, alloc: Global, number: u64, line: &[u8]) -> Result<Said, AllocError> {
+    fn read(&self, alloc: Global, line: &[u8]) -> Result<Option<KeptLine>, Stop> {
         let model = NamedModel::new(&self.model, &self.names);
         let Known { pending, mirrored } = &self.known;
-        match read_named_event(alloc, line, model, pending, *mirrored) {
-            Ok(Some(event)) => {
-                let text = whole_line(alloc, line)?;
-                self.follow(alloc, &event)?;
-                Ok(Said { text, end: None })
+        match read_named_event(alloc, line, model, pending, *mirrored)? {
+            Some(event) => {
+                let line = List::of(Vec::from_slice(alloc, line)?);
+                Ok(Some(KeptLine { event, line }))
             }
-            Ok(None) => Ok(nothing(alloc)),
-            Err(stop) => refuse_stop(alloc, false, &self.model, number, &stop),
+            None => Ok(None),
         }
     }
 
-    fn close(&mut self, alloc: Global, _count: u64) -> Result<(Vec<u8>, End), AllocError> {
-        Ok((Vec::new(alloc), End::Ended))
+    fn serve(
+        &mut self,
+        alloc: Global,
+        _number: u64,
+        item: &KeptLine,
+        out: &mut Out,
+    ) -> Result<Option<End>, AllocError> {
+        whole_line(item.line.as_slice(), out)?;
+        self.follow(alloc, &item.event)?;
+        Ok(None)
+    }
+
+    fn close(&mut self, _alloc: Global, _count: u64, _out: &mut Out) -> Result<End, AllocError> {
+        Ok(End::Ended)
     }
 }

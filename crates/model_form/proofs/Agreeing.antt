@@ -4,13 +4,13 @@ use Rattle.line_machine.specs.declared.machine.End.{End}
 use Rattle.line_machine.specs.declared.machine.End.TheVariants.{Ended, Rejected, Refused}
 use Rattle.line_machine.specs.declared.machine.Machine.{Ghosts}
 use Rattle.line_machine.proofs.RunsAreOne.{IsFixed}
-use Rattle.model_form.specs.Answers.{Saying, AnswersByEnd, AreTold}
+use Rattle.model_form.specs.Answers.{Answer, Saying, AnswersByEnd, AreTold}
 use Rattle.model_form.specs.FormMeaning.{FormAgrees, reading}
 use Rattle.model_form.specs.ModelEnds.{HasEnd}
 use Rattle.model_form.specs.ModelTexts.{ModelText}
 use Rattle.model_form.proofs.OneModelText.{texts_are_one}
 
-module _ (Says : Saying) (Whole Part : ModelText → Type 0) where
+module _ (Says : Saying) (Whole Part : ModelText → Type 0) (Also : List ℕ → Answer → Type 0) (to_end silent : Type 0) where
   -- this is printed
   abbrev Prints : ModelText → End → List ℕ → Type 0
   Prints end e text = AnswersByEnd false Says end e text
@@ -23,7 +23,7 @@ module _ (Says : Saying) (Whole Part : ModelText → Type 0) where
     pub is_ended : (end : ModelText) (e : End) (text : List ℕ) → Prints end e text → Whole end → e ≡ Ended
     pub is_refused : (end : ModelText) (e : End) (text : List ℕ) → Prints end e text → Part end → e ≡ Refused
 
-  pub agrees : {S : Type 0} (m : Ghosts S) (first : S) → AreTold m first false Says → IsFixed m → EndsAgree → FormAgrees (reading m first (AnswersByEnd false Says) (HasEnd Whole) (HasEnd Part))
+  pub agrees : {S : Type 0} (m : Ghosts S) (first : S) → AreTold m first false Says → IsFixed m → EndsAgree → FormAgrees (reading m first (AnswersByEnd false Says) (HasEnd Whole) (HasEnd Part) Also to_end silent)
   agrees m first told fixed a = record {
     says = told.says;
     comes = λ input e text end reads h. told.comes input e text (end, reads, h);

@@ -1,6 +1,7 @@
 pub mod Agreeing
 pub mod AtScript
 pub mod Behind
+pub mod ByLines
 pub mod Following
 pub mod FormEnds
 pub mod LinesAgree

@@ -1,4 +1,5 @@
 -- A form whose answers end as the lines behind its model do does what it means.
+use Rattle.std.specs.Prelude.{⊤}
 use Rattle.std.proofs.Common.{◌≡◌, ℕ, false, List, inl, inr, refl, ap, subst, ◌∙◌}
 use Rattle.cca_base.specs.Accepted.{CompiledModel}
 use Rattle.cca_base.specs.PlantModel.{PlantModel}
@@ -7,7 +8,7 @@ use Rattle.line_machine.specs.declared.machine.End.TheVariants.{Ended, Rejected,
 use Rattle.line_machine.specs.declared.machine.Machine.{Ghosts}
 use Rattle.line_machine.proofs.RunsAreOne.{IsFixed}
 use Rattle.model_form.specs.Acceptance.{Acceptance, AcceptedAs, RefusedFor, IsAcceptanceOf}
-use Rattle.model_form.specs.Answers.{Saying, AnswersByAcceptance, AnswersByEnd, AreTold}
+use Rattle.model_form.specs.Answers.{Answer, Saying, AnswersByAcceptance, AnswersByEnd, AreTold}
 use Rattle.model_form.specs.FormMachine.{form_machine}
 use Rattle.model_form.specs.FormMeaning.{FormAgrees, reading_lines}
 use Rattle.model_form.specs.FormStates.{form_first}
@@ -44,7 +45,7 @@ pub refuses_so : (Says : Saying) (end : ModelText) (e : End) (text : List ℕ) �
 refuses_so Says (WholeModel m n ls) e text (v, is, h) (line, r, (at, is')) = (same_acceptance Says m n ls e text v (RefusedFor r) is is' h).0
 refuses_so Says (RefusedModel m k s) e text h refused = h.0
 
-module _ (Says : Saying) (EndsSo : Ending)
+module _ (Says : Saying) (EndsSo : Ending) (Also : List ℕ → Answer → Type 0)
     (ends_as : (b : CompiledModel) (n : ℕ) (ls : List (List ℕ)) (e : End) (text : List ℕ) → Says b n ls e text → (lines : LinesEnd) × EndsSo b n ls lines × (e ≡ (ending b.model lines).end))
     (one : (b : CompiledModel) (n : ℕ) (ls : List (List ℕ)) (x y : LinesEnd) → EndsSo b n ls x → EndsSo b n ls y → x ≡ y) where
   -- this is printed
@@ -84,7 +85,7 @@ module _ (Says : Saying) (EndsSo : Ending)
   lines_is_refused end e text h (inl refused) = refuses_so Says end e text h refused
   lines_is_refused end e text h (inr (line, code, ends)) = (ends_so end e text (RefusedAt line code) h ends).1
 
-  lines_agree : EndsAgree Says (EndsLines EndsSo AllRead) (RefusesSomewhere EndsSo)
+  lines_agree : EndsAgree Says (EndsLines EndsSo AllRead) (RefusesSomewhere EndsSo) Also ⊤ ⊥
   lines_agree = record {
     ended = lines_ended;
     refused = lines_refused;
@@ -95,5 +96,5 @@ module _ (Says : Saying) (EndsSo : Ending)
 
   -- the form's texts are told, and each line leads one way
   pub lines_form_agrees : {S : Type 0} (first : CompiledModel → S) (m : Ghosts S) → AreTold (form_machine (form_of_lines first) m) (form_first (record {})) false Says → IsFixed (form_machine (form_of_lines first) m)
-      → FormAgrees (reading_lines first m Says EndsSo)
-  lines_form_agrees first m told fixed = agrees Says (EndsLines EndsSo AllRead) (RefusesSomewhere EndsSo) (form_machine (form_of_lines first) m) (form_first (record {})) told fixed lines_agree
+      → FormAgrees (reading_lines first m Says EndsSo Also)
+  lines_form_agrees first m told fixed = agrees Says (EndsLines EndsSo AllRead) (RefusesSomewhere EndsSo) Also ⊤ ⊥ (form_machine (form_of_lines first) m) (form_first (record {})) told fixed lines_agree

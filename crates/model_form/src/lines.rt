@@ -4,8 +4,8 @@ ghost use Rattle.std.specs.Prelude.{◌≡◌, ◌+◌, ℕ, IfOk};
 ghost use Rattle.cca_base.specs.Prelude.{CompiledModel};
 
 use crate::accepted::Accepted;
-use crate::form::{Begun, ModelForm, Opened, Opening};
-use line_machine::Machine;
+use crate::form::{Begun, ModelForm, Opened};
+use line_machine::{Machine, Out};
 use std::alloc::{AllocError, Global};
 
 /// A machine of the lines behind an accepted model.
@@ -38,11 +38,7 @@ impl<B: BehindModel> ModelForm<B> for OfLines {
         false
     }
 
-    fn begin(&self, alloc: Global, accepted: Accepted, _number: u64) -> Begun<B> {
-        let lines = B::open(alloc, accepted)?;
-        Ok(Opening {
-            text: Vec::new(alloc),
-            opened: Opened::Lines(lines),
-        })
+    fn begin(&self, alloc: Global, accepted: Accepted, _number: u64, _out: &mut Out) -> Begun<B> {
+        Ok(Opened::Lines(B::open(alloc, accepted)?))
     }
 }

@@ -1,22 +1,22 @@
 //! The machine of a form that reads a model.
 
-ghost use Rattle.std.specs.Prelude.{◌≡◌, ◌≤◌, ◌+◌, IfOk};
+ghost use Rattle.std.specs.Prelude.{◌≡◌, ◌+◌, IfOk};
 ghost use Rattle.cca_base.specs.Prelude.{IsComplete};
 ghost use Rattle.formula_syntax.specs.Lookups.{NamesFit};
-ghost use Rattle.line_machine.specs.declared.machine.TheConstants.{MAX_LINES};
+ghost use Rattle.line_machine.specs.Outs.{Appended, IsFront};
 ghost use Rattle.model_form.specs.FormMachine.{AtScript};
 ghost use Rattle.model_form.specs.FormStates.{form_first};
 ghost use Rattle.model_form.specs.Openings.{next_by, AwaitsBy};
 
 use crate::accepted::Accepted;
-use crate::form::{Begun, ModelForm, Opened, Opening};
+use crate::form::{Begun, ModelForm, Opened};
 use crate::limits::MAX_LINE;
-use crate::said::{not_accepted, nothing, refusal_of, refuse_stop};
+use crate::refused::{refuse_model_to, refuse_stop_to, refuse_to};
 use acceptance::accept;
 use cca_base::codes::ENDS_EARLY;
 use cca_base::{Model, Name, Refusal, Subject};
 use indexmap::IndexMap;
-use line_machine::{End, Machine, Said};
+use line_machine::{End, Machine, Out};
 use model_syntax::{LineEnd, ModelReader};
 use std::alloc::{AllocError, Global};
 use std::mem;
@@ -56,22 +56,20 @@ fn at_script<F: ModelForm<B>, B: Machine + Drop>(
     model: Model,
     names: IndexMap<Name, Subject>,
     number: u64,
+    out: &mut Out,
 ) -> Begun<B>
-    requires few { number ≤ MAX_LINES }
     requires complete { IsComplete model }
     requires fit { NamesFit names model }
-    ensures begins { IfOk result (λ o.
-        AtScript F.ModelForm B.Machine form.now model number (next_by o.opened) o.text.items) }
-    ensures turn { IfOk result (λ o. AwaitsBy B.Machine o.opened (number + 1)) }
+    ensures begins { IfOk result (λ o. Appended
+        (AtScript F.ModelForm B.Machine form.now model number (next_by o)) out.old out.new) }
+    ensures turn { IfOk result (λ o. AwaitsBy B.Machine o (number + 1)) }
+    ensures front { IsFront out.old out.new }
 {
     match accept(alloc, model) {
-        Ok(compiled) => form.begin(alloc, Accepted::new(compiled, names), number),
+        Ok(compiled) => form.begin(alloc, Accepted::new(compiled, names), number, out),
         Err(stop) => {
-            let said = not_accepted(alloc, form.is_json(), number, stop)?;
-            Ok(Opening {
-                text: said.text,
-                opened: Opened::Ended(End::Refused),
-            })
+            refuse_model_to(alloc, form.is_json(), number, stop, out)?;
+            Ok(Opened::Ended(End::Refused))
         }
     }
 }
@@ -114,49 +112,61 @@ impl<F: ModelForm<B> + Drop, B: Machine + Drop> Machine for WithModel<F, B> {
         }
     }
 
-    fn refuse(&self, alloc: Global, number: u64, code: u8) -> Result<Vec<u8>, AllocError> {
+    fn refuse(
+        &self,
+        alloc: Global,
+        number: u64,
+        code: u8,
+        out: &mut Out,
+    ) -> Result<(), AllocError> {
         match &self.stage {
             Stage::Model(form, reader) => {
                 let refusal = Refusal::bare(code);
-                refusal_of(alloc, form.is_json(), reader.model(), number, &refusal)
+                refuse_to(alloc, form.is_json(), reader.model(), number, &refusal, out)
             }
-            Stage::Behind(behind) => behind.refuse(alloc, number, code),
+            Stage::Behind(behind) => behind.refuse(alloc, number, code, out),
         }
     }
 
-    fn step(&mut self, alloc: Global, number: u64, line: &[u8]) -> Result<Said, AllocError> {
+    fn step(
+        &mut self,
+        alloc: Global,
+        number: u64,
+        line: &[u8],
+        out: &mut Out,
+    ) -> Result<Option<End>, AllocError> {
         match &mut self.stage {
-            Stage::Behind(behind) => behind.step(alloc, number, line),
+            Stage::Behind(behind) => behind.step(alloc, number, line, out),
             Stage::Model(form, reader) => match reader.line(line) {
-                Ok(LineEnd::Going) => Ok(nothing(alloc)),
+                Ok(LineEnd::Going) => Ok(None),
                 Ok(LineEnd::Script) => {
                     let read = mem::replace(reader, ModelReader::open(alloc)?);
                     let (model, names) = read.finish_named();
-                    let Opening { text, opened } = at_script(alloc, form, model, names, number)?;
-                    match opened {
+                    match at_script(alloc, form, model, names, number, out)? {
                         Opened::Lines(behind) => {
                             self.stage = Stage::Behind(behind);
-                            Ok(Said { text, end: None })
+                            Ok(None)
                         }
-                        Opened::Ended(end) => Ok(Said {
-                            text,
-                            end: Some(end),
-                        }),
+                        Opened::Ended(end) => Ok(Some(end)),
                     }
                 }
-                Err(stop) => refuse_stop(alloc, form.is_json(), reader.model(), number, &stop),
+                Err(stop) => {
+                    let json = form.is_json();
+                    refuse_stop_to(alloc, json, reader.model(), number, &stop, out)?;
+                    Ok(Some(End::Refused))
+                }
             },
         }
     }
 
-    fn close(&mut self, alloc: Global, count: u64) -> Result<(Vec<u8>, End), AllocError> {
+    fn close(&mut self, alloc: Global, count: u64, out: &mut Out) -> Result<End, AllocError> {
         match &mut self.stage {
             Stage::Model(form, reader) => {
                 let refusal = Refusal::bare(ENDS_EARLY);
-                let text = refusal_of(alloc, form.is_json(), reader.model(), count, &refusal)?;
-                Ok((text, End::Refused))
+                refuse_to(alloc, form.is_json(), reader.model(), count, &refusal, out)?;
+                Ok(End::Refused)
             }
-            Stage::Behind(behind) => behind.close(alloc, count),
+            Stage::Behind(behind) => behind.close(alloc, count, out),
         }
     }
 }

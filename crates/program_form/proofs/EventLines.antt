@@ -9,21 +9,25 @@ use Rattle.cca_base.specs.declared.cube.Pair.{Pair}
 use Rattle.cca_base.specs.declared.events.Event.{Event}
 use Rattle.control_laws.specs.Turns.{Control}
 use Rattle.control_syntax.specs.declared.part.Part.{Part}
+use Rattle.line_forms.specs.LinesMachine.{DoesBy}
 use Rattle.line_machine.specs.Completes.{Completes}
 use Rattle.line_machine.specs.Next.{Next, GoesOn, Stops}
 use Rattle.line_machine.specs.Runs.{Transition, TransitionByCode}
 use Rattle.line_machine.specs.declared.machine.End.{End}
 use Rattle.line_machine.specs.declared.machine.End.TheVariants.{Refused}
 use Rattle.line_machine.proofs.RunLines.{first_line, line_first, at_stop, stops, at_end, ends}
+use Rattle.model_form.specs.Answers.{Answer}
 use Rattle.model_form.specs.Limits.{line_code, unless_long}
 use Rattle.model_form.specs.LinesEnds.{AllRead, RefusedAt, ending}
+use Rattle.model_form.proofs.SameAnswer.{same_answer}
 use Rattle.trace_laws.specs.Events.{Acts, Makes, PendingAfter, mirrored_after}
 use Rattle.trace_laws.proofs.PendingKnown.{one_pending, known_after}
 use Rattle.trace_text.specs.Json.{refusal_text}
 use Rattle.program_form.specs.Printed.{all_told, reports_of}
-use Rattle.program_form.specs.ProgramMachine.{ProgramState, MakesBy, MakesEvent, event_text, lines_machine, running, sequencer, report_of}
+use Rattle.program_form.specs.ProgramMachine.{ProgramState, MakesBy, MakesEvent, asks_event, event_text, lines_machine, program_lines, running, sequencer, report_of}
 use Rattle.program_form.specs.PutIn.{PutIn, Sequencer, Told}
 use Rattle.program_form.specs.Sequences.{Sequence, SaysBy, SaysEvents, ended, event_line, with_event}
+use Rattle.program_form.specs.declared.item.ProgramItem.{ProgramItem}
 use Rattle.program_form.proofs.Sequencing.{event_then, event_first, made_known, prepared, reports_first, text_first, told_reports}
 
 module _ (b : CompiledModel) (compiled : IsCompiled b) (part : Part) where
@@ -160,7 +164,7 @@ module _ (b : CompiledModel) (compiled : IsCompiled b) (part : Part) where
           end = p.end;
           parts = ap (λ (t : List ℕ). t ++ rest) by.1 ∙ p.parts;
         }
-    event_prints (Ok (Some event)) e rest u a says (y, next, own, makes, to, text) d on =
+    event_prints (Ok (Some event)) e rest u a says (y, next, (own, makes, text), to) d on =
         let p = on y next (subst (λ (v : Next ProgramState). Completes lines_machine v (n + 1) ls e rest) to d) in
         let truly = known x c event y next own makes in
         let later : Later y.pending (mirrored_after x.mirrored event) p.sequence = subst (λ (k : ℕ). Later y.pending k p.sequence) truly.1 p.says in
@@ -177,8 +181,9 @@ module _ (b : CompiledModel) (compiled : IsCompiled b) (part : Part) where
     line_prints : (o : Option ℕ) (u : Next ProgramState) (a : List ℕ) (e : End) (rest : List ℕ) → o ≡ line_code (n + 1) l → TransitionByCode lines_machine o (running b x c) (n + 1) l u a
         → Completes lines_machine u (n + 1) ls e rest → PrintsOn e rest → Prints x c n (l ∷ ls) e (a ++ rest)
     line_prints (Some code) u a e rest f takes d on = refused_prints code e rest u a (λ i. unless_long (f i) (event_line b.model x.pending x.mirrored l)) takes d
-    line_prints None u a e rest f takes d on =
-        event_prints (event_line b.model x.pending x.mirrored l) e rest u a (λ i. unless_long (f i) (event_line b.model x.pending x.mirrored l)) takes.1 d on
+    line_prints None u a e rest f (said, is, does) d on =
+        let by = subst (λ (v : Result (Option ProgramItem) ℕ). DoesBy program_lines v (running b x c) (n + 1) u a) is.1 does in
+        event_prints (event_line b.model x.pending x.mirrored l) e rest u a (λ i. unless_long (f i) (event_line b.model x.pending x.mirrored l)) by d on
 
     -- ---- from what is said to the machine
 
@@ -208,7 +213,7 @@ module _ (b : CompiledModel) (compiled : IsCompiled b) (part : Part) where
     takes_event : (v : Result (Option Event) ℕ) (u : Next ProgramState) (a : List ℕ) → None ≡ line_code (n + 1) l → v ≡ event_line b.model x.pending x.mirrored l → MakesBy v b x c (n + 1) u a → Takes u a
     takes_event v u a f g by =
         subst (λ (o : Option ℕ). TransitionByCode lines_machine o (running b x c) (n + 1) l u a) f
-        (compiled, subst (λ (w : Result (Option Event) ℕ). MakesBy w b x c (n + 1) u a) g by)
+        (asks_event v, (compiled, ap asks_event g), by)
 
     line_runs : (o : Option ℕ) (v : Result (Option Event) ℕ) (r : Sequence) (full : List Event) (told : List Told) → o ≡ line_code (n + 1) l → v ≡ event_line b.model x.pending x.mirrored l → SaysHere (unless_long o v) r → AreMade x c r.events full told → RunsOn → RunsTo r told
     line_runs (Some code) v r full told f g is made on = refused_runs code r full told is made (takes_code code f)
@@ -224,13 +229,13 @@ module _ (b : CompiledModel) (compiled : IsCompiled b) (part : Part) where
         (λ i. all_told b.model (h.split i) ++ last_text (is i)) ∙ ap (λ (t : List ℕ). t ++ last_text rest) (text_first b.model h.own h.others) ∙ append_assoc (event_text b.model h.own) (all_told b.model h.others) (last_text rest) in
         subst (λ (z : End). Completes lines_machine (GoesOn (running b x c)) n (l ∷ ls) z (all_told b.model told ++ last_text r)) (sym (ap end_of is))
         (run_by (GoesOn (running b h.next h.left)) (event_text b.model h.own) (all_told b.model h.others ++ last_text rest) (all_told b.model told ++ last_text r) (end_of rest)
-        (takes_event (Ok (Some e)) (GoesOn (running b h.next h.left)) (event_text b.model h.own) f g (h.next, h.left, h.own, h.makes, refl, refl)) (on h.next h.left rest h.behind h.others says h.rest) text)
+        (takes_event (Ok (Some e)) (GoesOn (running b h.next h.left)) (event_text b.model h.own) f g (h.next, h.left, (h.own, h.makes, refl), refl)) (on h.next h.left rest h.behind h.others says h.rest) text)
 
   -- what the machine prints is what is told of what the lines say
   pub prints : (ls : List (List ℕ)) (x : ExecutiveState) (c : Control) (n : ℕ) (e : End) (text : List ℕ) → Completes lines_machine (GoesOn (running b x c)) n ls e text → Prints x c n ls e text
   prints [] x c n e text d =
       let p = at_end lines_machine (GoesOn (running b x c)) n e text d in
-      record { sequence = ended b.model part AllRead; told = []; full = []; says = refl; made = nothing_made x c; end = p.0; parts = p.1 }
+      record { sequence = ended b.model part AllRead; told = []; full = []; says = refl; made = nothing_made x c; end = ap (λ (z : Answer). z.end) p; parts = ap (λ (z : Answer). z.text) p }
   prints (l ∷ ls) x c n e text d =
       let t = first_line lines_machine (running b x c) n l ls e text d in
       subst (λ (z : List ℕ). Prints x c n (l ∷ ls) e z) (sym t.parts)
@@ -241,6 +246,6 @@ module _ (b : CompiledModel) (compiled : IsCompiled b) (part : Part) where
       → Completes lines_machine (GoesOn (running b x c)) n ls (end_of r) (all_told b.model told ++ last_text r)
   runs [] x c n r full told is made =
       let none : told ≡ [] = (subst (λ (q : Sequence). AreMade x c q.events full told) is made).put.1 in
-      ends lines_machine (GoesOn (running b x c)) n (end_of r) (all_told b.model told ++ last_text r) (ap end_of is, λ i. all_told b.model (none i) ++ last_text (is i))
+      ends lines_machine (GoesOn (running b x c)) n (end_of r) (all_told b.model told ++ last_text r) (same_answer (ap end_of is) (λ i. all_told b.model (none i) ++ last_text (is i)))
   runs (l ∷ ls) x c n r full told says made =
       line_runs n l ls x c (line_code (n + 1) l) (event_line b.model x.pending x.mirrored l) r full told refl refl says made (λ y k q more others h j. runs ls y k (n + 1) q more others h j)

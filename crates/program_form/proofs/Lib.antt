@@ -3,6 +3,7 @@ pub mod MadeEvents
 pub mod OneSequence
 pub mod ProgramAgrees
 pub mod ProgramEnds
+pub mod ProgramKeeps
 pub mod ProgramLines
 pub mod ProgramsTold
 pub mod ProgramsTraced

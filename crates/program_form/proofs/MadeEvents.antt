@@ -1,6 +1,6 @@
 -- Events that were made, with what is told of them.
-use Rattle.std.proofs.Common.{◌≡◌, ℕ, Bool, List, Option, Some, Result, Ok, Err}
-use Rattle.std.specs.Prelude.{IfOk}
+use Rattle.std.proofs.Common.{◌≡◌, ℕ, ◌++◌, Bool, List, [], Option, Some, Result, Ok, Err, refl, sym, ap, ◌∙◌, append-nil}
+use Rattle.std.specs.Prelude.{OnErr, OnOk}
 use Rattle.cca_base.specs.Accepted.{CompiledModel}
 use Rattle.cca_base.specs.Plans.{Promising}
 use Rattle.cca_base.specs.PlantModel.{PlantModel}
@@ -9,9 +9,10 @@ use Rattle.cca_base.specs.declared.events.Event.{Event}
 use Rattle.cca_base.specs.declared.events.Event.TheVariants as event
 use Rattle.cca_base.specs.declared.events.TickReport.{TickReport}
 use Rattle.control_laws.specs.Turns.{Control}
+use Rattle.line_machine.specs.Outs.{Appended, Buffered, IsFront}
 use Rattle.trace_laws.specs.Events.{Acts, IsTick}
 use Rattle.program_form.specs.Printed.{told_text}
-use Rattle.program_form.specs.ProgramMachine.{MakesEvent, Prepares, event_text, sequencer}
+use Rattle.program_form.specs.ProgramMachine.{Prepares, PrintsEvent, sequencer}
 use Rattle.program_form.specs.PutIn.{Told, TurnsBefore, ends, left_by}
 use Rattle.program_form.specs.Stages.{RunsWell}
 use Rattle.program_form.proofs.RunningWell.{well_again}
@@ -21,13 +22,22 @@ pub no_tick : (e : Event) → (e ≡ event.Tick → ⊥) → IsTick e → ⊥
 no_tick e other tick = other (tick_is e tick)
 
 -- a tick, with the turn before it
-pub tick_made : {V E : Type 0} (items : V → List ℕ) (b : CompiledModel) (x z y : ExecutiveState) (c next : Control) (ended : Bool) (report : TickReport) (r : Result V E)
+pub tick_made : {V E : Type 0} (b : CompiledModel) (x z y : ExecutiveState) (c next : Control) (ended : Bool) (report : TickReport) (r : Result V E) (old new : Buffered)
     → ((put : Option Event) × TurnsBefore x.holding b.model (sequencer x c) put next × Prepares b x put z × (ended ≡ ends c next)) → Acts b (Promising b) z event.Tick y (Some report)
-    → IfOk r (λ t. items t ≡ told_text b.model (record { report = report; ended = ended }))
-    → IfOk r (λ t. (own : Option Told) × MakesEvent b x c event.Tick y next own × (items t ≡ event_text b.model own))
-tick_made items b x z y c next ended report (Ok t) (put, turns, prepares, is) acts text =
-    (Some (record { report = report; ended = ended }), record { put = put; puts = turns; told = (tt, is); middle = z; prepares = prepares; acts = acts }, text)
-tick_made items b x z y c next ended report (Err e) h acts text = tt
+    → OnOk r (new.bytes ≡ old.bytes ++ told_text b.model (record { report = report; ended = ended })) → OnOk r (Appended (PrintsEvent b x c event.Tick y next) old new)
+tick_made b x z y c next ended report (Ok t) old new (put, turns, prepares, is) acts behind =
+    let own : Told = record { report = report; ended = ended } in
+    record {
+      text = told_text b.model own;
+      is = (Some own, record { put = put; puts = turns; told = (tt, is); middle = z; prepares = prepares; acts = acts }, refl);
+      behind = behind;
+    }
+tick_made b x z y c next ended report (Err e) old new h acts behind = tt
+
+-- a call that appends where it answers, and else leaves all as it was
+pub front_of : {V E : Type 0} (r : Result V E) (old new : Buffered) (text : List ℕ) → OnOk r (new.bytes ≡ old.bytes ++ text) → OnErr r (new ≡ old) → IsFront old new
+front_of (Ok v) old new text h k = (text, h)
+front_of (Err e) old new text h k = ([], ap (λ (o : Buffered). o.bytes) k ∙ sym (append-nil old.bytes))
 
 -- a program that runs well goes on so behind it
 pub well_left : (m : PlantModel) (e : Event) (c : Control) → RunsWell m c → RunsWell m (left_by e c)

@@ -5,6 +5,7 @@ use Rattle.line_machine.specs.declared.machine.End.{End}
 use Rattle.model_form.specs.FormMeaning.{FormAgrees}
 use Rattle.model_form.specs.LinesEnds.{LinesEnd, ending}
 use Rattle.model_form.proofs.LinesAgree.{lines_form_agrees}
+use Rattle.program_form.specs.Headline.{IsProgramTrace}
 use Rattle.program_form.specs.Printed.{SaysRun}
 use Rattle.program_form.specs.ProgramMachine.{lines_machine, program_first}
 use Rattle.program_form.specs.ProgramMeaning.{EndsSequence, program_meaning}
@@ -22,4 +23,4 @@ one_end : (b : CompiledModel) (n : ℕ) (ls : List (List ℕ)) (x y : LinesEnd) 
 one_end b n ls x y (r, says, is) (q, also, was) = sym is ∙ ap (λ (z : Sequence). z.ending) (sequence_one b.model n ls r q says also) ∙ was
 
 pub program_agrees : FormAgrees program_meaning
-program_agrees = lines_form_agrees SaysRun EndsSequence ends_as one_end program_first lines_machine programs_are_told program_ends.fixed
+program_agrees = lines_form_agrees SaysRun EndsSequence IsProgramTrace ends_as one_end program_first lines_machine programs_are_told program_ends.fixed

@@ -12,21 +12,26 @@ use Rattle.control_laws.specs.Turns.{fresh}
 use Rattle.control_syntax.specs.Reading.{Reading, led}
 use Rattle.control_syntax.specs.declared.line.Line.{Line}
 use Rattle.control_syntax.specs.declared.part.Part.{Part}
+use Rattle.line_forms.specs.LinesMachine.{DoesBy}
 use Rattle.line_machine.specs.Completes.{Completes}
 use Rattle.line_machine.specs.Next.{Next, GoesOn, Stops}
 use Rattle.line_machine.specs.Runs.{Transition, TransitionByCode}
 use Rattle.line_machine.specs.declared.machine.End.{End}
 use Rattle.line_machine.specs.declared.machine.End.TheVariants.{Refused}
 use Rattle.line_machine.proofs.RunLines.{first_line, line_first, at_stop, stops, at_end, ends}
+use Rattle.model_form.specs.Answers.{Answer}
 use Rattle.model_form.specs.Limits.{line_code}
 use Rattle.model_form.specs.LinesEnds.{ending}
+use Rattle.model_form.proofs.SameAnswer.{same_answer}
 use Rattle.trace_laws.specs.Events.{mirrored_after}
 use Rattle.trace_laws.proofs.EventsJoin.{made_is_trace, trace_is_made}
 use Rattle.trace_text.specs.Json.{refusal_text}
 use Rattle.program_form.specs.Printed.{RunsTo, all_told, reports_of}
-use Rattle.program_form.specs.ProgramMachine.{ProgramState, Stage, Reads, Runs, ReadsBy as LeadsBy, behind_line, lines_machine, stage_by}
+use Rattle.program_form.specs.ProgramMachine.{ProgramState, Stage, Reads, Runs, ReadsBy as LeadsBy, behind_line, lines_machine, program_lines, stage_by}
 use Rattle.program_form.specs.PutIn.{Told}
 use Rattle.program_form.specs.Sequences.{Sequence, ProgramBy, ReadsLine, SaysBy, SaysEvents, SaysNext, SaysProgram, line_says, refused_at}
+use Rattle.program_form.specs.declared.item.ProgramItem.{ProgramItem}
+use Rattle.program_form.specs.declared.item.ProgramItem.TheVariants as items
 use Rattle.program_form.proofs.EventLines as events
 
 module _ (b : CompiledModel) (compiled : IsCompiled b) where
@@ -139,7 +144,8 @@ module _ (b : CompiledModel) (compiled : IsCompiled b) where
         → Completes lines_machine u (n + 1) ls e rest → PrintsOn e rest → Prints SaysHere e (a ++ rest)
     line_prints (Some code) u a e rest f takes d on =
         refused_prints (Err code) code e rest u a (subst (λ (o : Option ℕ). ReadsLine b.model o x l (Err code)) f refl) refl takes d
-    line_prints None u a e rest f (said, is, by) d on =
+    line_prints None u a e rest f (item, reads, does) d on =
+        let (said, is, by) = subst (λ (v : Result (Option ProgramItem) ℕ). DoesBy program_lines v (at (Reads x)) (n + 1) u a) reads does in
         said_prints said e rest u a (subst (λ (o : Option ℕ). ReadsLine b.model o x l said) f is) by d on
 
     -- ---- and back
@@ -174,18 +180,18 @@ module _ (b : CompiledModel) (compiled : IsCompiled b) where
         refused_runs code r told (subst (λ (v : Result (Option Line) ℕ). ProgramBy b.model v x (n + 1) ls Later r) reads by) run
         (subst (λ (o : Option ℕ). TransitionByCode lines_machine o (at (Reads x)) (n + 1) l (Stops Refused) (line_text code)) f (refl, refl))
     line_runs None (Err code) r told f reads by run on =
-        refused_runs code r told by run (subst (λ (o : Option ℕ). TransitionByCode lines_machine o (at (Reads x)) (n + 1) l (Stops Refused) (line_text code)) f (Err code, reads, (refl, refl)))
+        refused_runs code r told by run (subst (λ (o : Option ℕ). TransitionByCode lines_machine o (at (Reads x)) (n + 1) l (Stops Refused) (line_text code)) f (Ok (Some (items.Reads l)), refl, (Err code, reads, (refl, refl))))
     line_runs None (Ok said) r told f reads by run on =
         let y = led x said in
         let u : Next ProgramState = GoesOn (behind_line (at (Reads x)) y) in
         run_by u [] (told_and_last r told) (told_and_last r told) (end_of r)
-        (subst (λ (o : Option ℕ). TransitionByCode lines_machine o (at (Reads x)) (n + 1) l u []) f (Ok said, reads, (refl, refl))) (next_runs y.whole y r told by run on) refl
+        (subst (λ (o : Option ℕ). TransitionByCode lines_machine o (at (Reads x)) (n + 1) l u []) f (Ok (Some (items.Reads l)), refl, (Ok said, reads, (refl, refl)))) (next_runs y.whole y r told by run on) refl
 
   -- what the machine prints is what is told of what the lines say
   pub prints : (ls : List (List ℕ)) (x : Reading) (n : ℕ) (e : End) (text : List ℕ) → Completes lines_machine (GoesOn (at (Reads x))) n ls e text → Prints (SaysProgram b.model x n ls) e text
   prints [] x n e text d =
       let p = at_end lines_machine (GoesOn (at (Reads x))) n e text d in
-      record { sequence = refused_at n ENDS_EARLY; told = []; says = refl; runs = refl; end = p.0; parts = p.1 }
+      record { sequence = refused_at n ENDS_EARLY; told = []; says = refl; runs = refl; end = ap (λ (z : Answer). z.end) p; parts = ap (λ (z : Answer). z.text) p }
   prints (l ∷ ls) x n e text d =
       let t = first_line lines_machine (at (Reads x)) n l ls e text d in
       subst (λ (z : List ℕ). Prints (SaysProgram b.model x n (l ∷ ls)) e z) (sym t.parts)
@@ -196,6 +202,6 @@ module _ (b : CompiledModel) (compiled : IsCompiled b) where
       → Completes lines_machine (GoesOn (at (Reads x))) n ls (end_of r) (told_and_last r told)
   runs [] x n r told is run =
       let none : told ≡ [] = subst (λ (q : Sequence). RunsTo b q.program q.events told) is run in
-      ends lines_machine (GoesOn (at (Reads x))) n (end_of r) (told_and_last r told) (ap end_of is, λ i. told_and_last (is i) (none i))
+      ends lines_machine (GoesOn (at (Reads x))) n (end_of r) (told_and_last r told) (same_answer (ap end_of is) (λ i. told_and_last (is i) (none i)))
   runs (l ∷ ls) x n r told (said, reads, by) run =
       line_runs n l ls x (line_code (n + 1) l) said r told refl reads by run (λ y q others h k. runs ls y (n + 1) q others h k)

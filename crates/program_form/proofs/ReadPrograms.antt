@@ -1,19 +1,20 @@
 -- What a line of a program leads to, by what is read of it.
-use Rattle.std.proofs.Common.{◌≡◌, ◌+◌, false, [], List, ℕ, Option, Some, None, Result, Ok, Err, sym, ap, subst, ◌∙◌, arith}
-use Rattle.std.specs.Prelude.{IfOk, IfSome}
+use Rattle.std.proofs.Common.{◌≡◌, ◌++◌, false, [], List, ℕ, Option, Some, None, Result, Ok, Err, refl, sym, ap, subst, ◌∙◌, append-nil}
+use Rattle.std.specs.Prelude.{IfSome}
 use Rattle.cca_base.specs.PlantModel.{PlantModel}
 use Rattle.cca_base.specs.Refusals.{bare, stop_code, Answers}
 use Rattle.cca_base.specs.declared.events.Stop.{Stop}
 use Rattle.cca_base.specs.declared.events.Stop.TheVariants as stops
 use Rattle.control_laws.specs.Turns.{Control}
 use Rattle.control_syntax.specs.Reading.{Reading, led}
-use Rattle.line_machine.specs.Next.{GoesOn, next_of}
-use Rattle.line_machine.specs.declared.machine.End.{End}
+use Rattle.line_machine.specs.Next.{Next, GoesOn, Stops}
+use Rattle.line_machine.specs.Outs.{Appended, Buffered}
 use Rattle.line_machine.specs.declared.machine.End.TheVariants.{Refused}
-use Rattle.line_machine.specs.declared.machine.Said.{Said}
 use Rattle.trace_text.specs.Json.{refusal_text}
-use Rattle.program_form.specs.ProgramMachine.{IsProperStage, ProgramAwaits, ProgramState, ProgramSteps, Reads, Runs, Stage, StepsIn, stage_by}
+use Rattle.program_form.specs.ProgramMachine.{ProgramState, Reads, Runs, ServesIn, Stage, program_lines, stage_by}
 use Rattle.program_form.specs.Stages.{ReadsTo, RunsWell, begun}
+use Rattle.program_form.specs.declared.item.ProgramItem.{ProgramItem}
+use Rattle.program_form.specs.declared.item.ProgramItem.TheVariants as items
 use Rattle.program_form.proofs.RunningWell.{well_at_first}
 
 -- a program that was read whole runs well
@@ -30,45 +31,35 @@ coded Is (stops.Refused refusal) code answer is = let same : refusal.code ≡ co
 abbrev pub at_stage : ProgramState → Stage → ProgramState
 at_stage x s = record { compiled = x.compiled; state = x.state; stage = s }
 
-leads : (x : ProgramState) (n : ℕ) (line : List ℕ) (y z : Reading) (o : Option Control) (end : Option End) (text : List ℕ) → x.stage ≡ Reads y → ReadsTo x.compiled.model y line (Ok o) z
-    → end ≡ None → text ≡ [] → ProgramSteps x n line (next_of (begun o (at_stage x (Reads z))) end) text
-leads x n line y z None end text at r ends empty =
+leads : (x : ProgramState) (n : ℕ) (line : List ℕ) (y z : Reading) (o : Option Control) → x.stage ≡ Reads y → ReadsTo x.compiled.model y line (Ok o) z → program_lines.serves (items.Reads line) x n (GoesOn (begun o (at_stage x (Reads z)))) []
+leads x n line y z None at r =
     let stays : Reads z ≡ stage_by (led y r.0).whole (led y r.0) = sym (ap (λ p. stage_by p z) r.3) ∙ ap (λ (w : Reading). stage_by w.whole w) r.2 in
-    subst (λ s. StepsIn s x n line (next_of (at_stage x (Reads z)) end) text) (sym at)
-    (Ok r.0, r.1, (ap (λ e. next_of (at_stage x (Reads z)) e) ends ∙ ap (λ s. GoesOn (at_stage x s)) stays, empty))
-leads x n line y z (Some runner) end text at r ends empty =
+    subst (λ s. ServesIn s (items.Reads line) x n (GoesOn (at_stage x (Reads z))) []) (sym at) (Ok r.0, r.1, (ap (λ s. GoesOn (at_stage x s)) stays, refl))
+leads x n line y z (Some runner) at r =
     let runs : Runs runner ≡ stage_by (led y r.0).whole (led y r.0) = ap Runs r.4 ∙ sym (ap (λ p. stage_by p (led y r.0)) r.3) in
-    subst (λ s. StepsIn s x n line (next_of (at_stage x (Runs runner)) end) text) (sym at)
-    (Ok r.0, r.2, (ap (λ e. next_of (at_stage x (Runs runner)) e) ends ∙ ap (λ s. GoesOn (at_stage x s)) runs, empty))
+    subst (λ s. ServesIn s (items.Reads line) x n (GoesOn (at_stage x (Runs runner))) []) (sym at) (Ok r.0, r.2, (ap (λ s. GoesOn (at_stage x s)) runs, refl))
 
--- a line is read, and the program may begin
-pub reads_on : (w x : ProgramState) (n : ℕ) (line : List ℕ) (y z : Reading) (o : Option Control) (next : ProgramState) (end : Option End) (text : List ℕ) → w ≡ x → w.stage ≡ Reads y
-    → ReadsTo w.compiled.model y line (Ok o) z → next ≡ begun o (at_stage w (Reads z)) → end ≡ None → text ≡ [] → ProgramSteps x n line (next_of next end) text
-reads_on w x n line y z o next end text same at read to ends empty =
-    subst (λ v. ProgramSteps v n line (next_of next end) text) same
-    (subst (λ s. ProgramSteps w n line (next_of s end) text) (sym to) (leads w n line y z o end text at read ends empty))
+module _ (w x : ProgramState) (same : w ≡ x) (n : ℕ) (line : List ℕ) (item : ProgramItem) (asks : item ≡ items.Reads line) (y z : Reading) (at : w.stage ≡ Reads y) where
+  -- what is done for the line is done for what it asks for
+  serves_item : (u : Next ProgramState) (text : List ℕ) → program_lines.serves (items.Reads line) w n u text → program_lines.serves item x n u text
+  serves_item u text h = subst (λ i. program_lines.serves i x n u text) (sym asks) (subst (λ v. program_lines.serves (items.Reads line) v n u text) same h)
 
--- what a refusal prints, and that it ends the lines
-abbrev pub Refuses : {E : Type 0} → Stop → Result Said E → ℕ → PlantModel → Type 0
-Refuses stop r n m = IfOk r (λ said. (code : ℕ) × (stop_code stop ≡ Some code) × (said.end ≡ Some Refused) × (said.text.items ≡ refusal_text false m n (bare code)))
+  -- a line is read, and the program may begin
+  pub reads_on : (o : Option Control) (next : ProgramState) (out : Buffered) → ReadsTo w.compiled.model y line (Ok o) z → next ≡ begun o (at_stage w (Reads z)) → Appended (program_lines.serves item x n (GoesOn next)) out out
+  reads_on o next out read to = record {
+    text = [];
+    is = serves_item (GoesOn next) [] (subst (λ s. program_lines.serves (items.Reads line) w n (GoesOn s) []) (sym to) (leads w n line y z o at read));
+    behind = sym (append-nil out.bytes);
+  }
 
--- a line is refused
-pub refuses : (m : PlantModel) (w x : ProgramState) (n : ℕ) (line : List ℕ) (y z : Reading) (next : ProgramState) (stop : Stop) {E : Type 0} (r : Result Said E) → w ≡ x → m ≡ w.compiled.model → w.stage ≡ Reads y
-    → Answers (Err stop) (λ said. ReadsTo m y line said z) → Refuses stop r n m → IfOk r (λ said. ProgramSteps x n line (next_of next said.end) said.text.items)
-refuses m w x n line y z next stop (Err e) same model at answer h = tt
-refuses m w x n line y z next stop (Ok said) same model at answer (code, is, ends, texts) =
-    let read = subst (λ k. ReadsTo k y line (Err code) z) model (coded (λ s. ReadsTo m y line s z) stop code answer is) in
-    subst (λ v. ProgramSteps v n line (next_of next said.end) said.text.items) same
-    (subst (λ s. StepsIn s w n line (next_of next said.end) said.text.items) (sym at)
-    (Err code, read.0, (ap (λ e. next_of next e) ends, texts ∙ ap (λ k. refusal_text false k n (bare code)) model)))
-
--- and leaves what was read
-pub still_awaits : (m : PlantModel) (w x s : ProgramState) (n : ℕ) (line : List ℕ) (y z : Reading) (stop : Stop) {E : Type 0} (r : Result Said E) → w ≡ x → w.stage ≡ Reads y
-    → Answers (Err stop) (λ said. ReadsTo m y line said z) → Refuses stop r n m → ProgramAwaits x n → s ≡ at_stage w (Reads z) → IfOk r (λ said. ProgramAwaits s (n + 1))
-still_awaits m w x s n line y z stop (Err e) same at answer h waits to = tt
-still_awaits m w x s n line y z stop (Ok said) same at answer (code, is, ends, texts) waits to =
-    let awaits = subst (λ v. ProgramAwaits v n) (sym same) waits in
-    let few = awaits.0 in
-    let is_open = subst IsProperStage at awaits.1 in
-    let read = coded (λ s. ReadsTo m y line s z) stop code answer is in
-    subst (λ v. ProgramAwaits v (n + 1)) (sym to) (omega arith, ap (λ (v : Reading). v.whole) read.1 ∙ is_open)
+  -- a line is refused
+  pub refuses : (m : PlantModel) (stop : Stop) (old new : Buffered) → m ≡ w.compiled.model → Answers (Err stop) (λ said. ReadsTo m y line said z)
+      → ((code : ℕ) × (stop_code stop ≡ Some code) × (new.bytes ≡ old.bytes ++ refusal_text false m n (bare code))) → Appended (program_lines.serves item x n (Stops Refused)) old new
+  refuses m stop old new model answer (code, is, behind) =
+      let read = subst (λ k. ReadsTo k y line (Err code) z) model (coded (λ s. ReadsTo m y line s z) stop code answer is) in
+      let text = refusal_text false m n (bare code) in
+      record {
+        text = text;
+        is = serves_item (Stops Refused) text (subst (λ s. ServesIn s (items.Reads line) w n (Stops Refused) text) (sym at) (Err code, read.0, (refl, ap (λ k. refusal_text false k n (bare code)) model)));
+        behind = behind;
+      }

@@ -1,6 +1,6 @@
 -- An event makes one tick at most.
-use Rattle.std.proofs.Common.{◌≡◌, ◌<◌, ◌+◌, ℕ, List, Option, Some, None, Result, Ok, Err, ap, arith}
-use Rattle.std.specs.Prelude.{IfOk}
+use Rattle.std.proofs.Common.{◌≡◌, ◌<◌, ◌+◌, Option, Some, None, Result, Ok, Err, ap, arith}
+use Rattle.std.specs.Prelude.{OnOk}
 use Rattle.cca_base.specs.Accepted.{CompiledModel}
 use Rattle.cca_base.specs.Orders.{IsSorted}
 use Rattle.cca_base.specs.Plans.{Promising}
@@ -12,8 +12,9 @@ use Rattle.cca_base.specs.declared.events.Shown.{Shown}
 use Rattle.cca_base.specs.declared.events.Shown.TheVariants.{Estimated, Unexplained, Holding}
 use Rattle.cca_base.specs.declared.events.TickReport.{TickReport}
 use Rattle.control_laws.specs.Turns.{Control}
+use Rattle.line_machine.specs.Outs.{Appended, Buffered}
 use Rattle.trace_laws.specs.Events.{Acts}
-use Rattle.program_form.specs.ProgramMachine.{MakesEvent, event_text, report_of, sequencer}
+use Rattle.program_form.specs.ProgramMachine.{MakesEvent, PrintsEvent, report_of, sequencer}
 use Rattle.program_form.specs.PutIn.{Told}
 use Rattle.program_form.proofs.Sequencing.{prepared}
 
@@ -40,8 +41,8 @@ made_counts b x c e y next own h =
     let alike = prepared b e (sequencer x c) h.put next x h.middle h.puts h.prepares in
     omega (arith, alike.ticks, acts_counts b h.middle e y (report_of own) h.acts)
 
--- the same of what a call made
-pub makes_count : {V E : Type 0} (items : V → List ℕ) (b : CompiledModel) (x : ExecutiveState) (c : Control) (e : Event) (y : ExecutiveState) (next : Control) (r : Result V E)
-    → IfOk r (λ t. (own : Option Told) × MakesEvent b x c e y next own × (items t ≡ event_text b.model own)) → IfOk r (λ t. y.ticks < x.ticks + 2)
-makes_count items b x c e y next (Ok t) (own, makes, text) = made_counts b x c e y next own makes
-makes_count items b x c e y next (Err w) h = tt
+-- the same of what a call made and appended
+pub makes_count : {V E : Type 0} (b : CompiledModel) (x : ExecutiveState) (c : Control) (e : Event) (y : ExecutiveState) (next : Control) (r : Result V E) (old new : Buffered)
+    → OnOk r (Appended (PrintsEvent b x c e y next) old new) → OnOk r (y.ticks < x.ticks + 2)
+makes_count b x c e y next (Ok t) old new h = let (own, makes, text) = h.is in made_counts b x c e y next own makes
+makes_count b x c e y next (Err w) old new h = tt

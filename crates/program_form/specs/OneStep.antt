@@ -1,5 +1,5 @@
--- A state and a line lead to one state and one text, and so does the end of the input. The proofs stand here since a machine names them.
-use Rattle.std.proofs.Common.{◌≡◌, ℕ, List, Bool, true, false, Option, Some, None, Result, Ok, Err, refl, sym, ap, subst, ◌∙◌}
+-- A line says one thing, and an item that is said leads to one state and one text. The proofs stand here since a form of lines names them.
+use Rattle.std.proofs.Common.{◌≡◌, ℕ, ◌+◌, List, Bool, true, false, Option, Some, None, Result, Ok, Err, refl, sym, ap, subst, ◌∙◌, arith}
 use Rattle.cca_base.specs.Accepted.{CompiledModel, IsCompiled}
 use Rattle.cca_base.specs.Plans.{Promising}
 use Rattle.cca_base.specs.PlantModel.{PlantModel}
@@ -12,13 +12,13 @@ use Rattle.control_syntax.proofs.OneLine.{lines_are_one}
 use Rattle.control_syntax.specs.Reading.{Reading}
 use Rattle.control_syntax.specs.declared.line.Line.{Line}
 use Rattle.line_machine.specs.Next.{Next, GoesOn}
-use Rattle.line_machine.specs.declared.machine.End.{End}
 use Rattle.model_form.specs.OneStep.{AreOne}
 use Rattle.trace_laws.specs.Events.{Acts}
 use Rattle.trace_laws.proofs.OneNext.{acts_are_one}
-use Rattle.program_form.specs.ProgramMachine.{ProgramState, Stage, Reads, Runs, MakesEvent, MakesBy, ReadsBy, StepsIn, ProgramSteps, ClosesIn, ProgramCloses, Prepares, report_of, event_text, running, sequencer}
+use Rattle.program_form.specs.ProgramMachine.{ProgramState, Stage, Reads, Runs, MakesEvent, ReadsBy, SaysIn, ServesIn, ProgramAwaits, Prepares, program_lines, report_of, event_text, running, sequencer}
 use Rattle.program_form.specs.PutIn.{Sequencer, Told, PutsBefore, TurnsBefore, IsToldOf, asks, ends}
-use Rattle.program_form.specs.Sequences.{event_line}
+use Rattle.program_form.specs.declared.item.ProgramItem.{ProgramItem}
+use Rattle.program_form.specs.declared.item.ProgramItem.TheVariants as items
 
 -- a turn before a tick has one event and leaves one rest
 turn_once : (holding : Bool) (m : PlantModel) (x : Sequencer) (put other : Option Event) (y z : Control) → TurnsBefore holding m x put y → TurnsBefore holding m x other z → (put ≡ other) × (y ≡ z)
@@ -65,31 +65,31 @@ event_once b compiled x c e y z next then_ own other h k =
     let same = acts_are_one b compiled k.middle e y z (report_of own) (report_of other) (subst (λ s. Acts b (Promising b) s e y (report_of own)) middle h.acts) k.acts in
     record { state = same.0; left = first.1; told = told_once e c next then_ own other first.1 same.1 h.told k.told }
 
-makes_one : (r : Result (Option Event) ℕ) (b : CompiledModel) (x : ExecutiveState) (c : Control) (n : ℕ) (u v : Next ProgramState) (a t : List ℕ) → IsCompiled b → MakesBy r b x c n u a → MakesBy r b x c n v t → AreOne u v a t
-makes_one (Err code) b x c n u v a t compiled h k = (h.0 ∙ sym k.0, h.1 ∙ sym k.1)
-makes_one (Ok None) b x c n u v a t compiled h k = (h.0 ∙ sym k.0, h.1 ∙ sym k.1)
-makes_one (Ok (Some e)) b x c n u v a t compiled (y, next, own, makes, to, text) (z, then_, other, also, too, words) =
-    let same = event_once b compiled x c e y z next then_ own other makes also in (
-      to ∙ (λ i. GoesOn (running b (same.state i) (same.left i))) ∙ sym too,
-      text ∙ ap (event_text b.model) same.told ∙ sym words,
-    )
-
 reads_one : (said : Result (Option Line) ℕ) (x : ProgramState) (y : Reading) (n : ℕ) (u v : Next ProgramState) (a t : List ℕ) → ReadsBy said x y n u a → ReadsBy said x y n v t → AreOne u v a t
 reads_one (Err code) x y n u v a t h k = (h.0 ∙ sym k.0, h.1 ∙ sym k.1)
 reads_one (Ok said) x y n u v a t h k = (h.0 ∙ sym k.0, h.1 ∙ sym k.1)
 
-steps_in : (s : Stage) (x : ProgramState) (n : ℕ) (l : List ℕ) (u v : Next ProgramState) (a t : List ℕ) → StepsIn s x n l u a → StepsIn s x n l v t → AreOne u v a t
-steps_in (Reads y) x n l u v a t (said, is, h) (other, was, k) =
-    let same = lines_are_one x.compiled.model y l said other is was in
+serves_in : (s : Stage) (i : ProgramItem) (x : ProgramState) (l : List ℕ) (n : ℕ) (u v : Next ProgramState) (a t : List ℕ) → SaysIn s x l (Ok (Some i)) → ServesIn s i x n u a → ServesIn s i x n v t → AreOne u v a t
+serves_in (Reads y) (items.Reads line) x l n u v a t says (said, is, h) (other, was, k) =
+    let same = lines_are_one x.compiled.model y line said other is was in
     reads_one other x y n u v a t (subst (λ (z : Result (Option Line) ℕ). ReadsBy z x y n u a) same h) k
-steps_in (Runs c) x n l u v a t h k = makes_one (event_line x.compiled.model x.state.pending x.state.mirrored l) x.compiled x.state c n u v a t h.0 h.1 k.1
+serves_in (Reads y) (items.Makes e) x l n u v a t says h k = absurd h
+serves_in (Runs c) (items.Reads line) x l n u v a t says h k = absurd h
+serves_in (Runs c) (items.Makes e) x l n u v a t says (y, next, (own, makes, text), to) (z, then_, (other, also, words), too) =
+    let same = event_once x.compiled says.0 x.state c e y z next then_ own other makes also in (
+      to ∙ (λ i. GoesOn (running x.compiled (same.state i) (same.left i))) ∙ sym too,
+      text ∙ ap (event_text x.compiled.model) same.told ∙ sym words,
+    )
 
-pub steps_one : (x : ProgramState) (n : ℕ) (l : List ℕ) (u v : Next ProgramState) (a t : List ℕ) → ProgramSteps x n l u a → ProgramSteps x n l v t → AreOne u v a t
-steps_one x n l u v a t h k = steps_in x.stage x n l u v a t h k
+pub serves_one : (i : ProgramItem) (x : ProgramState) (l : List ℕ) (n : ℕ) (u v : Next ProgramState) (a t : List ℕ) → program_lines.said x l (Ok (Some i)) → program_lines.serves i x n u a → program_lines.serves i x n v t → AreOne u v a t
+serves_one i x l n u v a t says h k = serves_in x.stage i x l n u v a t says h k
 
-closes_in : (s : Stage) (m : PlantModel) (n : ℕ) (e f : End) (a t : List ℕ) → ClosesIn s m n e a → ClosesIn s m n f t → AreOne e f a t
-closes_in (Reads y) m n e f a t h k = (h.0 ∙ sym k.0, h.1 ∙ sym k.1)
-closes_in (Runs c) m n e f a t h k = (h.0 ∙ sym k.0, h.1 ∙ sym k.1)
+says_one : (s : Stage) (x : ProgramState) (l : List ℕ) (a b : Result (Option ProgramItem) ℕ) → SaysIn s x l a → SaysIn s x l b → a ≡ b
+says_one (Reads y) x l a b h k = h ∙ sym k
+says_one (Runs c) x l a b h k = h.1 ∙ sym k.1
 
-pub closes_one : (x : ProgramState) (n : ℕ) (e f : End) (a t : List ℕ) → ProgramCloses x n e a → ProgramCloses x n f t → AreOne e f a t
-closes_one x n e f a t h k = closes_in x.stage x.compiled.model n e f a t h k
+pub said_one : (x : ProgramState) (l : List ℕ) (a b : Result (Option ProgramItem) ℕ) → program_lines.said x l a → program_lines.said x l b → a ≡ b
+said_one x l a b h k = says_one x.stage x l a b h k
+
+pub awaits_on : (x : ProgramState) (n : ℕ) → ProgramAwaits x n → ProgramAwaits x (n + 1)
+awaits_on x n h = let few = h.0 in (omega arith, h.1)

@@ -8,17 +8,19 @@ use Rattle.cca_base.specs.Accepted.{CompiledModel, IsCompiled}
 use Rattle.cca_base.specs.Plans.{Promising}
 use Rattle.cca_base.specs.PlantModel.{PlantModel}
 use Rattle.cca_base.specs.Refusals.{bare}
-use Rattle.cca_base.specs.Trace.{ExecutiveState, start}
+use Rattle.cca_base.specs.Trace.{ExecutiveState, MayCome, start}
 use Rattle.control_laws.specs.Rest.{whole}
 use Rattle.control_laws.specs.Turns.{Control, fresh}
 use Rattle.control_syntax.specs.Codes.{IsSaid}
 use Rattle.control_syntax.specs.Reading.{Reading, led, nothing_read}
 use Rattle.control_syntax.specs.declared.line.Line.{Line}
 use Rattle.control_syntax.specs.declared.part.Part.{Part}
+use Rattle.line_forms.specs.LinesMachine as frame
+use Rattle.line_forms.specs.declared.line_form.LineForm.{Ghosts as LineGhosts}
 use Rattle.line_machine.specs.Next.{Next, GoesOn}
-use Rattle.line_machine.specs.declared.machine.End.{End}
-use Rattle.line_machine.specs.declared.machine.End.TheVariants.{Ended, Refused}
+use Rattle.line_machine.specs.declared.machine.End.TheVariants.{Ended}
 use Rattle.line_machine.specs.declared.machine.Machine.{Ghosts}
+use Rattle.model_form.specs.Answers.{Answer, answer, refused_answer}
 use Rattle.model_form.specs.FormMachine.{form_machine}
 use Rattle.model_form.specs.FormStates.{FormState}
 use Rattle.model_form.specs.LineMachines.{form_of_lines}
@@ -27,10 +29,11 @@ use Rattle.model_form.specs.declared.form.ModelForm.{Ghosts as FormGhosts}
 use Rattle.model_form.specs.declared.limits.TheConstants.{MAX_LINE}
 use Rattle.model_form.specs.declared.lines.OfLines.{OfLines}
 use Rattle.trace_laws.specs.Events.{Acts}
-use Rattle.trace_text.specs.Json.{refusal_text}
 use Rattle.program_form.specs.Printed.{told_text}
 use Rattle.program_form.specs.PutIn.{Sequencer, PutsBefore, IsToldOf, Told}
 use Rattle.program_form.specs.Sequences.{event_line}
+use Rattle.program_form.specs.declared.item.ProgramItem.{ProgramItem}
+use Rattle.program_form.specs.declared.item.ProgramItem.TheVariants as items
 
 -- so much of the program is read, or it runs, and this is left of it
 pub data Stage : Type 0 where
@@ -87,36 +90,45 @@ pub record MakesEvent (b : CompiledModel) (x : ExecutiveState) (c : Control) (e 
   pub prepares : Prepares b x put middle
   pub acts : Acts b (Promising b) middle e y (report_of own)
 
--- a line behind the program: its event is made, and what is told of it is printed; or the line is refused, or says nothing
-abbrev pub MakesBy : Result (Option Event) ℕ → CompiledModel → ExecutiveState → Control → ℕ → Next ProgramState → List ℕ → Type 0
-MakesBy (Err code) b x c n u text = RefusesLine false b.model n (bare code) u text
-MakesBy (Ok None) b x c n u text = GoesOnIn (running b x c) u text
-MakesBy (Ok (Some e)) b x c n u text =
-    (y : ExecutiveState) × (next : Control) × (own : Option Told) × MakesEvent b x c e y next own × (u ≡ GoesOn (running b y next)) × (text ≡ event_text b.model own)
+-- an event leads there, and this is printed of it
+abbrev pub PrintsEvent : CompiledModel → ExecutiveState → Control → Event → ExecutiveState → Control → List ℕ → Type 0
+PrintsEvent b x c e y next text = (own : Option Told) × MakesEvent b x c e y next own × (text ≡ event_text b.model own)
 
 -- a line of the program: more of it is read; or the line is refused
 abbrev pub ReadsBy : Result (Option Line) ℕ → ProgramState → Reading → ℕ → Next ProgramState → List ℕ → Type 0
 ReadsBy (Err code) x y n u text = RefusesLine false x.compiled.model n (bare code) u text
 ReadsBy (Ok said) x y n u text = GoesOnIn (behind_line x (led y said)) u text
 
--- what a line leads to, in the program and behind it
-abbrev pub StepsIn : Stage → ProgramState → ℕ → List ℕ → Next ProgramState → List ℕ → Type 0
-StepsIn (Reads y) x n line u text = (said : Result (Option Line) ℕ) × IsSaid x.compiled.model y line said × ReadsBy said x y n u text
-StepsIn (Runs c) x n line u text =
-    IsCompiled x.compiled × MakesBy (event_line x.compiled.model x.state.pending x.state.mirrored line) x.compiled x.state c n u text
+-- what an event line says, as what it asks for
+abbrev pub asks_event : Result (Option Event) ℕ → Result (Option ProgramItem) ℕ
+asks_event (Err code) = Err code
+asks_event (Ok None) = Ok None
+asks_event (Ok (Some e)) = Ok (Some (items.Makes e))
 
--- what a line leads to, wherever the lines stand
-abbrev pub ProgramSteps : ProgramState → ℕ → List ℕ → Next ProgramState → List ℕ → Type 0
-ProgramSteps x n line u text = StepsIn x.stage x n line u text
+-- what a line says: in the program that more of it is read, whatever stands in the line; behind it what an event line says
+abbrev pub SaysIn : Stage → ProgramState → List ℕ → Result (Option ProgramItem) ℕ → Type 0
+SaysIn (Reads y) x line said = said ≡ Ok (Some (items.Reads line))
+SaysIn (Runs c) x line said = IsCompiled x.compiled × (said ≡ asks_event (event_line x.compiled.model x.state.pending x.state.mirrored line))
 
--- what the end of the input leads to: it may come behind the program, and is refused in it
-abbrev pub ClosesIn : Stage → PlantModel → ℕ → End → List ℕ → Type 0
-ClosesIn (Reads y) m n e text = (e ≡ Refused) × (text ≡ refusal_text false m n (bare ENDS_EARLY))
-ClosesIn (Runs c) m n e text = (e ≡ Ended) × (text ≡ [])
+-- a line of the program is read where the program is, and an event that is made may come
+abbrev pub FitsIn : Stage → ProgramState → ProgramItem → Type 0
+FitsIn (Reads y) x (items.Reads line) = Unit {0}
+FitsIn (Reads y) x (items.Makes e) = ⊥
+FitsIn (Runs c) x (items.Reads line) = ⊥
+FitsIn (Runs c) x (items.Makes e) = MayCome x.compiled.model x.state.pending x.state.mirrored e
 
--- what the end of the input leads to, wherever the lines stand
-abbrev pub ProgramCloses : ProgramState → ℕ → End → List ℕ → Type 0
-ProgramCloses x n e text = ClosesIn x.stage x.compiled.model n e text
+-- what is done for it: more of the program is read, or the line is refused; or an event is made, and what is told of it is printed
+abbrev pub ServesIn : Stage → ProgramItem → ProgramState → ℕ → Next ProgramState → List ℕ → Type 0
+ServesIn (Reads y) (items.Reads line) x n u text = (said : Result (Option Line) ℕ) × IsSaid x.compiled.model y line said × ReadsBy said x y n u text
+ServesIn (Reads y) (items.Makes e) x n u text = ⊥
+ServesIn (Runs c) (items.Reads line) x n u text = ⊥
+ServesIn (Runs c) (items.Makes e) x n u text =
+    (y : ExecutiveState) × (next : Control) × PrintsEvent x.compiled x.state c e y next text × (u ≡ GoesOn (running x.compiled y next))
+
+-- what is printed at the end of the input: it may come behind the program, and is refused in it
+abbrev pub closing_in : Stage → PlantModel → ℕ → Answer
+closing_in (Reads y) m n = refused_answer false m n (bare ENDS_EARLY)
+closing_in (Runs c) m n = answer Ended []
 
 -- a program that is still read isn't whole yet
 abbrev pub IsProperStage : Stage → Type 0
@@ -127,15 +139,26 @@ IsProperStage (Runs c) = Unit {0}
 abbrev pub ProgramAwaits : ProgramState → ℕ → Type 0
 ProgramAwaits x n = (x.state.ticks < n) × IsProperStage x.stage
 
--- the machine of the lines
-abbrev pub lines_machine : Ghosts ProgramState
-lines_machine = record {
+-- what a line says, and what is done for it
+abbrev pub program_lines : LineGhosts ProgramState ProgramItem
+program_lines = record {
+  model_of = λ x. x.compiled.model;
+  is_json = λ x. false;
   limit_of = λ x. MAX_LINE;
-  refusal = λ x n code. refusal_text false x.compiled.model n (bare code);
-  steps = ProgramSteps;
-  closes = ProgramCloses;
+  said = λ x line said. SaysIn x.stage x line said;
+  fits = λ x item. FitsIn x.stage x item;
+  serves = λ item x n u text. ServesIn x.stage item x n u text;
+  closing = λ x n. closing_in x.stage x.compiled.model n;
   awaits = ProgramAwaits;
 }
+
+-- the machine of the lines
+abbrev pub lines_machine : Ghosts ProgramState
+lines_machine = frame.lines_machine program_lines
+
+-- a line behind the program, by what an event line says
+abbrev pub MakesBy : Result (Option Event) ℕ → CompiledModel → ExecutiveState → Control → ℕ → Next ProgramState → List ℕ → Type 0
+MakesBy r b x c n u text = frame.DoesBy program_lines (asks_event r) (running b x c) n u text
 
 -- what the form says at the line `script`
 abbrev pub program_form : FormGhosts OfLines ProgramState

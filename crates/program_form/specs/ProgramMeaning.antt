@@ -13,9 +13,9 @@ use Rattle.program_form.specs.Sequences.{Sequence, SaysSequence}
 abbrev pub EndsSequence : Ending
 EndsSequence b n ls end = (r : Sequence) × SaysSequence b.model n ls r × (r.ending ≡ end)
 
--- `program` reads its whole input, where a whole program stands behind an accepted model
+-- `program` reads its whole input, where a whole program stands behind an accepted model; what it prints is the fixed run of that program
 abbrev pub program_meaning : FormMeaning
-program_meaning = reading_lines program_first lines_machine SaysRun EndsSequence
+program_meaning = reading_lines program_first lines_machine SaysRun EndsSequence IsProgramTrace
 
 -- the texts of the machine are those of the program's run, both ways
 abbrev pub ProgramsAreTold : Type 0

@@ -2,10 +2,12 @@
 //! clears the executive's goals; for each tick the text has its report, and a line where the program has ended.
 #![tactic(auto)]
 
+mod item;
 mod laws;
 mod programmed;
 mod sequenced;
 mod told;
 
+pub use item::ProgramItem;
 pub use laws::{programs_are_told, programs_are_traced, programs_are_written, put_in};
 pub use programmed::{ProgramMachine, Programmed, open_program};

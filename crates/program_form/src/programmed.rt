@@ -1,30 +1,26 @@
 //! The lines behind an accepted model: a control program, and the events behind it.
 
-ghost use Rattle.std.specs.Prelude.{◌≡◌, ◌+◌, ◌<◌, ◌≤◌, ◌^◌, None, Option, Some, IfOk, IfSome};
+ghost use Rattle.std.specs.Prelude.{◌≡◌, None, IfOk, IfSome};
 ghost use Rattle.cca_base.specs.Prelude.{Answers, IsCompiled};
-ghost use Rattle.cca_base.specs.declared.events.Event.{Event};
 ghost use Rattle.formula_syntax.specs.Lookups.{NamesFit};
-ghost use Rattle.line_machine.specs.Next.{next_of};
-ghost use Rattle.line_machine.specs.declared.machine.TheConstants.{MAX_LINES};
 ghost use Rattle.model_form.specs.FormStates.{form_first};
 ghost use Rattle.control_syntax.specs.Kept.{MayRunSoFar};
 ghost use Rattle.script_reader.specs.EventLines.{AnswersAs, AnswersWhatMayCome};
-ghost use Rattle.program_form.specs.ProgramMachine.{MakesBy, ProgramAwaits, ProgramSteps, running};
 ghost use Rattle.program_form.specs.Sequences.{event_line};
 ghost use Rattle.program_form.specs.Stages.{ReadsTo, RunsWell, begun};
 
+use crate::item::ProgramItem;
 use crate::sequenced::make;
 use cca_base::codes::ENDS_EARLY;
-use cca_base::{Event, Model, Name, Refusal, Stop, Subject};
+use cca_base::{Event, List, Model, Name, Refusal, Stop, Subject};
 use control_program::Runner;
 use control_syntax::{ProgramEnd, ProgramReader};
 use executive_loop::Executive;
 use formula_syntax::NamedModel;
 use indexmap::IndexMap;
-use line_machine::{End, Machine, Said};
-use model_form::{
-    Accepted, BehindModel, MAX_LINE, OfLines, WithModel, nothing, refusal_of, refuse_stop,
-};
+use line_forms::{LineForm, Lines, OpensLines};
+use line_machine::{End, Out};
+use model_form::{Accepted, MAX_LINE, OfLines, WithModel, refuse_stop_to, refuse_to};
 use script_reader::{Context, read_event_by};
 use std::alloc::{AllocError, Global};
 use std::mem;
@@ -82,7 +78,7 @@ fn read_program(
         ReadsTo model.now reader.old line.now said reader.new) }
     ensures fits { MayRunSoFar model.now reader.new }
 {
-    match reader.line(model, line)? {
+    match reader.line_named(model, line)? {
         ProgramEnd::Going => Ok(None),
         ProgramEnd::Whole => {
             let read = mem::replace(reader, ProgramReader::open(alloc)?);
@@ -114,43 +110,14 @@ fn read_event(
     read_event_by(alloc, &context, false, line)
 }
 
-/// Takes a line behind the program.
-fn run_line(
-    alloc: Global,
-    executive: &mut Executive,
-    names: &IndexMap<Name, Subject>,
-    runner: &mut Runner,
-    number: u64,
-    line: &[u8],
-) -> Result<Said, AllocError>
-    requires fit { NamesFit names.now executive.old.compiled.model }
-    requires well { RunsWell executive.old.compiled.model runner.old }
-    requires room { executive.old.state.ticks + 1 < 2 ^ 64 }
-    ensures steps { IfOk result (λ said. IsCompiled executive.old.compiled
-        × MakesBy (event_line executive.old.compiled.model executive.old.state.pending
-        executive.old.state.mirrored line.now) executive.old.compiled executive.old.state
-        runner.old number
-        (next_of (running executive.old.compiled executive.new.state runner.new) said.end)
-        said.text.items) }
-    ensures ticks { IfOk result (λ said.
-        executive.new.state.ticks < executive.old.state.ticks + 2) }
-    ensures compiled { executive.new.compiled ≡ executive.old.compiled }
-    ensures well { RunsWell executive.old.compiled.model runner.new }
+/// The same bytes. The error is out of memory.
+fn copied(alloc: Global, line: &[u8]) -> Result<List<u8>, AllocError>
+    ensures { IfOk result (λ bytes. bytes ≡ line.now) }
 {
-    match read_event(alloc, executive, names, line) {
-        Ok(Some(event)) => {
-            let text = make(alloc, executive, runner, &event)?;
-            Ok(Said { text, end: None })
-        }
-        Ok(None) => Ok(nothing(alloc)),
-        Err(stop) => {
-            let model = executive.compiled().model();
-            refuse_stop(alloc, false, model, number, &stop)
-        }
-    }
+    Ok(List::of(Vec::from_slice(alloc, line)?))
 }
 
-impl BehindModel for Programmed {
+impl OpensLines<ProgramItem> for Programmed {
     ghost use Rattle.program_form.specs.ProgramMachine.{program_first};
 
     ghost first = { program_first };
@@ -177,86 +144,110 @@ impl Programmed {
             self.stage = Stage::Running(whole);
         }
     }
-
-    /// Takes a line behind the model.
-    fn line(&mut self, alloc: Global, number: u64, line: &[u8]) -> Result<Said, AllocError>
-        requires few { number ≤ MAX_LINES }
-        requires turn { ProgramAwaits self.old number }
-        ensures steps { IfOk result (λ said. ProgramSteps self.old number line.now
-            (next_of self.new said.end) said.text.items) }
-        ensures turn { IfOk result (λ said. ProgramAwaits self.new (number + 1)) }
-    {
-        match &mut self.stage {
-            Stage::Reading(reader) => {
-                let model = NamedModel::new(self.executive.compiled().model(), &self.names);
-                match read_program(alloc, &model, reader, line) {
-                    Ok(runner) => {
-                        self.begin(runner);
-                        Ok(nothing(alloc))
-                    }
-                    Err(stop) => refuse_stop(alloc, false, model.model(), number, &stop),
-                }
-            }
-            Stage::Running(runner) => {
-                let executive = &mut self.executive;
-                run_line(alloc, executive, &self.names, runner, number, line)
-            }
-        }
-    }
 }
 
-// By the clauses of the trait a line gives `ProgramSteps`, and the end of the input `ProgramCloses` (specs/ProgramMachine.antt).
-impl Machine for Programmed {
-    ghost use Rattle.std.specs.Prelude.{false};
-    ghost use Rattle.cca_base.specs.Prelude.{bare};
-    ghost use Rattle.model_form.specs.declared.limits.TheConstants.{MAX_LINE};
-    ghost use Rattle.trace_text.specs.Json.{refusal_text};
-    ghost use Rattle.program_form.specs.ProgramMachine.{ProgramAwaits, ProgramCloses, ProgramSteps};
-    ghost use Rattle.program_form.specs.OneStep.{closes_one, steps_one};
+// What is said and done stands in `program_lines` (specs/ProgramMachine.antt).
+impl LineForm<ProgramItem> for Programmed {
+    ghost use Rattle.program_form.specs.ProgramMachine.{program_lines};
+    ghost use Rattle.program_form.specs.OneStep.{said_one, serves_one, awaits_on};
 
-    ghost limit_of = { λ x. MAX_LINE };
+    ghost model_of = { program_lines.model_of };
 
-    ghost refusal = { λ x n code. refusal_text false x.compiled.model n (bare code) };
+    ghost is_json = { program_lines.is_json };
 
-    ghost steps = { ProgramSteps };
+    ghost limit_of = { program_lines.limit_of };
 
-    ghost closes = { ProgramCloses };
+    ghost said = { program_lines.said };
 
-    ghost awaits = { ProgramAwaits };
+    ghost fits = { program_lines.fits };
 
-    ghost steps_are_one = { steps_one };
+    ghost serves = { program_lines.serves };
 
-    ghost closes_are_one = { closes_one };
+    ghost closing = { program_lines.closing };
+
+    ghost awaits = { program_lines.awaits };
+
+    ghost said_one = { said_one };
+
+    ghost serves_one = { serves_one };
+
+    ghost awaits_on = { awaits_on };
+
+    fn model(&self) -> &Model {
+        self.executive.compiled().model()
+    }
+
+    fn is_json(&self) -> bool {
+        false
+    }
 
     fn limit(&self) -> usize {
         MAX_LINE
     }
 
-    fn refuse(&self, alloc: Global, number: u64, code: u8) -> Result<Vec<u8>, AllocError> {
-        let refusal = Refusal::bare(code);
-        let model = self.executive.compiled().model();
-        refusal_of(alloc, false, model, number, &refusal)
+    fn read(&self, alloc: Global, line: &[u8]) -> Result<Option<ProgramItem>, Stop> {
+        match &self.stage {
+            Stage::Reading(_) => {
+                let bytes = copied(alloc, line)?;
+                Ok(Some(ProgramItem::Reads(bytes)))
+            }
+            Stage::Running(_) => match read_event(alloc, &self.executive, &self.names, line) {
+                Ok(Some(event)) => Ok(Some(ProgramItem::Makes(event))),
+                Ok(None) => Ok(None),
+                Err(stop) => Err(stop),
+            },
+        }
     }
 
-    fn step(&mut self, alloc: Global, number: u64, line: &[u8]) -> Result<Said, AllocError> {
-        self.line(alloc, number, line)
+    fn serve(
+        &mut self,
+        alloc: Global,
+        number: u64,
+        item: &ProgramItem,
+        out: &mut Out,
+    ) -> Result<Option<End>, AllocError> {
+        match &mut self.stage {
+            Stage::Reading(reader) => match item {
+                ProgramItem::Reads(line) => {
+                    let model = NamedModel::new(self.executive.compiled().model(), &self.names);
+                    match read_program(alloc, &model, reader, line.as_slice()) {
+                        Ok(runner) => {
+                            self.begin(runner);
+                            Ok(None)
+                        }
+                        Err(stop) => {
+                            refuse_stop_to(alloc, false, model.model(), number, &stop, out)?;
+                            Ok(Some(End::Refused))
+                        }
+                    }
+                }
+                ProgramItem::Makes(_) => unreachable!(),
+            },
+            Stage::Running(runner) => match item {
+                ProgramItem::Makes(event) => {
+                    make(alloc, &mut self.executive, runner, event, out)?;
+                    Ok(None)
+                }
+                ProgramItem::Reads(_) => unreachable!(),
+            },
+        }
     }
 
-    fn close(&mut self, alloc: Global, count: u64) -> Result<(Vec<u8>, End), AllocError> {
+    fn close(&mut self, alloc: Global, count: u64, out: &mut Out) -> Result<End, AllocError> {
         match &self.stage {
             Stage::Reading(_) => {
                 let refusal = Refusal::bare(ENDS_EARLY);
                 let model = self.executive.compiled().model();
-                let text = refusal_of(alloc, false, model, count, &refusal)?;
-                Ok((text, End::Refused))
+                refuse_to(alloc, false, model, count, &refusal, out)?;
+                Ok(End::Refused)
             }
-            Stage::Running(_) => Ok((Vec::new(alloc), End::Ended)),
+            Stage::Running(_) => Ok(End::Ended),
         }
     }
 }
 
 /// The form `program`: behind the model stands a control program, and behind that its events.
-pub type ProgramMachine = WithModel<OfLines, Programmed>;
+pub type ProgramMachine = WithModel<OfLines, Lines<Programmed, ProgramItem>>;
 
 /// The form before the first line.
 pub fn open_program(alloc: Global) -> Result<ProgramMachine, AllocError>

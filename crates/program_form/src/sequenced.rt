@@ -5,15 +5,17 @@ ghost use Rattle.cca_base.specs.Prelude.{MayCome, Promising};
 ghost use Rattle.cca_base.specs.declared.events.Event.{Event};
 ghost use Rattle.cca_base.specs.declared.events.Event.TheVariants.{Tick};
 ghost use Rattle.control_laws.specs.Turns.{TurnsBy};
+ghost use Rattle.line_machine.specs.Outs.{Appended, IsFront};
 ghost use Rattle.trace_laws.specs.Events.{Acts, IsTick};
-ghost use Rattle.program_form.specs.PutIn.{Told, TurnsBefore, asks, ends, left_by};
-ghost use Rattle.program_form.specs.ProgramMachine.{MakesEvent, Prepares, event_text, sequencer};
+ghost use Rattle.program_form.specs.PutIn.{TurnsBefore, asks, ends, left_by};
+ghost use Rattle.program_form.specs.ProgramMachine.{MakesEvent, PrintsEvent, Prepares, sequencer};
 ghost use Rattle.program_form.specs.Stages.{RunsWell};
 
-use crate::told::told;
+use crate::told::tell;
 use cca_base::{Event, List, Pair, TickReport};
 use control_program::Runner;
 use executive_loop::Executive;
+use line_machine::Out;
 use std::alloc::{AllocError, Global};
 
 /// The event that sets a goal, or clears it where the goal has no pair.
@@ -102,24 +104,24 @@ fn make_report(executive: &mut Executive) -> Result<TickReport, AllocError>
     }
 }
 
-/// Makes a tick with the program's turn before it, and answers what is printed of it.
+/// Makes a tick with the program's turn before it, and appends what is printed of it. The error is out of memory.
 fn make_tick(
     alloc: Global,
     executive: &mut Executive,
     runner: &mut Runner,
-) -> Result<Vec<u8>, AllocError>
+    out: &mut Out,
+) -> Result<(), AllocError>
     requires well { RunsWell executive.old.compiled.model runner.old }
     requires room { executive.old.state.ticks + 1 < 2 ^ 64 }
-    ensures makes { IfOk result (λ text. (own : Option Told)
-        × MakesEvent executive.old.compiled executive.old.state runner.old Tick
-        executive.new.state runner.new own
-        × (text.items ≡ event_text executive.old.compiled.model own)) }
+    ensures makes { OnOk result (Appended (PrintsEvent executive.old.compiled executive.old.state
+        runner.old Tick executive.new.state runner.new) out.old out.new) }
     ensures compiled { executive.new.compiled ≡ executive.old.compiled }
     ensures well { RunsWell executive.old.compiled.model runner.new }
+    ensures front { IsFront out.old out.new }
 {
     let ended = prepare(executive, runner)?;
     let report = make_report(executive)?;
-    told(alloc, executive.compiled().model(), &report, ended)
+    tell(alloc, executive.compiled().model(), &report, ended, out)
 }
 
 /// Follows an event that is no tick: a reset begins the program again.
@@ -158,30 +160,28 @@ fn make_other(
     Ok(())
 }
 
-/// Makes an event, which is one tick at most, and answers what is printed of it.
+/// Makes an event, which is one tick at most, and appends what is printed of it. The error is out of memory.
 #[tactic(auto, using(crate::proofs::MadeEvents::no_tick, crate::proofs::TicksCount::makes_count))]
 pub fn make(
     alloc: Global,
     executive: &mut Executive,
     runner: &mut Runner,
     event: &Event,
-) -> Result<Vec<u8>, AllocError>
+    out: &mut Out,
+) -> Result<(), AllocError>
     requires may_come { MayCome executive.old.compiled.model executive.old.state.pending
         executive.old.state.mirrored event.now }
     requires well { RunsWell executive.old.compiled.model runner.old }
     requires room { executive.old.state.ticks + 1 < 2 ^ 64 }
-    ensures makes { IfOk result (λ text. (own : Option Told)
-        × MakesEvent executive.old.compiled executive.old.state runner.old event.now
-        executive.new.state runner.new own
-        × (text.items ≡ event_text executive.old.compiled.model own)) }
-    ensures ticks { IfOk result (λ text.
-        executive.new.state.ticks < executive.old.state.ticks + 2) }
+    ensures makes { OnOk result (Appended (PrintsEvent executive.old.compiled executive.old.state
+        runner.old event.now executive.new.state runner.new) out.old out.new) }
+    ensures ticks { OnOk result (executive.new.state.ticks < executive.old.state.ticks + 2) }
     ensures compiled { executive.new.compiled ≡ executive.old.compiled }
     ensures well { RunsWell executive.old.compiled.model runner.new }
+    ensures front { IsFront out.old out.new }
 {
     if let Event::Tick = event {
-        return make_tick(alloc, executive, runner);
+        return make_tick(alloc, executive, runner, out);
     }
-    make_other(executive, runner, event)?;
-    Ok(Vec::new(alloc))
+    make_other(executive, runner, event)
 }

@@ -1,9 +1,10 @@
 //! What is printed of a tick.
 
-ghost use Rattle.std.specs.Prelude.{true, ◌≡◌, ◌++◌, IfOk, OnOk};
+ghost use Rattle.std.specs.Prelude.{true, ◌≡◌, ◌++◌, OnErr, OnOk};
 ghost use Rattle.program_form.specs.Printed.{done_line, told_text};
 
 use cca_base::{Model, TickReport};
+use line_machine::Out;
 use std::alloc::{AllocError, Global};
 use trace_text::line_of;
 
@@ -19,19 +20,21 @@ fn push_done(alloc: Global, out: &mut Vec<u8>, tick: u64) -> Result<(), AllocErr
     Ok(())
 }
 
-/// The line of a tick, and behind it that the program has ended, where it has.
-pub fn told(
+/// Appends the line of a tick, and behind it that the program has ended, where it has. The error is out of memory, and then all is as it was.
+pub fn tell(
     alloc: Global,
     model: &Model,
     report: &TickReport,
     ended: bool,
-) -> Result<Vec<u8>, AllocError>
-    ensures { IfOk result (λ text. text.items
-        ≡ told_text model.now (record { report = report.now; ended = ended })) }
+    out: &mut Out,
+) -> Result<(), AllocError>
+    ensures ok { OnOk result (out.new.bytes ≡ out.old.bytes
+        ++ told_text model.now (record { report = report.now; ended = ended })) }
+    ensures err { OnErr result (out.new ≡ out.old) }
 {
     let mut text = line_of(alloc, model, report)?.into_vec();
     if ended {
         push_done(alloc, &mut text, report.tick)?;
     }
-    Ok(text)
+    out.push(text.as_slice())
 }

@@ -4,12 +4,12 @@ pub mod DocumentsAreOne
 pub mod JustMadeTicks
 pub mod MadeTexts
 pub mod PrintedDocuments
+pub mod ReadScripts
 pub mod RunAgrees
 pub mod RunDocuments
 pub mod RunEnds
+pub mod RunKeeps
 pub mod RunsTold
-pub mod ScriptLines
-pub mod ScriptRuns
+pub mod ScriptTelling
 pub mod ShownPlans
-pub mod SureRuns
 pub mod TraceOfRun

@@ -1,11 +1,10 @@
 -- What is printed of a document: the text of its ticks, and its end.
-use Rattle.std.proofs.Common.{◌≡◌, ◌++◌, ℕ, List, [], refl, append_assoc}
-use Rattle.cca_base.specs.declared.events.Event.{Event}
+use Rattle.std.proofs.Common.{◌≡◌, ℕ, List, [], refl}
 use Rattle.cca_base.specs.declared.events.Refusal.{Refusal}
 use Rattle.cca_base.specs.declared.events.TickReport.{TickReport}
 use Rattle.cca_base.specs.PlantModel.{PlantModel}
 use Rattle.model_form.specs.Answers.{Answer, refused_answer}
-use Rattle.run_form.specs.Document.{Document, DocumentEnd, Complete, RefusedAt, refused_at, with_event}
+use Rattle.run_form.specs.Document.{Document, DocumentEnd, Complete, RefusedAt, refused_at}
 use Rattle.run_form.specs.Notations.{is_json}
 use Rattle.run_form.specs.Printed.{ending, with_text, printed}
 use Rattle.run_form.specs.Summaries.{counts_of}
@@ -33,7 +32,3 @@ ending_end notation m a b (RefusedAt line r) = refl
 pub printed_end : (notation : Notation) (r : Document) (reports : List TickReport) (text : List ℕ) → (printed notation r reports text).end ≡ (ending notation r.model (counts_of []) r.ending).end
 unfolding printed
 printed_end notation r reports text = ending_end notation r.model (counts_of reports) (counts_of []) r.ending
-
--- the text of an event comes before that of the later ones
-pub printed_event : (notation : Notation) (e : Event) (r : Document) (counts : Counts) (first rest : List ℕ) → printed_with notation (with_event e r) counts (first ++ rest) ≡ with_text first (printed_with notation r counts rest)
-printed_event notation e r counts first rest = λ i. record { text = append_assoc first rest (ending notation r.model counts r.ending).text i; end = (ending notation r.model counts r.ending).end }

@@ -26,12 +26,13 @@ use Rattle.model_form.proofs.SameAnswer.{same_answer}
 use Rattle.run_form.specs.Document.{Document, SaysBy, SaysScript, refused_at}
 use Rattle.run_form.specs.Headline.{IsTraceOf, IsFixedTrace, IsRefusedBefore}
 use Rattle.run_form.specs.Notations.{is_json}
-use Rattle.run_form.specs.Printed.{printed, SaysRun, IsRunOf}
+use Rattle.run_form.specs.Printed.{printed, SaysRun}
+use Rattle.run_form.specs.RunLaws.{RunsAreTraced}
 use Rattle.run_form.specs.Summaries.{counts_of}
 use Rattle.run_form.specs.TickTexts.{TicksText}
 use Rattle.run_form.specs.declared.notation.Notation.{Notation}
 use Rattle.run_form.proofs.PrintedDocuments.{printed_counts, printed_refused}
-use Rattle.run_form.proofs.ScriptRuns.{script_model}
+use Rattle.run_form.proofs.ReadScripts.{script_model}
 
 -- ---- scripts
 
@@ -100,5 +101,5 @@ run_traced notation input (WholeModel m n ls) a ends (v, is, h) = prints_traced 
 run_traced notation input (RefusedModel m line r) a ends h = (refused_at m line r, (RefusedModel m line r, ends, refl), inl (refused_before notation input (RefusedModel m line r) m line r a ends (refl, refl) (same_answer h.0 h.1)))
 
 -- what a run prints is traced
-pub traced : (notation : Notation) (input : List ℕ) (a : Answer) → IsRunOf notation input a → IsTraceOf notation input a
-traced notation input a (end, ends, is) = run_traced notation input end a ends is
+pub runs_are_traced : RunsAreTraced
+runs_are_traced = record { whole = λ notation input a (end, ends, is). run_traced notation input end a ends is }

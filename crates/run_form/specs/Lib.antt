@@ -9,6 +9,7 @@ pub mod RunLaws
 pub mod RunMachine
 pub mod RunMeaning
 pub mod ScriptMachine
+pub mod ScriptReading
 pub mod Summaries
 pub mod TickProofs
 pub mod TickTexts

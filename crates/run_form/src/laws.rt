@@ -14,8 +14,8 @@ pub fn runs_are_told()
     ensures { RunsAreTold }
 {}
 
-/// What a run prints is the fixed trace of its input, and so is what it has printed so far, of the lines that came.
-#[tactic(auto, using(crate::proofs::SureRuns::runs_are_traced))]
+/// What a run prints is the fixed trace of its input.
+#[tactic(auto, using(crate::proofs::TraceOfRun::runs_are_traced))]
 pub fn runs_are_traced()
     ensures { RunsAreTraced }
 {}

@@ -1,5 +1,5 @@
 //! The form `run`: behind an accepted model the events of a script are made, line by line, and each tick is printed. Its text is
-//! the fixed trace of the input, in which every reply is good, and what was printed so far is that of the lines that came.
+//! the fixed trace of the input, in which every reply is good.
 #![tactic(auto)]
 
 mod counts;
@@ -12,5 +12,5 @@ mod told;
 
 pub use laws::{documents_are_one, runs_are_told, runs_are_traced};
 pub use notation::Notation;
-pub use run::{RunAs, RunMachine, open_run};
+pub use run::{OpensScript, RunAs, RunMachine, open_run};
 pub use script::Script;

@@ -1,5 +1,5 @@
 -- What `show` means.
-use Rattle.std.specs.Prelude.{ℕ, List, false}
+use Rattle.std.specs.Prelude.{⊤, ℕ, List, false}
 use Rattle.model_form.specs.Answers.{AnswersByEnd}
 use Rattle.model_form.specs.FormMeaning.{FormMeaning, reading}
 use Rattle.model_form.specs.FormStates.{form_first}
@@ -14,6 +14,6 @@ HasAcceptedModel = HasEnd IsAcceptedEnd
 abbrev pub HasRefusal : List ℕ → Type 0
 HasRefusal = HasEnd IsRefused
 
--- `show` reads its model
+-- `show` reads its model, not its whole input, and prints only where it ends; it promises nothing beyond its text
 abbrev pub show_meaning : FormMeaning
-show_meaning = reading show_machine (form_first (record {})) (AnswersByEnd false SaysShown) HasAcceptedModel HasRefusal
+show_meaning = reading show_machine (form_first (record {})) (AnswersByEnd false SaysShown) HasAcceptedModel HasRefusal (λ input a. ⊤) ⊥ ⊤

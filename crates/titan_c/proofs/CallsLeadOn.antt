@@ -1,11 +1,10 @@
 -- The calls of C are calls of a session.
 use Rattle.std.proofs.Common.{◌≡◌, ℕ, List, ◌∷◌, take, Option, Some, inl, inr, refl, sym, subst, ◌∙◌}
 use Rattle.std.proofs.lemmas.Option.{same_Some}
-use Rattle.run_form.specs.RunLaws.{IsLineByLine}
 use Rattle.run_form.specs.declared.notation.Notation.{Notation}
 use Rattle.titan_session.specs.RunSessions.{RunSession, AreCalls}
 use Rattle.titan_session.specs.Sessions.{Call, Line, Finish, Take}
-use Rattle.titan_c.specs.CallLaws.{HoldsAfter, CallsLeadOn}
+use Rattle.titan_c.specs.CallLaws.{CallsLeadOn, HoldsAfter, IsLineByLine}
 use Rattle.titan_c.specs.Calls.{Prints, HandedOver}
 
 -- what is held is led to

@@ -12,13 +12,20 @@ use Rattle.titan_session.specs.Sessions.{stage_of, Call, Finish, IsGoing, lines_
 use Rattle.titan_session.specs.declared.session.Stage.{Stage}
 use Rattle.titan_session.specs.declared.session.Stage.TheVariants.{Going, Over, Lost}
 use Rattle.titan_session.proofs.SessionsAreRuns.{sessions_are_runs}
-use Rattle.titan_c.specs.CallLaws.{CallsPrintRuns, HoldsAfter, IsPlace}
+use Rattle.titan_c.specs.CallLaws.{CallsPrintRuns, HoldsAfter, IsAllDecided, IsPlace}
 use Rattle.titan_c.specs.Calls.{HandedOver}
 use Rattle.titan_c.proofs.CallsLeadOn.{led}
 use Rattle.titan_c.specs.Statuses.{status_of}
 use Rattle.titan_c.specs.declared.status.TheConstants.{GOES_ON, ENDED, REFUSED}
 
 -- where a session stands, by its status
+going_stage : (s : Stage RunState) → status_of s ≡ GOES_ON → (x : RunState) × (s ≡ Going x)
+going_stage (Going x) h = (x, refl)
+going_stage (Over Ended) h = let never : 1 ≡ 0 = h in absurd (omega (arith, never))
+going_stage (Over Refused) h = let never : 2 ≡ 0 = h in absurd (omega (arith, never))
+going_stage (Over Rejected) h = let never : 3 ≡ 0 = h in absurd (omega (arith, never))
+going_stage Lost h = let never : 5 ≡ 0 = h in absurd (omega (arith, never))
+
 ended_stage : (s : Stage RunState) → status_of s ≡ ENDED → s ≡ Over Ended
 ended_stage (Going x) h = let never : 0 ≡ 1 = h in absurd (omega (arith, never))
 ended_stage (Over Ended) h = refl
@@ -45,6 +52,17 @@ all_taken : (notation : Notation) (calls : List Call) (z : RunSession) (e : End)
 all_taken notation calls z e led is none =
     let said : taken_of calls ++ z.pending ≡ taken_of calls = ap (λ (l : List ℕ). taken_of calls ++ l) none ∙ append-nil (taken_of calls) in
     subst (λ (l : List ℕ). IsRunOfLines notation (lines_of calls) (answer e l)) said (sessions_are_runs.whole notation calls z e led is)
+
+-- and so it is where the session goes on
+all_decided : (notation : Notation) (calls : List Call) (z : RunSession) → AreCalls notation calls z → status_of z.stage ≡ GOES_ON → z.pending ≡ [] → IsAllDecided notation (lines_of calls) (taken_of calls)
+all_decided notation calls z led status none =
+    let (s, is) = going_stage z.stage status in
+    let said : taken_of calls ++ z.pending ≡ taken_of calls = ap (λ (l : List ℕ). taken_of calls ++ l) none ∙ append-nil (taken_of calls) in
+    subst (IsAllDecided notation (lines_of calls)) said (record {
+      decided = (s, sessions_are_runs.prompt notation calls z s led is);
+      begins = sessions_are_runs.begins notation calls z s led is;
+      so_far = sessions_are_runs.so_far notation calls z s led is;
+    })
 
 held : (notation : Notation) (calls : List Call) (z : RunSession) → HoldsAfter notation calls (Some z) → AreCalls notation calls z
 held notation calls z h = led notation calls (Some z) z refl h
@@ -82,6 +100,7 @@ pub calls_print_runs : CallsPrintRuns
 calls_print_runs = record {
   ended = λ notation calls z h status none. all_taken notation calls z Ended (held notation calls z h) (ended_stage z.stage status) none;
   refused = λ notation calls z h status none. all_taken notation calls z Refused (held notation calls z h) (refused_stage z.stage status) none;
+  going = λ notation calls z h status none. all_decided notation calls z (held notation calls z h) status none;
   few = λ notation calls z h. few notation calls z (held notation calls z h);
   line = λ notation calls old new line out out' n status h w.
       subst (λ (k : ℕ). (k ≡ GOES_ON) ⊎ (k ≡ REFUSED)) (stands w.between new out out' n status w.hands)

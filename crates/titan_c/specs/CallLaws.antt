@@ -1,17 +1,26 @@
 -- How the calls of C follow each other: they are calls of a session, and what they wrote is what a run prints.
-use Rattle.std.specs.Prelude.{◌≡◌, ◌⊎◌, ◌↔◌, ◌<◌, ◌≤◌, ℕ, List, [], ◌∷◌, length, take, drop, Option, Some}
-use Rattle.line_machine.specs.Lines.{HasNoLf}
+use Rattle.std.specs.Prelude.{◌≡◌, ◌⊎◌, ◌↔◌, ◌<◌, ◌≤◌, ℕ, List, [], ◌∷◌, ◌++◌, length, take, drop, Option, Some}
+use Rattle.line_machine.specs.Lines.{HasNoLf, joined_lines}
+use Rattle.line_machine.specs.Next.{GoesOn}
+use Rattle.line_machine.specs.Runs.{IsPrefix, IsSure}
 use Rattle.line_machine.specs.declared.machine.End.TheVariants.{Ended, Refused}
-use Rattle.model_form.specs.Answers.{answer}
-use Rattle.run_form.specs.RunLaws.{IsLineByLine}
+use Rattle.model_form.specs.Answers.{Answer, answer}
+use Rattle.run_form.specs.Printed.{IsRunOf}
+use Rattle.run_form.specs.RunMachine.{run_machine, run_first}
+use Rattle.run_form.specs.Notations.{closing}
+use Rattle.run_form.specs.declared.counts.Counts.{Counts}
 use Rattle.run_form.specs.declared.notation.Notation.{Notation}
 use Rattle.run_form.specs.declared.notation.Notation.TheVariants.{Words, Json, Proof}
-use Rattle.titan_session.specs.RunSessions.{RunSession, AreCalls}
-use Rattle.titan_session.specs.SessionLaws.{IsRunOfLines}
+use Rattle.titan_session.specs.RunSessions.{RunSession, RunState, AreCalls}
+use Rattle.titan_session.specs.SessionLaws.{IsRunOfLines, IsRunSoFar}
 use Rattle.titan_session.specs.Sessions.{Call, IsGoing, Line, Finish, Take, lines_of, taken_of}
 use Rattle.titan_c.specs.Calls.{HandsOver, HoldsGoing, IsWrongLine, Prints, OpenedBy, WasGivenLine, WasEnded, HandedOver}
 use Rattle.titan_c.specs.Statuses.{status_of}
 use Rattle.titan_c.specs.declared.status.TheConstants.{GOES_ON, ENDED, REFUSED, REJECTED, WRONG_CALL, NO_MEMORY}
+
+-- nothing is printed at the end of a trace, so each tick is printed when it is made
+abbrev pub IsLineByLine : Notation → Type 0
+IsLineByLine notation = (c : Counts) → closing notation c ≡ []
 
 -- these calls, the latest first, lead to the session that is held
 abbrev pub HoldsAfter : Notation → List Call → Option RunSession → Type 0
@@ -31,12 +40,20 @@ pub record CallsLeadOn : Type 0 where
   pub take : (notation : Notation) (calls : List Call) (old new : Option RunSession) (out out' : List ℕ) (n status : ℕ)
       → HandedOver old new out out' n status → HoldsAfter notation calls old → HoldsAfter notation (Take (take n out') ∷ calls) new
 
+-- what was written of the lines that were handed over is all that these decide, and that isn't the end; it begins all that a run prints of them and any more; and it is
+-- nothing yet, or the run of bytes that came first
+pub record IsAllDecided (notation : Notation) (lines : List (List ℕ)) (said : List ℕ) : Type 0 where
+  pub decided : (s : RunState) × IsSure run_machine (run_first notation) (joined_lines lines) (GoesOn s) said
+  pub begins : (more : List ℕ) (a : Answer) → IsRunOf notation (joined_lines lines ++ more) a → IsPrefix said a.text
+  pub so_far : IsRunSoFar notation (joined_lines lines) said
+
 -- the theorem in the words of C: where a status says that the session ended, or that a line was refused, and nothing waits any more, what was written is what `titan run`
--- prints of the lines that were handed over, each with its LF. No other statuses come of calls that went well: a line never says that the session ended, nor the end of
+-- prints of the lines that were handed over, each with its LF; where it says that the session goes on, it is all that these lines decide. No other statuses come of calls that went well: a line never says that the session ended, nor the end of
 -- the lines that it goes on. And where less was written than fits, nothing waits
 pub record CallsPrintRuns : Type 0 where
   pub ended : (notation : Notation) (calls : List Call) (z : RunSession) → HoldsAfter notation calls (Some z) → status_of z.stage ≡ ENDED → z.pending ≡ [] → IsRunOfLines notation (lines_of calls) (answer Ended (taken_of calls))
   pub refused : (notation : Notation) (calls : List Call) (z : RunSession) → HoldsAfter notation calls (Some z) → status_of z.stage ≡ REFUSED → z.pending ≡ [] → IsRunOfLines notation (lines_of calls) (answer Refused (taken_of calls))
+  pub going : (notation : Notation) (calls : List Call) (z : RunSession) → HoldsAfter notation calls (Some z) → status_of z.stage ≡ GOES_ON → z.pending ≡ [] → IsAllDecided notation (lines_of calls) (taken_of calls)
   pub few : (notation : Notation) (calls : List Call) (z : RunSession) → HoldsAfter notation calls (Some z) → IsPlace (status_of z.stage)
   pub line : (notation : Notation) (calls : List Call) (old new : Option RunSession) (line out out' : List ℕ) (n status : ℕ)
       → HoldsAfter notation calls old → WasGivenLine old new line out out' n status → (status ≡ GOES_ON) ⊎ (status ≡ REFUSED)

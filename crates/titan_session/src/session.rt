@@ -4,7 +4,7 @@ ghost use Rattle.std.specs.Prelude.{◌≡◌, ◌≤◌, ◌⊎◌, [], length,
 
 use crate::pending::Pending;
 use crate::turn::take_line;
-use line_machine::{End, Machine};
+use line_machine::{End, Machine, Out};
 use std::alloc::{AllocError, Global};
 use std::marker::Model;
 use std::mem;
@@ -86,10 +86,11 @@ impl<M: Machine + Drop> Session<M> {
         let Stage::Going(mut machine) = mem::replace(&mut self.stage, Stage::Lost) else {
             unreachable!()
         };
-        let said = take_line(alloc, &mut machine, self.count + 1, line)?;
-        self.text.push(said.text.as_slice())?;
+        let mut out = Out::new(alloc);
+        let end = take_line(alloc, &mut machine, self.count + 1, line, &mut out)?;
+        self.text.push(out.as_slice())?;
         self.count += 1;
-        self.stage = match said.end {
+        self.stage = match end {
             None => Stage::Going(machine),
             Some(end) => Stage::Over(end),
         };
@@ -105,8 +106,9 @@ impl<M: Machine + Drop> Session<M> {
         let Stage::Going(mut machine) = mem::replace(&mut self.stage, Stage::Lost) else {
             unreachable!()
         };
-        let (text, end) = machine.close(alloc, self.count)?;
-        self.text.push(text.as_slice())?;
+        let mut out = Out::new(alloc);
+        let end = machine.close(alloc, self.count, &mut out)?;
+        self.text.push(out.as_slice())?;
         self.stage = Stage::Over(end);
         Ok(())
     }

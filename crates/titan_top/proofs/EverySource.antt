@@ -1,5 +1,5 @@
--- What holds over every source: only a check is rejected, a run, a check, a migration, wishes, what is watched and a control program are read to their end and what is
--- shown to its script, and show and check are silent before.
+-- What holds over every source: only a check is rejected, a form that reads to the end has read its input when it ended, what is shown is read to its script, and a
+-- silent form writes nothing before its end.
 use Rattle.std.proofs.Common.{◌≡◌, ℕ, ◌⊎◌, inl, inr, List, [], append-nil, Option, Some, None, Result, Ok, Err, refl, subst, ◌∙◌}
 use Rattle.std.specs.Io.KnownBytes.{prepend_known, IsAtEnd}
 use Rattle.line_machine.specs.Driven.{WroteWhole}
@@ -14,28 +14,14 @@ use Rattle.line_machine.specs.declared.send.Cut.TheVariants as cuts
 use Rattle.line_machine.proofs.SentPieces.{append_known-nil}
 use Rattle.line_machine.proofs.SureTextBegins.{quiet_sure, decided}
 use Rattle.show_form.specs.Shown.{show_machine}
-use Rattle.show_form.proofs.ShowEnds.{show_is_quiet}
-use Rattle.run_form.specs.RunMachine.{run_machine, run_first}
-use Rattle.run_form.specs.declared.notation.Notation.{Notation}
-use Rattle.run_form.proofs.RunEnds.{run_sure_refused}
-use Rattle.check_form.specs.CheckForm.{check_machine}
-use Rattle.check_form.proofs.NotBefore.{check_sure_not, check_is_quiet}
-use Rattle.migrate_form.specs.MigrateMachine.{migrate_machine}
-use Rattle.migrate_form.proofs.MigrateEnds.{migrate_sure_refused}
-use Rattle.want_form.specs.WishMachine.{want_machine}
-use Rattle.want_form.proofs.WantEnds.{want_ends}
-use Rattle.watch_form.specs.WatchMachine.{watch_machine}
-use Rattle.watch_form.proofs.WatchEnds.{watch_ends}
-use Rattle.program_form.specs.ProgramMachine.{program_machine}
-use Rattle.program_form.proofs.ProgramEnds.{program_ends}
 use Rattle.titan_top.specs.Meanings.{meaning_of}
 use Rattle.titan_top.specs.Output.{NothingRefused}
 use Rattle.titan_top.specs.Statuses.{cut_status, status_of}
 use Rattle.titan_top.specs.Streams.{StreamedBy, StreamedFor}
 use Rattle.titan_top.specs.declared.status.Status.TheVariants.{Ended, Rejected, ReadFault}
 use Rattle.titan_top.specs.declared.words.Form.{Form}
-use Rattle.titan_top.specs.declared.words.Form.TheVariants.{Run, Show, Check, Migrate, Want, Watch, Program}
-use Rattle.titan_top.proofs.Agreements.{agrees, only_check_rejects}
+use Rattle.titan_top.specs.declared.words.Form.TheVariants.{Show, Check}
+use Rattle.titan_top.proofs.Agreements.{agrees, keeps, only_check_rejects, reads_source}
 use Rattle.titan_top.proofs.FormStatuses.{no_cut_ended, no_cut_rejected, end_ended, end_rejected, end_not_fault}
 use Rattle.model_form.specs.FormStates.{form_first}
 
@@ -60,16 +46,23 @@ module _ {S : Type 0} (m : Ghosts S) (first : S) where
   streamed_whole None left left' out out' e s = whole_of s.driven.taken left' out out' e s.driven.says
   streamed_whole (Some document) left left' out out' e s = whole_of s.driven.driven.taken s.rest out out' e s.driven.driven.says
 
+  -- bytes that alone decide a text have it
+  text_of : (taken text : List ℕ) (e : End) → IsText m first taken e text ⊎ IsSure m first taken (Stops e) text → IsText m first taken e text
+  text_of taken text e (inl is) = is
+  text_of taken text e (inr sure) = subst (λ (b : List ℕ). IsText m first b e text) (append-nil taken) (decided m first taken [] text e sure)
+
 rejected_only : (form : Form) (left left' out out' : Option (List ℕ)) (e : End) → e ≡ ends.Rejected → StreamedFor form left left' out out' (Ok e) → form ≡ Check
 rejected_only form left left' out out' e is s =
-    let w = subst (Whole (meaning_of form).machine (meaning_of form).first) is (streamed_whole (meaning_of form).machine (meaning_of form).first (meaning_of form).made left left' out out' e s) in
-    only_check_rejects form w.taken w.text w.is
+    let k = meaning_of form in
+    let w = subst (Whole k.machine k.first) is (streamed_whole k.machine k.first k.made left left' out out' e s) in
+    let (end, reads, says) = (agrees form).says w.taken ends.Rejected w.text (text_of k.machine k.first w.taken w.text ends.Rejected w.is) in
+    only_check_rejects form w.taken ((agrees form).rejected w.taken w.text end reads says)
 
 pub only_check : (form : Form) (left left' out out' : Option (List ℕ)) (r : Result End Cut) → StreamedFor form left left' out out' r → status_of r ≡ Rejected → form ≡ Check
 only_check form left left' out out' (Ok e) s h = rejected_only form left left' out out' e (end_rejected e h) s
 only_check form left left' out out' (Err c) s h = absurd (no_cut_rejected c h)
 
--- ---- a run, a check and a migration that ended are at the end of their input
+-- ---- a form that reads to the end and has ended is at the end of its input
 
 module _ {S : Type 0} (m : Ghosts S) (first : S) (never : (taken text : List ℕ) → IsSure m first taken (Stops ends.Ended) text → ⊥) where
   at_end_by : (left left' out out' : Option (List ℕ)) (e : End) → e ≡ ends.Ended → Streamed m first left left' out out' (Ok e) → IsAtEnd left'
@@ -81,29 +74,10 @@ module _ {S : Type 0} (m : Ghosts S) (first : S) (never : (taken text : List ℕ
   ended_at_end left left' out out' (Ok e) s h = at_end_by left left' out out' e (end_ended e h) s
   ended_at_end left left' out out' (Err c) s h = absurd (no_cut_ended c h)
 
--- before the end of the input it ends only with a refusal
-module _ {S : Type 0} (m : Ghosts S) (first : S) (refused : (taken : List ℕ) (e : End) (text : List ℕ) → IsSure m first taken (Stops e) text → e ≡ ends.Refused) where
-  read_to_end : (left left' out out' : Option (List ℕ)) (r : Result End Cut) → Streamed m first left left' out out' r → status_of r ≡ Ended → IsAtEnd left'
-  read_to_end = ended_at_end m first (λ taken text h. let k : ends.Ended ≡ ends.Refused = refused taken ends.Ended text h in absurd cc)
-
-pub run_at_end : (w : Notation) (form : Form) (left left' out out' : Option (List ℕ)) (r : Result End Cut) → form ≡ Run w → StreamedFor form left left' out out' r → status_of r ≡ Ended → IsAtEnd left'
-run_at_end w form left left' out out' r is s h = read_to_end run_machine (run_first w) (run_sure_refused (run_first w)) left left' out out' r (subst (λ (f : Form). StreamedFor f left left' out out' r) is s) h
-
-pub check_at_end : (form : Form) (left left' out out' : Option (List ℕ)) (r : Result End Cut) → form ≡ Check → StreamedFor form left left' out out' r → status_of r ≡ Ended → IsAtEnd left'
-check_at_end form left left' out out' r is s h =
-    ended_at_end check_machine (form_first (record {})) (λ taken text k. check_sure_not (form_first (record {})) taken ends.Ended text k refl) left left' out out' r (subst (λ (f : Form). StreamedFor f left left' out out' r) is s) h
-
-pub migration_at_end : (form : Form) (left left' out out' : Option (List ℕ)) (r : Result End Cut) → form ≡ Migrate → StreamedFor form left left' out out' r → status_of r ≡ Ended → IsAtEnd left'
-migration_at_end form left left' out out' r is s h = read_to_end migrate_machine (form_first (record {})) (migrate_sure_refused (form_first (record {}))) left left' out out' r (subst (λ (f : Form). StreamedFor f left left' out out' r) is s) h
-
-pub wishes_at_end : (form : Form) (left left' out out' : Option (List ℕ)) (r : Result End Cut) → form ≡ Want → StreamedFor form left left' out out' r → status_of r ≡ Ended → IsAtEnd left'
-wishes_at_end form left left' out out' r is s h = read_to_end want_machine (form_first (record {})) (want_ends.sure (form_first (record {}))) left left' out out' r (subst (λ (f : Form). StreamedFor f left left' out out' r) is s) h
-
-pub watch_at_end : (form : Form) (left left' out out' : Option (List ℕ)) (r : Result End Cut) → form ≡ Watch → StreamedFor form left left' out out' r → status_of r ≡ Ended → IsAtEnd left'
-watch_at_end form left left' out out' r is s h = read_to_end watch_machine (form_first (record {})) (watch_ends.sure (form_first (record {}))) left left' out out' r (subst (λ (f : Form). StreamedFor f left left' out out' r) is s) h
-
-pub program_at_end : (form : Form) (left left' out out' : Option (List ℕ)) (r : Result End Cut) → form ≡ Program → StreamedFor form left left' out out' r → status_of r ≡ Ended → IsAtEnd left'
-program_at_end form left left' out out' r is s h = read_to_end program_machine (form_first (record {})) (program_ends.sure (form_first (record {}))) left left' out out' r (subst (λ (f : Form). StreamedFor f left left' out out' r) is s) h
+pub whole_at_end : (form : Form) (left left' out out' : Option (List ℕ)) (r : Result End Cut) → (meaning_of form).reads_to_end → StreamedFor form left left' out out' r → status_of r ≡ Ended → IsAtEnd left'
+whole_at_end form left left' out out' r reads s h =
+    let k = meaning_of form in
+    ended_at_end k.machine k.first ((keeps form).to_end reads) left left' out out' r (subst (λ (made : Option (List ℕ)). StreamedBy made k.machine k.first left left' out out' r) (reads_source form reads) s) h
 
 -- ---- what was shown was read to its script
 
@@ -125,7 +99,7 @@ pub show_to_script : (form : Form) (left left' out out' : Option (List ℕ)) (r 
 show_to_script form left left' out out' (Ok e) is s h = to_script_by left left' out out' e (end_ended e h) (subst (λ (f : Form). StreamedFor f left left' out out' (Ok e)) is s)
 show_to_script form left left' out out' (Err c) is s h = absurd (no_cut_ended c h)
 
--- ---- show and check print only where they end
+-- ---- a silent form prints only where it ends
 
 module _ {S : Type 0} (m : Ghosts S) (first : S) (quiet : IsQuiet m) where
   silent_by : (left left' out out' : Option (List ℕ)) (c : Cut) → c ≡ cuts.ReadFault → Streamed m first left left' out out' (Err c) → out' ≡ out
@@ -139,8 +113,10 @@ module _ {S : Type 0} (m : Ghosts S) (first : S) (quiet : IsQuiet m) where
   quiet_silent left left' out out' (Ok e) s h = absurd (end_not_fault e h)
   quiet_silent left left' out out' (Err c) s h = silent_by left left' out out' c (cut_read c h) s
 
-pub show_silent : (form : Form) (left left' out out' : Option (List ℕ)) (r : Result End Cut) → form ≡ Show → StreamedFor form left left' out out' r → status_of r ≡ ReadFault → out' ≡ out
-show_silent form left left' out out' r is s h = quiet_silent show_machine (form_first (record {})) show_is_quiet left left' out out' r (subst (λ (f : Form). StreamedFor f left left' out out' r) is s) h
+  -- over the source, or over the document that the form makes
+  silent_over : (made left left' out out' : Option (List ℕ)) (r : Result End Cut) → StreamedBy made m first left left' out out' r → status_of r ≡ ReadFault → out' ≡ out
+  silent_over None left left' out out' r s h = quiet_silent left left' out out' r s h
+  silent_over (Some document) left left' out out' r s h = quiet_silent (Some document) s.rest out out' r s.driven h
 
-pub check_silent : (form : Form) (left left' out out' : Option (List ℕ)) (r : Result End Cut) → form ≡ Check → StreamedFor form left left' out out' r → status_of r ≡ ReadFault → out' ≡ out
-check_silent form left left' out out' r is s h = quiet_silent check_machine (form_first (record {})) check_is_quiet left left' out out' r (subst (λ (f : Form). StreamedFor f left left' out out' r) is s) h
+pub form_silent : (form : Form) (left left' out out' : Option (List ℕ)) (r : Result End Cut) → (meaning_of form).is_silent → StreamedFor form left left' out out' r → status_of r ≡ ReadFault → out' ≡ out
+form_silent form left left' out out' r silent s h = silent_over (meaning_of form).machine (meaning_of form).first ((keeps form).silent silent) (meaning_of form).made left left' out out' r s h

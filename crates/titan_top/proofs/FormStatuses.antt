@@ -5,9 +5,10 @@ use Rattle.line_machine.specs.declared.machine.End.{End}
 use Rattle.line_machine.specs.declared.machine.End.TheVariants as ends
 use Rattle.line_machine.specs.declared.send.Cut.{Cut}
 use Rattle.line_machine.specs.declared.send.Cut.TheVariants as cuts
+use Rattle.model_form.specs.FormMeaning.{promises_of}
 use Rattle.model_form.specs.Answers.{Answer}
 use Rattle.titan_top.specs.Meanings.{meaning_of}
-use Rattle.titan_top.specs.Output.{Outcome, outcome_of, IsAnswerFor, IsOutcomeFor, NothingRefused, SomeRefused, SomeRejected}
+use Rattle.titan_top.specs.Output.{Outcome, outcome_of, IsOutcomeFor, NothingRefused, SomeRefused, SomeRejected}
 use Rattle.titan_top.specs.Statuses.{end_status, cut_status, status_of}
 use Rattle.titan_top.specs.Wire.{WritesAs}
 use Rattle.titan_top.specs.declared.status.Status.{Status}
@@ -41,7 +42,7 @@ end_not_fault ends.Refused h = absurd cc
 
 module _ (form : Form) (input : List ℕ) where
   -- what the form says, where it ends so
-  says_at : (a : Answer) (e : End) → a.end ≡ e → IsAnswerFor form input a → IsAnswerFor form input (record { text = a.text; end = e })
+  says_at : (a : Answer) (e : End) → a.end ≡ e → promises_of (meaning_of form) input a → promises_of (meaning_of form) input (record { text = a.text; end = e })
   says_at a e is (end, reads, h) = (end, reads, subst (λ (f : End). (meaning_of form).says end f a.text) is h)
 
   status_end : (o : Outcome) (a : Answer) (t : Status) → o ≡ outcome_of a → o.status ≡ t → end_status a.end ≡ t

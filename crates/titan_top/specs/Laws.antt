@@ -1,5 +1,5 @@
 -- What the definitions of the program's text say together.
-use Rattle.std.specs.Prelude.{◌≡◌, ◌↔◌, ◌≤◌, ℕ, true, List, [], ◌++◌, length, Option, Some, String}
+use Rattle.std.specs.Prelude.{◌≡◌, ◌↔◌, ◌≤◌, ℕ, true, List, [], ◌∷◌, ◌++◌, length, All, Option, Some, String, codes}
 use Rattle.std.specs.Global.{Global}
 use Rattle.cca_base.specs.PlantModel.{PlantModel}
 use Rattle.cca_base.specs.Model.{WellFormed, IsComplete, in_second}
@@ -7,21 +7,32 @@ use Rattle.line_machine.specs.Lines.{lines_in, all_lines}
 use Rattle.line_machine.specs.Next.{Next, GoesOn}
 use Rattle.line_machine.specs.Runs.{IsSure, IsText, IsPrefix}
 use Rattle.line_machine.specs.declared.machine.End.{End}
+use Rattle.line_machine.specs.declared.machine.TheConstants.{MAX_LINES}
 use Rattle.model_syntax.specs.Printing.{printed_model}
 use Rattle.model_syntax.specs.RoundTrip.{ReadsTo}
 use Rattle.model_form.specs.Answers.{answer}
+use Rattle.model_form.specs.FormMeaning.{FormAgrees, FormKeeps}
 use Rattle.model_form.specs.FormStates.{nothing_read}
 use Rattle.check_form.specs.CheckEnds.{IsAllYes}
 use Rattle.run_form.specs.Document.{Document, Complete, IsDocument, IsReadWhole}
 use Rattle.run_form.specs.declared.notation.Notation.{Notation}
+use Rattle.run_form.specs.declared.notation.Notation.TheVariants.{Proof}
 use Rattle.titan_top.specs.Meanings.{meaning_of}
 use Rattle.titan_top.specs.Output.{Outcome, outcome_of, IsOutcomeFor, IsOutcome}
-use Rattle.titan_top.specs.OwnTraces.{HasOwnTrace}
+use Rattle.titan_top.specs.OwnTraces.{HasOwnTrace, ShowsLong}
 use Rattle.titan_top.specs.Statuses.{end_status}
 use Rattle.titan_top.specs.Streams.{FitsIn, input_for}
 use Rattle.titan_top.specs.declared.status.Status.TheVariants.{Ended}
 use Rattle.titan_top.specs.declared.words.Form.{Form}
 use Rattle.titan_top.specs.declared.words.Form.TheVariants.{Run, Show, Check, Migrate}
+
+-- each form's machine prints what the form means, and the other way round
+abbrev pub FormsDoWhatTheyMean : Type 0
+FormsDoWhatTheyMean = (form : Form) → FormAgrees (meaning_of form)
+
+-- each form keeps what it promises beside its text
+abbrev pub FormsKeepTheirPromises : Type 0
+FormsKeepTheirPromises = (form : Form) → FormKeeps (meaning_of form)
 
 -- for words and an input there is one outcome at most
 abbrev pub OutcomesAreOne : Type 0
@@ -41,6 +52,12 @@ pub record SureTextBegins : Type 0 where
 -- what a run with proofs prints of a document is checked: each tick of it gets a yes, and no line is left
 abbrev pub OwnTracesAreChecked : Type 0
 OwnTracesAreChecked = (input : List ℕ) → HasOwnTrace input → IsAllYes input
+
+-- a run with proofs that ends has such an input: its document, whose last line ends, a line `trace` and its text, where there are not too many lines and none shows a
+-- plan or a way back as too long
+abbrev pub RunsHaveOwnTraces : Type 0
+RunsHaveOwnTraces = (front text input : List ℕ) → input ≡ (front ++ 10 ∷ []) ++ (codes "trace" ++ 10 ∷ []) ++ text → IsOutcomeFor (Run Proof) (front ++ 10 ∷ []) (record { text = text; status = Ended })
+    → length (all_lines (lines_in input)) ≤ MAX_LINES → All (λ l. ShowsLong l → ⊥) (all_lines (lines_in input)) → HasOwnTrace input
 
 -- a migration has the status of a run; where nothing of an input is refused, it has a migration that ends, which is its document in version 2, is run as it is, and is migrated to itself
 pub record MigrationsRunAlike : Type 0 where

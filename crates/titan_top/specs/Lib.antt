@@ -1,9 +1,11 @@
 pub mod CheckedTrace
-pub mod FrontOfRun
+pub mod Faults
+pub mod FormFront
 pub mod Laws
 pub mod Meanings
 pub mod Output
 pub mod OwnTraces
+pub mod Promised
 pub mod Statuses
 pub mod Streams
 pub mod Wire

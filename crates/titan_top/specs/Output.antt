@@ -2,7 +2,7 @@
 use Rattle.std.specs.Prelude.{◌≡◌, ℕ, List, [], ◌∷◌, ◌++◌, Option, Some, None, codes, String}
 use Rattle.std.specs.Global.{Global}
 use Rattle.model_form.specs.Answers.{Answer}
-use Rattle.model_form.specs.ModelTexts.{ModelText, EndsModel}
+use Rattle.model_form.specs.FormMeaning.{promises_of}
 use Rattle.titan_top.specs.Meanings.{meaning_of}
 use Rattle.titan_top.specs.Statuses.{end_status}
 use Rattle.titan_top.specs.Words.{asked}
@@ -23,13 +23,9 @@ outcome_of a = record { text = a.text; status = end_status a.end }
 abbrev pub OfAnswer : (Answer → Type 0) → Outcome → Type 0
 OfAnswer Is o = (a : Answer) × (o ≡ outcome_of a) × Is a
 
--- what a form of words prints for an input, by how the model ends
-abbrev pub IsAnswerFor : Form → List ℕ → Answer → Type 0
-IsAnswerFor form input a = (end : ModelText) × EndsModel input end × (meaning_of form).says end a.end a.text
-
 -- the outcome for a form of words and an input
 abbrev pub IsOutcomeFor : Form → List ℕ → Outcome → Type 0
-IsOutcomeFor form input o = OfAnswer (IsAnswerFor form input) o
+IsOutcomeFor form input o = OfAnswer (promises_of (meaning_of form) input) o
 
 -- ---- words of no form
 

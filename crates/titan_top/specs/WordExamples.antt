@@ -1,11 +1,13 @@
 -- What words ask for: the words of each form but a trial, and words that are none.
-use Rattle.std.specs.Prelude.{◌≡◌, [], ◌∷◌, None, Some, codes}
-use Rattle.run_form.specs.declared.notation.Notation.TheVariants.{Words, Json, Proof}
+use Rattle.std.specs.Prelude.{◌≡◌, ℕ, List, [], ◌∷◌, None, Some, codes}
+use Rattle.run_form.specs.declared.notation.Notation.TheVariants.{Words, Json, Proof, Summary}
 use Rattle.titan_top.specs.Words.{form_of}
-use Rattle.titan_top.specs.declared.words.Form.TheVariants.{Run, Show, Check, Migrate, Want, Watch, Program}
+use Rattle.titan_top.specs.declared.words.Form.{Form}
+use Rattle.titan_top.specs.declared.words.Form.TheVariants.{Run, Show, Trial, Check, Migrate, Want, Watch, Program}
 
--- each form but a trial has its words; no word, another one, or one more is none
+-- each form but a trial has its words, all of them; no word, another one, or one more is none
 pub record WordsAreForms : Type 0 where
+  pub all : (form : Form) → ((seed : ℕ) → form ≡ Trial seed → ⊥) → ((seed : ℕ) → form ≡ Run (Summary seed) → ⊥) → (words : List (List ℕ)) × (form_of words ≡ Some form)
   pub run : form_of (codes "run" ∷ []) ≡ Some (Run Words)
   pub json : form_of (codes "run" ∷ codes "--json" ∷ []) ≡ Some (Run Json)
   pub proof : form_of (codes "run" ∷ codes "--proof" ∷ []) ≡ Some (Run Proof)

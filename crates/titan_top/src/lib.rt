@@ -9,8 +9,9 @@ mod trial;
 mod words;
 
 pub use laws::{
-    migrations_run_alike, outcomes_are_one, outcomes_fit, own_traces_are_checked,
-    printed_texts_read_back, sure_text_begins, texts_are_outcomes, words_are_forms,
+    forms_do_what_they_mean, forms_keep_their_promises, migrations_run_alike, outcomes_are_one,
+    outcomes_fit, own_traces_are_checked, printed_texts_read_back, promises_by_name,
+    runs_have_own_traces, sure_text_begins, texts_are_outcomes, words_are_forms,
 };
 pub use status::Status;
 pub use top::titan;

@@ -1,7 +1,7 @@
 //! Forms of the program's words.
 
 ghost use Rattle.std.specs.Prelude.{◌≡◌};
-ghost use Rattle.titan_top.specs.Words.{form_of, seed_of, texts};
+ghost use Rattle.titan_top.specs.Words.{form_of, form_of_word, seed_of, texts};
 
 use run_form::Notation;
 use trace_text::read_count;
@@ -34,30 +34,35 @@ fn seed_of(word: &[u8]) -> Option<u64>
     read_count(word)
 }
 
+/// The form that one word asks for, if there is one.
+fn form_of_word(word: &str) -> Option<Form>
+    ensures { result ≡ form_of_word word.now }
+{
+    if word == "run" {
+        Some(Form::Run(Notation::Words))
+    } else if word == "show" {
+        Some(Form::Show)
+    } else if word == "check" {
+        Some(Form::Check)
+    } else if word == "migrate" {
+        Some(Form::Migrate)
+    } else if word == "want" {
+        Some(Form::Want)
+    } else if word == "watch" {
+        Some(Form::Watch)
+    } else if word == "program" {
+        Some(Form::Program)
+    } else {
+        None
+    }
+}
+
 /// The form of the words, if they have one.
 pub fn form_of(words: &[String]) -> Option<Form>
     ensures { result ≡ form_of (texts words.now) }
 {
     match words {
-        [a] => {
-            if a.as_str() == "run" {
-                Some(Form::Run(Notation::Words))
-            } else if a.as_str() == "show" {
-                Some(Form::Show)
-            } else if a.as_str() == "check" {
-                Some(Form::Check)
-            } else if a.as_str() == "migrate" {
-                Some(Form::Migrate)
-            } else if a.as_str() == "want" {
-                Some(Form::Want)
-            } else if a.as_str() == "watch" {
-                Some(Form::Watch)
-            } else if a.as_str() == "program" {
-                Some(Form::Program)
-            } else {
-                None
-            }
-        }
+        [a] => form_of_word(a.as_str()),
         [a, b] => {
             if a.as_str() == "run" {
                 if b.as_str() == "--json" {

@@ -1,8 +1,7 @@
 pub mod Answering
-pub mod OneWishes
 pub mod WantAgrees
 pub mod WantEnds
+pub mod WantKeeps
 pub mod WeightsSet
-pub mod WishLines
-pub mod WishSteps
+pub mod WishTelling
 pub mod WishesTold

@@ -1,5 +1,5 @@
 -- A state and a line lead to one state and one text. The proofs stand here since a machine names them.
-use Rattle.std.proofs.Common.{◌≡◌, ℕ, List, Option, Some, None, Result, Ok, Err, refl, sym, ap, subst, ◌∙◌, arith}
+use Rattle.std.proofs.Common.{◌≡◌, ℕ, List, Option, Some, Result, Ok, refl, sym, ap, subst, ◌∙◌, arith}
 use Rattle.cca_base.specs.Accepted.{CompiledModel, IsCompiled}
 use Rattle.cca_base.specs.declared.cube.Pair.{Pair}
 use Rattle.cca_base.specs.declared.events.PlanEnd.{PlanEnd}
@@ -16,7 +16,7 @@ use Rattle.want_lines.proofs.OneRequest.{requests_are_one}
 use Rattle.want_lines.specs.declared.request.Request.{Request}
 use Rattle.want_lines.specs.declared.request.Request.TheVariants.{Weight, At, Want}
 use Rattle.want_form.specs.Answered.{ShowsWayTo, TargetText}
-use Rattle.want_form.specs.WishMachine.{WishState, AnswersBy, ServesRequest, ServesBy, WantSteps}
+use Rattle.want_form.specs.WishMachine.{WishState, AnswersBy, ServesRequest, wish_lines}
 
 -- a list is shown in one way
 shown_one : (p q : PlanEnd) (ks : List ℕ) → ShowsPlan p ks → ShowsPlan q ks → p ≡ q
@@ -51,12 +51,8 @@ request_one (Want formula) x n u v a c compiled (t, is, h) (s, was, k) =
     let same = one_answer x.compiled x.settings.weights x.settings.modes formula compiled t s is was in
     answers_one s x n u v a c compiled (subst (λ (z : Target). AnswersBy z x n u a) same h) k
 
-serves_one : (said : Result (Option Request) ℕ) (x : WishState) (n : ℕ) (u v : Next WishState) (a c : List ℕ) → IsCompiled x.compiled → ServesBy said x n u a → ServesBy said x n v c → AreOne u v a c
-serves_one (Err code) x n u v a c compiled h k = (h.0 ∙ sym k.0, h.1 ∙ sym k.1)
-serves_one (Ok None) x n u v a c compiled h k = (h.0 ∙ sym k.0, h.1 ∙ sym k.1)
-serves_one (Ok (Some request)) x n u v a c compiled h k = request_one request x n u v a c compiled h k
+pub said_one : (x : WishState) (l : List ℕ) (a b : Result (Option Request) ℕ) → wish_lines.said x l a → wish_lines.said x l b → a ≡ b
+said_one x l a b h k = requests_are_one x.compiled.model l a b h.1 k.1
 
-pub steps_one : (x : WishState) (n : ℕ) (l : List ℕ) (u v : Next WishState) (a c : List ℕ) → WantSteps x n l u a → WantSteps x n l v c → AreOne u v a c
-steps_one x n l u v a c (compiled, said, is, h) (compiled', other, was, k) =
-    let same = requests_are_one x.compiled.model l said other is was in
-    serves_one other x n u v a c compiled (subst (λ (z : Result (Option Request) ℕ). ServesBy z x n u a) same h) k
+pub serves_one : (r : Request) (x : WishState) (l : List ℕ) (n : ℕ) (u v : Next WishState) (a c : List ℕ) → wish_lines.said x l (Ok (Some r)) → ServesRequest r x n u a → ServesRequest r x n v c → AreOne u v a c
+serves_one r x l n u v a c says h k = request_one r x n u v a c says.0 h k

@@ -1,5 +1,5 @@
 -- What `want` means.
-use Rattle.std.specs.Prelude.{◌≡◌, ℕ, false, List}
+use Rattle.std.specs.Prelude.{◌≡◌, ⊤, ℕ, false, List}
 use Rattle.model_form.specs.Answers.{Answer, IsAnswer}
 use Rattle.model_form.specs.FormMeaning.{FormMeaning, reading_lines}
 use Rattle.model_form.specs.LinesEnds.{Ending}
@@ -15,6 +15,6 @@ EndsWishes b n ls end = (r : Wishes) × ReadsWishes b.model (first_settings b.mo
 abbrev pub IsWishesAnswer : List ℕ → Answer → Type 0
 IsWishesAnswer input a = IsAnswer false SaysWishes input a.end a.text
 
--- `want` reads its whole input
+-- `want` reads its whole input; it promises nothing beyond its text
 abbrev pub want_meaning : FormMeaning
-want_meaning = reading_lines wish_first wish_machine SaysWishes EndsWishes
+want_meaning = reading_lines wish_first wish_machine SaysWishes EndsWishes (λ input a. ⊤)

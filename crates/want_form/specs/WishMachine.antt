@@ -1,5 +1,5 @@
 -- The machine of the lines behind a model in which target states are asked for.
-use Rattle.std.specs.Prelude.{◌≡◌, ⊤, ℕ, false, List, Option, Some, None, Result, Ok, Err}
+use Rattle.std.specs.Prelude.{◌≡◌, ⊤, ℕ, false, List, []}
 use Rattle.cca_base.specs.Accepted.{CompiledModel, IsCompiled}
 use Rattle.cca_base.specs.Refusals.{bare}
 use Rattle.cca_base.specs.declared.codes.TheConstants.{MANY}
@@ -7,15 +7,20 @@ use Rattle.cca_base.specs.declared.cube.Pair.{Pair}
 use Rattle.goal_interpreter.specs.Targets.{IsTargetFor}
 use Rattle.goal_interpreter.specs.declared.target.Target.{Target}
 use Rattle.goal_interpreter.specs.declared.target.Target.TheVariants.{Found, Nowhere, Many}
+use Rattle.line_forms.specs.LinesMachine.{lines_machine}
+use Rattle.line_forms.specs.declared.line_form.LineForm.{Ghosts as LineGhosts}
 use Rattle.line_machine.specs.Next.{Next, GoesOn}
+use Rattle.line_machine.specs.declared.machine.End.TheVariants.{Ended}
 use Rattle.line_machine.specs.declared.machine.Machine.{Ghosts}
+use Rattle.model_form.specs.declared.limits.TheConstants.{MAX_LINE}
+use Rattle.model_form.specs.Answers.{answer}
 use Rattle.model_form.specs.FormMachine.{form_machine}
 use Rattle.model_form.specs.FormStates.{FormState}
-use Rattle.model_form.specs.LineMachines.{form_of_lines, machine_of_lines}
+use Rattle.model_form.specs.LineMachines.{form_of_lines}
 use Rattle.model_form.specs.ModelSteps.{GoesOnIn, RefusesLine}
 use Rattle.model_form.specs.declared.form.ModelForm.{Ghosts as FormGhosts}
 use Rattle.model_form.specs.declared.lines.OfLines.{OfLines}
-use Rattle.want_lines.specs.Requests.{IsRequestOf}
+use Rattle.want_lines.specs.Requests.{FitsModel, IsRequestOf}
 use Rattle.want_lines.specs.declared.request.Request.{Request}
 use Rattle.want_lines.specs.declared.request.Request.TheVariants.{Weight, At, Want}
 use Rattle.want_form.specs.Answered.{TargetText}
@@ -50,19 +55,22 @@ ServesRequest (Weight p weight) x n u text = GoesOnIn (weighed x p weight) u tex
 ServesRequest (At pairs) x n u text = GoesOnIn (put_at x pairs) u text
 ServesRequest (Want formula) x n u text = (target : Target) × IsTargetFor x.compiled x.settings.weights x.settings.modes formula target × AnswersBy target x n u text
 
--- a line by what it asks for: it is served, says nothing, or is refused
-abbrev pub ServesBy : Result (Option Request) ℕ → WishState → ℕ → Next WishState → List ℕ → Type 0
-ServesBy (Err code) x n u text = RefusesLine false x.compiled.model n (bare code) u text
-ServesBy (Ok None) x n u text = GoesOnIn x u text
-ServesBy (Ok (Some request)) x n u text = ServesRequest request x n u text
-
--- what a line leads to
-abbrev pub WantSteps : WishState → ℕ → List ℕ → Next WishState → List ℕ → Type 0
-WantSteps x n line u text = IsCompiled x.compiled × (said : Result (Option Request) ℕ) × IsRequestOf x.compiled.model line said × ServesBy said x n u text
+-- what a line says and what is done for it: a request of the accepted model is served, and the lines may end anywhere
+abbrev pub wish_lines : LineGhosts WishState Request
+wish_lines = record {
+  model_of = λ x. x.compiled.model;
+  is_json = λ x. false;
+  limit_of = λ x. MAX_LINE;
+  said = λ x line said. IsCompiled x.compiled × IsRequestOf x.compiled.model line said;
+  fits = λ x request. FitsModel x.compiled.model request;
+  serves = ServesRequest;
+  closing = λ x n. answer Ended [];
+  awaits = λ x n. ⊤;
+}
 
 -- the machine of the lines, which may end anywhere
 abbrev pub wish_machine : Ghosts WishState
-wish_machine = machine_of_lines (λ x. x.compiled.model) WantSteps (λ x n. ⊤)
+wish_machine = lines_machine wish_lines
 
 -- what the form says at the line `script`
 abbrev pub want_form : FormGhosts OfLines WishState

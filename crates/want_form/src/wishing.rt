@@ -5,24 +5,22 @@ ghost use Rattle.cca_base.specs.Prelude.{HasMode, IsFormula, IsState, PlantModel
 ghost use Rattle.cca_base.specs.declared.limits.TheConstants.{MAX_WEIGHT};
 ghost use Rattle.reversibility.specs.ClassParts.{CoversState};
 ghost use Rattle.want_form.specs.Wishes.{put_in};
-ghost use Rattle.goal_interpreter.specs.Targets.{IsTargetFor};
-ghost use Rattle.goal_interpreter.specs.declared.target.Target.{Target};
 ghost use Rattle.line_machine.specs.Next.{next_of};
+ghost use Rattle.line_machine.specs.Outs.{Appended, IsFront};
 ghost use Rattle.model_form.specs.FormStates.{form_first};
-ghost use Rattle.want_lines.specs.Requests.{FitsModel};
-ghost use Rattle.want_form.specs.WishMachine.{AnswersBy, ServesRequest, WantSteps, put_at, weighed};
+ghost use Rattle.want_lines.specs.declared.request.Request.TheVariants.{Want};
+ghost use Rattle.want_form.specs.WishMachine.{ServesRequest, put_at, weighed};
 
 use crate::weights::{no_weights, set_weight};
 use cca_base::codes::MANY;
-use cca_base::{Compiled, Formula, List, Model, Name, Pair, Refusal, Subject};
+use cca_base::{Compiled, Formula, List, Model, Name, Pair, Refusal, Stop, Subject};
 use formula_syntax::NamedModel;
 use goal_interpreter::{Target, Weights, interpret_by};
 use guard_compiler::{RuleClause, rules_of};
 use indexmap::IndexMap;
-use line_machine::{End, Machine, Said};
-use model_form::{
-    Accepted, BehindModel, MAX_LINE, OfLines, WithModel, nothing, refusal_of, refuse_stop, refused,
-};
+use line_forms::{LineForm, Lines, OpensLines};
+use line_machine::{End, Out};
+use model_form::{Accepted, MAX_LINE, OfLines, WithModel, refuse_to};
 use plan_runner::whole_plan;
 use policy_tables::Tables;
 use reversibility::Classes;
@@ -76,7 +74,7 @@ fn put_all(plant: &mut Plant, pairs: &[Pair])
     }
 }
 
-impl BehindModel for Wishing {
+impl OpensLines<Request> for Wishing {
     ghost use Rattle.want_form.specs.WishMachine.{wish_first};
 
     ghost first = { wish_first };
@@ -125,12 +123,19 @@ impl Wishing {
         Tables::of(alloc, classes)
     }
 
-    /// Answers a wish.
-    fn answer(&self, alloc: Global, number: u64, formula: &Formula) -> Result<Said, AllocError>
+    /// Answers a wish, and appends the text of the answer. The error is out of memory.
+    fn answer(
+        &self,
+        alloc: Global,
+        number: u64,
+        formula: &Formula,
+        out: &mut Out,
+    ) -> Result<Option<End>, AllocError>
         requires formula { IsFormula self.now.compiled.model formula.now }
-        ensures { IfOk result (λ said. (target : Target)
-            × IsTargetFor self.now.compiled self.now.settings.weights self.now.settings.modes formula.now target
-            × AnswersBy target self.now number (next_of self.now said.end) said.text.items) }
+        ensures answers { IfOk result (λ end. Appended
+            (ServesRequest (Want formula.now) self.now number (next_of self.now end))
+            out.old out.new) }
+        ensures front { IsFront out.old out.new }
     {
         let model = self.compiled.model();
         let tables = self.tables(alloc)?;
@@ -143,92 +148,91 @@ impl Wishing {
             } => {
                 let plan = whole_plan(alloc, &tables, from, &goal)?;
                 let text = target_lines(alloc, model, weight, &state, &plan)?;
-                Ok(Said {
-                    text: text.into_vec(),
-                    end: None,
-                })
+                out.push(text.as_slice())?;
+                Ok(None)
             }
-            Target::Nowhere => Ok(Said {
-                text: Vec::from_slice(alloc, b"none\n")?,
-                end: None,
-            }),
-            Target::Many => refused(alloc, false, model, number, &Refusal::bare(MANY)),
-        }
-    }
-
-    /// Serves a request.
-    fn serve(&mut self, alloc: Global, number: u64, request: &Request) -> Result<Said, AllocError>
-        requires fits { FitsModel self.old.compiled.model request.now }
-        ensures { IfOk result (λ said.
-            ServesRequest request.now self.old number (next_of self.new said.end) said.text.items) }
-    {
-        match request {
-            Request::Weight { pair, weight } => {
-                self.weigh(alloc, *pair, *weight)?;
-                Ok(nothing(alloc))
+            Target::Nowhere => {
+                out.push(b"none\n")?;
+                Ok(None)
             }
-            Request::At(pairs) => {
-                self.put(pairs.as_slice());
-                Ok(nothing(alloc))
+            Target::Many => {
+                refuse_to(alloc, false, model, number, &Refusal::bare(MANY), out)?;
+                Ok(Some(End::Refused))
             }
-            Request::Want(formula) => self.answer(alloc, number, formula),
-        }
-    }
-
-    /// Takes a line behind the model.
-    fn line(&mut self, alloc: Global, number: u64, line: &[u8]) -> Result<Said, AllocError>
-        ensures { IfOk result (λ said. WantSteps self.old number line.now
-            (next_of self.new said.end) said.text.items) }
-    {
-        let model = NamedModel::new(self.compiled.model(), &self.names);
-        match read_request(alloc, line, &model) {
-            Ok(Some(request)) => self.serve(alloc, number, &request),
-            Ok(None) => Ok(nothing(alloc)),
-            Err(stop) => refuse_stop(alloc, false, self.compiled.model(), number, &stop),
         }
     }
 }
 
-// By the clauses of the trait a line gives `WantSteps`, and the end of the input `EndsAtEnd` (specs/WishMachine.antt).
-impl Machine for Wishing {
-    ghost use Rattle.model_form.specs.NoLines.{end_one_way};
-    ghost use Rattle.want_form.specs.WishMachine.{wish_machine};
-    ghost use Rattle.want_form.specs.OneStep.{steps_one};
+impl LineForm<Request> for Wishing {
+    ghost use Rattle.want_form.specs.WishMachine.{wish_lines};
+    ghost use Rattle.want_form.specs.OneStep.{said_one, serves_one};
 
-    ghost limit_of = { wish_machine.limit_of };
+    ghost model_of = { wish_lines.model_of };
 
-    ghost refusal = { wish_machine.refusal };
+    ghost is_json = { wish_lines.is_json };
 
-    ghost steps = { wish_machine.steps };
+    ghost limit_of = { wish_lines.limit_of };
 
-    ghost closes = { wish_machine.closes };
+    ghost said = { wish_lines.said };
 
-    ghost awaits = { wish_machine.awaits };
+    ghost fits = { wish_lines.fits };
 
-    ghost steps_are_one = { steps_one };
+    ghost serves = { wish_lines.serves };
 
-    ghost closes_are_one = { λ x n e f a c h k. end_one_way h k };
+    ghost closing = { wish_lines.closing };
+
+    ghost awaits = { wish_lines.awaits };
+
+    ghost said_one = { said_one };
+
+    ghost serves_one = { serves_one };
+
+    ghost awaits_on = { λ x n h. tt };
+
+    fn model(&self) -> &Model {
+        self.compiled.model()
+    }
+
+    fn is_json(&self) -> bool {
+        false
+    }
 
     fn limit(&self) -> usize {
         MAX_LINE
     }
 
-    fn refuse(&self, alloc: Global, number: u64, code: u8) -> Result<Vec<u8>, AllocError> {
-        let refusal = Refusal::bare(code);
-        refusal_of(alloc, false, self.compiled.model(), number, &refusal)
+    fn read(&self, alloc: Global, line: &[u8]) -> Result<Option<Request>, Stop> {
+        let model = NamedModel::new(self.compiled.model(), &self.names);
+        read_request(alloc, line, &model)
     }
 
-    fn step(&mut self, alloc: Global, number: u64, line: &[u8]) -> Result<Said, AllocError> {
-        self.line(alloc, number, line)
+    fn serve(
+        &mut self,
+        alloc: Global,
+        number: u64,
+        item: &Request,
+        out: &mut Out,
+    ) -> Result<Option<End>, AllocError> {
+        match item {
+            Request::Weight { pair, weight } => {
+                self.weigh(alloc, *pair, *weight)?;
+                Ok(None)
+            }
+            Request::At(pairs) => {
+                self.put(pairs.as_slice());
+                Ok(None)
+            }
+            Request::Want(formula) => self.answer(alloc, number, formula, out),
+        }
     }
 
-    fn close(&mut self, alloc: Global, _count: u64) -> Result<(Vec<u8>, End), AllocError> {
-        Ok((Vec::new(alloc), End::Ended))
+    fn close(&mut self, _alloc: Global, _count: u64, _out: &mut Out) -> Result<End, AllocError> {
+        Ok(End::Ended)
     }
 }
 
 /// The form `want`: behind the model stand lines that ask for target states.
-pub type WantMachine = WithModel<OfLines, Wishing>;
+pub type WantMachine = WithModel<OfLines, Lines<Wishing, Request>>;
 
 /// The form before the first line.
 pub fn open_want(alloc: Global) -> Result<WantMachine, AllocError>

@@ -1,8 +1,8 @@
-pub mod OneCalls
 pub mod WatchAgrees
 pub mod WatchEnds
+pub mod WatchKeeps
 mod WatchExamples
-pub mod WatchLines
 pub mod WatchLeast
 pub mod WatchSteps
+pub mod WatchTelling
 pub mod WatchTold

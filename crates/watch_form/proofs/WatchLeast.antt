@@ -35,8 +35,8 @@ last_is states before s parts =
 tells_tick : (m : PlantModel) (front : List TrackerCall) (entry : Entry) (x y : TrackerState) (earlier : List Numbered) (answer : windows.Answer) (tick : ℕ) → IsState m (start_modes m)
     → Tracks m (start m 0) front x earlier → Ticks m x entry y answer → TellsTick m (front ++ windows.Tick entry ∷ []) tick (answer_line m (record { tick = tick; answer = answer }))
 tells_tick m front entry x y earlier (Found states cost revised) tick is t found =
-    let (ticks, since, (anchor, records, latest, state, begins, best)) = best_behind m 0 front entry x y earlier states cost revised is t found in
-    let (before, s, parts, shows) = shows_latest m x y entry states cost revised found in
+    let (ticks, since, (anchor, records, answers, latest, state, before, begins, best)) = best_behind m 0 front entry x y earlier states cost revised is t found in
+    let (path, s, parts, shows) = shows_latest m x y entry states cost revised found in
     inl (record {
       ticks = ticks;
       since = since;
@@ -44,13 +44,15 @@ tells_tick m front entry x y earlier (Found states cost revised) tick is t found
       latest = latest;
       anchor = anchor;
       state = state;
-      at_start = begins;
+      answers = answers;
+      before = before;
+      begins = begins;
       modes = s;
       cost = cost;
-      least = record { before = before; trajectory = subst (λ l. Trajectory m anchor records l cost) parts best.trajectory; least = best.least };
+      least = record { before = path; trajectory = subst (λ l. Trajectory m anchor records l cost) parts best.trajectory; least = best.least };
       revised = revised;
       is = ap (λ n. window_line m tick n cost (last_modes states) revised) (length-trajectory m anchor records states cost best.trajectory)
-          ∙ ap (λ l. window_line m tick (length records) cost l revised) (last_is states before s parts);
+          ∙ ap (λ l. window_line m tick (length records) cost l revised) (last_is states path s parts);
     })
 tells_tick m front entry x y earlier Unexplained tick is t ticks = inr (inl refl)
 tells_tick m front entry x y earlier Holding tick is t ticks = inr (inr refl)

@@ -1,14 +1,14 @@
 -- What each printed line of a window says of its cost.
 use Rattle.std.specs.Prelude.{◌≡◌, ◌⊎◌, ◌≤◌, ◌+◌, ℕ, false, List, [], ◌∷◌, ◌++◌, flat_map, length, slice_get, Option, Some}
 use Rattle.cca_base.specs.PlantModel.{PlantModel}
-use Rattle.cca_base.specs.State.{IsState, start_modes}
+use Rattle.cca_base.specs.State.{IsState}
 use Rattle.cca_base.specs.declared.events.Shown.TheVariants as shown
 use Rattle.model_form.specs.Answers.{Answer, Saying, IsAnswer}
 use Rattle.model_form.specs.LinesEnds.{ending}
 use Rattle.trace_text.specs.Reports.{report_line}
 use Rattle.trace_text.specs.WindowLines.{window_line}
-use Rattle.window_laws.specs.LatestTicks.{AreSince, AreLatest, ticks_among}
-use Rattle.window_laws.specs.Ticks.{TrackerCall, Tick, window}
+use Rattle.window_laws.specs.LatestTicks.{AnswersBefore, AreSince, AreLatest, IsAnchorOf, ticks_among}
+use Rattle.window_laws.specs.Ticks.{Numbered, TrackerCall, Tick}
 use Rattle.window_laws.specs.Trajectories.{Entry, Trajectory}
 use Rattle.watch_form.specs.Calls.{Calls, ReadsCalls, nothing_pending}
 
@@ -18,7 +18,8 @@ pub record IsLeastTo (m : PlantModel) (anchor : List ℕ) (records : List Entry)
   pub trajectory : Trajectory m anchor records (before ++ s ∷ []) cost
   pub least : (other : List (List ℕ)) (more : ℕ) → Trajectory m anchor records other more → cost ≤ more
 
--- the line of a window, whose tick is the last of these calls: its records are those of so many last ticks since the last reset or the start, and from its anchor the printed state is reached over them at the printed cost, and none at less
+-- the line of a window, whose tick is the last of these calls: its records are those of so many last ticks since the last reset or the start, its anchor is the start modes, or the
+-- first state of the answer to the tick before once ticks are gone, and from there the printed state is reached over them at the printed cost, and none at less
 pub record TellsWindow (m : PlantModel) (calls : List TrackerCall) (tick : ℕ) (line : List ℕ) : Type 0 where
   pub ticks : List Entry
   pub since : AreSince calls ticks
@@ -26,7 +27,9 @@ pub record TellsWindow (m : PlantModel) (calls : List TrackerCall) (tick : ℕ) 
   pub latest : AreLatest ticks records
   pub anchor : List ℕ
   pub state : IsState m anchor
-  pub at_start : length ticks ≤ window → anchor ≡ start_modes m
+  pub answers : List Numbered
+  pub before : AnswersBefore m ticks answers
+  pub begins : IsAnchorOf m ticks answers anchor
   pub modes : List ℕ
   pub cost : ℕ
   pub least : IsLeastTo m anchor records modes cost

@@ -1,18 +1,22 @@
 -- The machine of the lines behind a model which say what was commanded and observed.
-use Rattle.std.specs.Prelude.{◌≡◌, ◌<◌, ◌+◌, ℕ, false, List, ◌++◌, Option, Some, None, Result, Ok, Err}
+use Rattle.std.specs.Prelude.{◌≡◌, ◌<◌, ◌+◌, ℕ, false, List, [], ◌++◌, Some}
 use Rattle.std.specs.Option.{is_some}
 use Rattle.cca_base.specs.Accepted.{CompiledModel}
-use Rattle.cca_base.specs.Refusals.{bare}
 use Rattle.cca_base.specs.declared.cube.Pair.{Pair}
+use Rattle.line_forms.specs.LinesMachine.{lines_machine}
+use Rattle.line_forms.specs.declared.line_form.LineForm.{Ghosts as LineGhosts}
 use Rattle.line_machine.specs.Next.{Next, GoesOn}
+use Rattle.line_machine.specs.declared.machine.End.TheVariants.{Ended}
 use Rattle.line_machine.specs.declared.machine.Machine.{Ghosts}
+use Rattle.model_form.specs.declared.limits.TheConstants.{MAX_LINE}
+use Rattle.model_form.specs.Answers.{answer}
 use Rattle.model_form.specs.FormMachine.{form_machine}
 use Rattle.model_form.specs.FormStates.{FormState}
-use Rattle.model_form.specs.LineMachines.{form_of_lines, machine_of_lines}
-use Rattle.model_form.specs.ModelSteps.{GoesOnIn, RefusesLine}
+use Rattle.model_form.specs.LineMachines.{form_of_lines}
+use Rattle.model_form.specs.ModelSteps.{GoesOnIn}
 use Rattle.model_form.specs.declared.form.ModelForm.{Ghosts as FormGhosts}
 use Rattle.model_form.specs.declared.lines.OfLines.{OfLines}
-use Rattle.watch_lines.specs.WatchEvents.{IsWatchEventOf}
+use Rattle.watch_lines.specs.WatchEvents.{FitsWatch, IsWatchEventOf}
 use Rattle.watch_lines.specs.declared.watch_event.WatchEvent.{WatchEvent}
 use Rattle.watch_lines.specs.declared.watch_event.WatchEvent.TheVariants.{Sent, Observe, Reset, Tick}
 use Rattle.window_laws.specs.Ticks.{Answer, TrackerState, Ticks, start}
@@ -58,24 +62,26 @@ ServesEvent Reset x u text = GoesOnIn (restarted x) u text
 ServesEvent Tick x u text =
     (y : WatchState) × (answer : Answer) × TicksTo x y answer × (u ≡ GoesOn y) × (text ≡ answer_line x.compiled.model (record { tick = x.state.ticks + 1; answer = answer }))
 
--- a line by what it says: an event is served, or the line says nothing, or it is refused
-abbrev pub ServesBy : Result (Option WatchEvent) ℕ → WatchState → ℕ → Next WatchState → List ℕ → Type 0
-ServesBy (Err code) x n u text = RefusesLine false x.compiled.model n (bare code) u text
-ServesBy (Ok None) x n u text = GoesOnIn x u text
-ServesBy (Ok (Some event)) x n u text = ServesEvent event x u text
-
--- what a line leads to
-abbrev pub WatchSteps : WatchState → ℕ → List ℕ → Next WatchState → List ℕ → Type 0
-WatchSteps x n line u text =
-    (said : Result (Option WatchEvent) ℕ) × IsWatchEventOf x.compiled.model x.pending.seen (is_some x.pending.command) line said × ServesBy said x n u text
-
 -- fewer ticks were made than this line's number
 abbrev pub WatchAwaits : WatchState → ℕ → Type 0
 WatchAwaits x n = x.state.ticks < n
 
--- the machine of the lines, which may end anywhere
+-- what a line says with what is pending, and what is done for it; the lines may end anywhere
+abbrev pub watch_lines : LineGhosts WatchState WatchEvent
+watch_lines = record {
+  model_of = λ x. x.compiled.model;
+  is_json = λ x. false;
+  limit_of = λ x. MAX_LINE;
+  said = λ x line said. IsWatchEventOf x.compiled.model x.pending.seen (is_some x.pending.command) line said;
+  fits = λ x event. FitsWatch x.compiled.model x.pending.seen (is_some x.pending.command) event;
+  serves = λ event x n u text. ServesEvent event x u text;
+  closing = λ x n. answer Ended [];
+  awaits = WatchAwaits;
+}
+
+-- the machine of the lines
 abbrev pub watching_machine : Ghosts WatchState
-watching_machine = machine_of_lines (λ x. x.compiled.model) WatchSteps WatchAwaits
+watching_machine = lines_machine watch_lines
 
 -- what the form says at the line `script`
 abbrev pub watch_form : FormGhosts OfLines WatchState

@@ -3,23 +3,20 @@
 ghost use Rattle.std.specs.Prelude.{◌≡◌, ◌++◌, ◌+◌, ◌<◌, ◌≤◌, ◌^◌, All, IfOk, IfSome, OnOk};
 ghost use Rattle.std.specs.Option.{is_some};
 ghost use Rattle.cca_base.specs.Prelude.{Answers, HasValue};
-ghost use Rattle.line_machine.specs.Next.{next_of};
-ghost use Rattle.line_machine.specs.declared.machine.TheConstants.{MAX_LINES};
 ghost use Rattle.model_form.specs.FormStates.{form_first};
 ghost use Rattle.trajectory_estimator.specs.Asked.{entry_of};
 ghost use Rattle.trajectory_estimator.specs.Tracked.{answer_of};
 ghost use Rattle.watch_lines.specs.WatchEvents.{FitsWatch, IsWatchEventOf};
 ghost use Rattle.watch_form.specs.Calls.{nothing_pending};
-ghost use Rattle.watch_form.specs.WatchMachine.{ServesEvent, TicksTo, WatchAwaits, WatchSteps, observed, restarted};
+ghost use Rattle.watch_form.specs.WatchMachine.{TicksTo, observed, restarted};
 
 use crate::told::told;
-use cca_base::{List, Name, Pair, Refusal, Seen, Stop, Subject, VarSet};
+use cca_base::{List, Model, Name, Pair, Seen, Stop, Subject, VarSet};
 use formula_syntax::NamedModel;
 use indexmap::IndexMap;
-use line_machine::{End, Machine, Said};
-use model_form::{
-    Accepted, BehindModel, MAX_LINE, OfLines, WithModel, nothing, refusal_of, refuse_stop,
-};
+use line_forms::{LineForm, Lines, OpensLines};
+use line_machine::{End, Out};
+use model_form::{Accepted, MAX_LINE, OfLines, WithModel};
 use script_reader::Context;
 use std::alloc::{AllocError, Global};
 use std::mem;
@@ -83,7 +80,7 @@ fn joined(alloc: Global, first: &[Pair], second: &[Pair]) -> Result<List<Pair>, 
     Ok(List::of(both))
 }
 
-impl BehindModel for Watching {
+impl OpensLines<WatchEvent> for Watching {
     ghost use Rattle.watch_form.specs.WatchMachine.{watch_first};
 
     ghost first = { watch_first };
@@ -104,7 +101,7 @@ impl BehindModel for Watching {
 
 impl Watching {
     /// What a line says, with what is pending.
-    fn read(&self, alloc: Global, line: &[u8]) -> Result<Option<WatchEvent>, Stop>
+    fn event(&self, alloc: Global, line: &[u8]) -> Result<Option<WatchEvent>, Stop>
         ensures answer { Answers result (IsWatchEventOf self.now.compiled.model
             self.now.pending.seen (is_some self.now.pending.command) line.now) }
         ensures fits { IfOk result (λ event. IfSome event (FitsWatch self.now.compiled.model
@@ -153,96 +150,87 @@ impl Watching {
         self.ticks += 1;
         Ok(answer)
     }
-
-    /// Takes an event.
-    fn serve(&mut self, alloc: Global, event: &WatchEvent) -> Result<Said, AllocError>
-        requires fits { FitsWatch self.old.compiled.model self.old.pending.seen
-            (is_some self.old.pending.command) event.now }
-        requires room { self.old.state.ticks + 1 < 2 ^ 64 }
-        ensures { IfOk result (λ said.
-            ServesEvent event.now self.old (next_of self.new said.end) said.text.items) }
-    {
-        match event {
-            WatchEvent::Sent(command) => {
-                self.pending.command = Some(*command);
-                Ok(nothing(alloc))
-            }
-            WatchEvent::Observe(pairs) => {
-                self.observe(alloc, pairs.as_slice())?;
-                Ok(nothing(alloc))
-            }
-            WatchEvent::Reset => {
-                self.restart(alloc)?;
-                Ok(nothing(alloc))
-            }
-            WatchEvent::Tick => {
-                let answer = self.tick(alloc)?;
-                let model = self.tracker.compiled().model();
-                let text = told(alloc, model, self.ticks, &answer)?;
-                Ok(Said { text, end: None })
-            }
-        }
-    }
-
-    /// Takes a line behind the model.
-    fn line(&mut self, alloc: Global, number: u64, line: &[u8]) -> Result<Said, AllocError>
-        requires few { number ≤ MAX_LINES }
-        requires turn { WatchAwaits self.old number }
-        ensures { IfOk result (λ said. WatchSteps self.old number line.now
-            (next_of self.new said.end) said.text.items) }
-    {
-        match self.read(alloc, line) {
-            Ok(Some(event)) => self.serve(alloc, &event),
-            Ok(None) => Ok(nothing(alloc)),
-            Err(stop) => {
-                let model = self.tracker.compiled().model();
-                refuse_stop(alloc, false, model, number, &stop)
-            }
-        }
-    }
 }
 
-// By the clauses of the trait a line gives `WatchSteps`, and the end of the input `EndsAtEnd` (specs/WatchMachine.antt).
-impl Machine for Watching {
-    ghost use Rattle.model_form.specs.NoLines.{end_one_way};
-    ghost use Rattle.watch_form.specs.WatchMachine.{watching_machine};
-    ghost use Rattle.watch_form.specs.OneStep.{steps_one};
+impl LineForm<WatchEvent> for Watching {
+    ghost use Rattle.watch_form.specs.WatchMachine.{watch_lines};
+    ghost use Rattle.watch_form.specs.OneStep.{said_one, serves_one, awaits_on};
 
-    ghost limit_of = { watching_machine.limit_of };
+    ghost model_of = { watch_lines.model_of };
 
-    ghost refusal = { watching_machine.refusal };
+    ghost is_json = { watch_lines.is_json };
 
-    ghost steps = { watching_machine.steps };
+    ghost limit_of = { watch_lines.limit_of };
 
-    ghost closes = { watching_machine.closes };
+    ghost said = { watch_lines.said };
 
-    ghost awaits = { watching_machine.awaits };
+    ghost fits = { watch_lines.fits };
 
-    ghost steps_are_one = { steps_one };
+    ghost serves = { watch_lines.serves };
 
-    ghost closes_are_one = { λ x n e f a c h k. end_one_way h k };
+    ghost closing = { watch_lines.closing };
+
+    ghost awaits = { watch_lines.awaits };
+
+    ghost said_one = { said_one };
+
+    ghost serves_one = { serves_one };
+
+    ghost awaits_on = { awaits_on };
+
+    fn model(&self) -> &Model {
+        self.tracker.compiled().model()
+    }
+
+    fn is_json(&self) -> bool {
+        false
+    }
 
     fn limit(&self) -> usize {
         MAX_LINE
     }
 
-    fn refuse(&self, alloc: Global, number: u64, code: u8) -> Result<Vec<u8>, AllocError> {
-        let refusal = Refusal::bare(code);
-        let model = self.tracker.compiled().model();
-        refusal_of(alloc, false, model, number, &refusal)
+    fn read(&self, alloc: Global, line: &[u8]) -> Result<Option<WatchEvent>, Stop> {
+        self.event(alloc, line)
     }
 
-    fn step(&mut self, alloc: Global, number: u64, line: &[u8]) -> Result<Said, AllocError> {
-        self.line(alloc, number, line)
+    fn serve(
+        &mut self,
+        alloc: Global,
+        _number: u64,
+        item: &WatchEvent,
+        out: &mut Out,
+    ) -> Result<Option<End>, AllocError> {
+        match item {
+            WatchEvent::Sent(command) => {
+                self.pending.command = Some(*command);
+                Ok(None)
+            }
+            WatchEvent::Observe(pairs) => {
+                self.observe(alloc, pairs.as_slice())?;
+                Ok(None)
+            }
+            WatchEvent::Reset => {
+                self.restart(alloc)?;
+                Ok(None)
+            }
+            WatchEvent::Tick => {
+                let answer = self.tick(alloc)?;
+                let model = self.tracker.compiled().model();
+                let text = told(alloc, model, self.ticks, &answer)?;
+                out.push(text.as_slice())?;
+                Ok(None)
+            }
+        }
     }
 
-    fn close(&mut self, alloc: Global, _count: u64) -> Result<(Vec<u8>, End), AllocError> {
-        Ok((Vec::new(alloc), End::Ended))
+    fn close(&mut self, _alloc: Global, _count: u64, _out: &mut Out) -> Result<End, AllocError> {
+        Ok(End::Ended)
     }
 }
 
 /// The form `watch`: behind the model stand lines that say what was commanded and observed.
-pub type WatchMachine = WithModel<OfLines, Watching>;
+pub type WatchMachine = WithModel<OfLines, Lines<Watching, WatchEvent>>;
 
 /// The form before the first line.
 pub fn open_watch(alloc: Global) -> Result<WatchMachine, AllocError>

@@ -9,7 +9,7 @@ use Rattle.cca_base.specs.PlantModel.{PlantModel}
 use Rattle.cca_base.specs.State.{IsState, start_modes}
 use Rattle.window_laws.specs.Trajectories.{Entry, Best}
 use Rattle.window_laws.specs.Ticks.{TrackerState, Answer, Found, Unexplained, Holding, Ticks, KeepsBest, window, next_anchor, next_records, start, TrackerCall, Tick, Reset, Numbered, Tracks}
-use Rattle.window_laws.specs.LatestTicks.{IsToStart, AreSince, AreLatest, BeginsLast, IsAnchorOf, IsAnswered, ticks_among}
+use Rattle.window_laws.specs.LatestTicks.{IsToStart, AnswersBefore, AreSince, AreLatest, BeginsLast, IsAnchorOf, IsAnswered, ticks_among}
 use Rattle.window_laws.proofs.Latest.{keeps_latest}
 use Rattle.window_laws.proofs.Paths.{length-trajectory}
 use Rattle.window_laws.proofs.TickNumbers.{numbers_go_on, start_keeps, tracks_on}
@@ -237,7 +237,7 @@ answers_are_of_latest m ticks y calls answers is t a states cost revised among a
 pub best_behind : (m : PlantModel) (ticks : ℕ) (front : List TrackerCall) (entry : Entry) (x y : TrackerState) (earlier : List Numbered) (states : List (List ℕ)) (cost : ℕ) (revised : Option ℕ)
     → IsState m (start_modes m) → Tracks m (start m ticks) front x earlier → Ticks m x entry y (Found states cost revised)
     → (entries : List Entry) × AreSince (front ++ Tick entry ∷ []) entries
-    × ((anchor : List ℕ) × (records : List Entry) × AreLatest entries records × IsState m anchor × (length entries ≤ window → anchor ≡ start_modes m) × Best m anchor records states cost)
+    × ((anchor : List ℕ) × (records : List Entry) × (answers : List Numbered) × AreLatest entries records × IsState m anchor × AnswersBefore m entries answers × IsAnchorOf m entries answers anchor × Best m anchor records states cost)
 best_behind m ticks front entry x y earlier states cost revised is t found =
     let (entries, (before, starts, parts)) = since_start front in
     let (w, others, since, one, two, lists) = tracks_split m (start m ticks) x before (map Tick entries) earlier (subst (λ l. Tracks m (start m ticks) l x earlier) parts t) in
@@ -245,7 +245,7 @@ best_behind m ticks front entry x y earlier states cost revised is t found =
     let (anchor, records, latest, state, begins, best) = latest_best m (ticks + length others) is entries entry x y since again states cost revised found in (
       entries ++ entry ∷ [],
       (before, starts, put_calls front before [] entries entry parts ∙ append-nil (before ++ map Tick (entries ++ entry ∷ []))),
-      (anchor, records, latest, state, begins.at_start, best),
+      (anchor, records, since, latest, state, record { before = entries; last = entry; parts = refl; ticks = ticks + length others; state = x; tracks = again }, begins, best),
     )
 
 -- each tick has its answer and its number

@@ -35,6 +35,15 @@ pub record IsAnchorOf (m : PlantModel) (entries : List Entry) (earlier : List Nu
   pub at_start : length entries ≤ window → anchor ≡ start_modes m
   pub slid : window < length entries → BeginsLast earlier anchor
 
+-- from a start on a tracker answers so to all of these ticks but the last
+pub record AnswersBefore (m : PlantModel) (entries : List Entry) (answers : List Numbered) : Type 0 where
+  pub before : List Entry
+  pub last : Entry
+  pub parts : entries ≡ before ++ last ∷ []
+  pub ticks : ℕ
+  pub state : TrackerState
+  pub tracks : Tracks m (start m ticks) (map Tick before) state answers
+
 -- the calls to a start, the ticks since then, and the later calls; an answer to the last of these ticks, behind the answers to the calls before it
 pub record IsAnswered (m : PlantModel) (ticks : ℕ) (calls : List TrackerCall) (answers : List Numbered) (entries : List Entry) (earlier : List Numbered) (a : Numbered) : Type 0 where
   pub before : List TrackerCall

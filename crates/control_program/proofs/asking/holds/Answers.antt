@@ -4,7 +4,7 @@ use Rattle.cca_base.specs.declared.cube.Pair.{Pair}
 use Rattle.cca_base.specs.Model.{HasMode}
 use Rattle.cca_base.specs.State.{Follows, Holds}
 use Rattle.cca_base.proofs.StatePairs.{pairs_have_modes}
-use Rattle.cca_base.proofs.HeldFormulas.{formula_within, follows_holds, holds_follows}
+use Rattle.cca_base.proofs.HeldFormulas.{follows_holds, holds_follows}
 use Rattle.control_program.proofs.asking.holds.Goals as goal
 
 pub follows-requires-clause-modes : goal.follows-requires-clause-modes
@@ -13,7 +13,7 @@ follows-requires-clause-modes c =
     subst (All (λ (p : Pair). HasMode a.rules.now.model.now p.item p.value)) (sym a.pairs) (pairs_have_modes a.rules.now.model.now a.estimate.now.modes a.state)
 
 pub follows-requires-clause-formula : goal.follows-requires-clause-formula
-follows-requires-clause-formula c = formula_within c.args.asking.now.rules.now.model.now c.args.formula.now c.requires
+follows-requires-clause-formula c = c.requires
 
 pub returns : goal.returns
 returns c =

@@ -4,7 +4,6 @@ use Rattle.cca_base.specs.Formula.{is_within}
 use Rattle.cca_base.specs.Model.{HasMode}
 use Rattle.cca_base.specs.PlantModel.{PlantModel}
 use Rattle.cca_base.specs.State.{IsState}
-use Rattle.cca_base.proofs.HeldFormulas.{formula_within}
 use Rattle.guard_compiler.specs.Wishes.{AreImplicants}
 use Rattle.planner_step.specs.Planning.{member_of}
 use Rattle.reversibility.specs.ClassParts.{ClassParts}
@@ -23,7 +22,7 @@ wish_implicants-requires-clause-formula c =
     let t = c.args.tables.now in
     subst (λ (m : PlantModel). is_within (length m.components) (length m.variables) c.args.formula.now ≡ true)
     (sym (same_model c.model.result.now c.compiled-compiled.result.now c.classes-classes.result.now t.classes c.model.ensures.value c.compiled-compiled.ensures.value c.classes-classes.ensures.value))
-    (formula_within t.classes.compiled.model c.args.formula.now c.requires.formula)
+    c.requires.formula
 
 pub choose-requires-clause-cubes : goal.choose-requires-clause-cubes
 choose-requires-clause-cubes c =

@@ -3,8 +3,8 @@ use Rattle.std.proofs.lemmas.List.{take_all}
 use Rattle.line_machine.proofs.DriverInvariant.{IsDriving, came, goes_on_line, in_turn, found_line, found_long, found_last, line_room, line_cut, line_ends, line_next, line_few, long_room, long_cut, long_refused, starved, no_memory, last_room, last_ends}
 use Rattle.line_machine.proofs.driver.drive_lines.Goals as goal
 
-pub refuse-requires : goal.refuse-requires
-refuse-requires g c =
+pub refuse-requires-clause-room : goal.refuse-requires-clause-room
+refuse-requires-clause-room g c =
     let d = came c.lines.invariant.driving c.next_limit-limit.ensures.short c.next_line.ensures.came in
     let f = found_long _ _ _ c.in-Ok.found c.in-Ok.ensures.found c.in-Long.is in
     long_room d f.0 (omega (arith, f.1)) (c.next_limit-limit.ensures.long _ f.1) c.requires.room
@@ -70,6 +70,7 @@ lines-preserved g c =
       driving = subst (λ h. IsDriving g.M.Machine c.args.machine.now (g.I.Intake.left c.args.source.now) (g.K.Sink.written c.args.sink.now) (g.K.Sink.space c.args.sink.now) (g.I.Intake.calls c.args.source.now) ⊥ (c.lines.count + 1) c.take_line.new.machine h (g.I.Intake.left c.next_line.new.source) (g.K.Sink.written c.take_line.new.sink) (g.K.Sink.space c.take_line.new.sink) (g.I.Intake.calls c.next_line.new.source)) (sym c.drop_line.ensures)
           (line_next d line c.front-in-lines.ensures _ c.in-Ok-take_line.said c.in-None.is c.in-Ok-take_line.ensures.ok);
       turn = c.in-Ok-take_line.ensures.turn c.in-None.is;
+      empty = c.in-Ok-take_line.ensures.empty;
       few = line_few d line c.front-in-lines.ensures _ c.in-Ok-take_line.said c.in-None.is c.in-Ok-take_line.ensures.ok;
       quiet_source = c.in-Ok.ensures.quiet (λ e. absurd cc) ∙ c.lines.invariant.quiet_source;
       quiet_sink = c.in-Ok-take_line.ensures.quiet (λ e. absurd cc) ∙ c.lines.invariant.quiet_sink;

@@ -1,3 +1,4 @@
+use Rattle.line_machine.proofs.Fronts.{prints_so_far}
 use Rattle.line_machine.proofs.RunsAreOne.{IsFixed}
 use Rattle.line_machine.proofs.SureTextBegins.{sure_begins_text, sure_begins_sure, decided, sure_is_one, text_is_one, quiet_sure}
 use Rattle.line_machine.proofs.laws.sure_text_laws.Goals as goal
@@ -13,4 +14,5 @@ returns g c =
       one_sure = λ s a x y t u. sure_is_one m s fixed a x y t u;
       one_text = λ s a x y e f. text_is_one m s fixed a x y e f;
       quiet = λ s t a x quiet. quiet_sure m quiet s a x t;
+      fronts = λ s by_lines. prints_so_far m s by_lines;
     }

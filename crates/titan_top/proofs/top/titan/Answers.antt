@@ -1,22 +1,20 @@
 use Rattle.std.proofs.Common.{◌≡◌, ◌⊎◌, Some, sym, ap, subst, ◌∙◌}
+use Rattle.titan_top.specs.FormFront.{IsFrontOf}
+use Rattle.titan_top.specs.Meanings.{meaning_of}
 use Rattle.titan_top.specs.Output.{IsOutcome, IsCut, NothingRefused, SomeRefused, SomeRejected}
 use Rattle.titan_top.specs.Statuses.{status_of}
 use Rattle.titan_top.specs.Streams.{HasRoomForWords, OfInput, input_for}
 use Rattle.titan_top.specs.Wire.{WritesAs}
 use Rattle.titan_top.specs.Words.{asked}
 use Rattle.titan_top.specs.declared.status.Status.TheVariants.{Ended, Rejected, Refused, Memory}
-use Rattle.titan_top.specs.declared.words.Form.TheVariants.{Run, Show, Trial, Check, Migrate, Want, Watch, Program}
-use Rattle.titan_top.proofs.EverySource.{only_check, run_at_end, check_at_end, migration_at_end, wishes_at_end, watch_at_end, program_at_end, show_silent, check_silent, show_to_script}
+use Rattle.titan_top.specs.declared.words.Form.TheVariants.{Show, Trial, Check}
+use Rattle.titan_top.proofs.EverySource.{only_check, whole_at_end, form_silent, show_to_script}
 use Rattle.titan_top.proofs.FormAnswers.{usage_room, form_prints, form_streams}
 use Rattle.titan_top.proofs.FormStatuses.{no_read, form_ended, form_refused, form_rejected, ended_where, refused_where, rejected_where, completes}
-use Rattle.titan_top.proofs.FrontsOfRuns.{run_front}
-use Rattle.titan_top.proofs.Migrations.{migration_is_migrated}
+use Rattle.titan_top.proofs.Fronts.{form_front}
+use Rattle.titan_top.proofs.Promised.{all_also, all_promised}
 use Rattle.titan_top.proofs.OwnTraces.{own_where}
-use Rattle.titan_top.proofs.ProgramsOfWords.{program_is_traced}
 use Rattle.titan_top.proofs.TraceIsChecked.{check_is_checked}
-use Rattle.titan_top.proofs.TracesOfWords.{run_is_traced, trial_is_traced}
-use Rattle.titan_top.proofs.WatchedByWords.{watch_is_least, watch_is_watched}
-use Rattle.titan_top.proofs.WishesOfWords.{want_is_wished}
 use Rattle.titan_top.proofs.WordsOfForms.{all_words, form_writes, the_form, usage_answers, usage_completes}
 use Rattle.titan_top.proofs.top.titan.Goals as goal
 
@@ -28,30 +26,12 @@ send_usage-requires g c = usage_room (g.S.Source.left c.args.source.now) (g.K.Si
 pub returns-in-None-clause-checked : goal.returns-in-None-clause-checked
 returns-in-None-clause-checked g c = check_is_checked c.args.words.now.items _
 
-pub returns-in-None-clause-migrated : goal.returns-in-None-clause-migrated
-returns-in-None-clause-migrated g c = migration_is_migrated c.args.words.now.items _
-
-pub returns-in-None-clause-wished : goal.returns-in-None-clause-wished
-returns-in-None-clause-wished g c = want_is_wished c.args.words.now.items _
-
-pub returns-in-None-clause-watched : goal.returns-in-None-clause-watched
-returns-in-None-clause-watched g c = watch_is_watched c.args.words.now.items _
-
-pub returns-in-None-clause-least : goal.returns-in-None-clause-least
-returns-in-None-clause-least g c = watch_is_least c.args.words.now.items _
-
-pub returns-in-None-clause-sequenced : goal.returns-in-None-clause-sequenced
-returns-in-None-clause-sequenced g c = program_is_traced c.args.words.now.items _
-
 pub returns-in-None-clause-text : goal.returns-in-None-clause-text
 returns-in-None-clause-text g c = usage_answers c.args.words.now.items (sym (rw c.deref.ensures.value at c.in-None.ensures)) _ _ _ _ c.send_usage.ensures.sent
 
 pub returns-in-None-clause-complete : goal.returns-in-None-clause-complete
 returns-in-None-clause-complete g c read write =
     usage_completes c.args.words.now.items (sym (rw c.deref.ensures.value at c.in-None.ensures)) _ _ c.send_usage.ensures.only (λ e. write (c.send_usage.ensures.fault e))
-
-pub returns-in-None-clause-summary : goal.returns-in-None-clause-summary
-returns-in-None-clause-summary g c = trial_is_traced c.args.words.now.items
 
 -- ---- words of a form
 
@@ -60,37 +40,8 @@ returns-in-Some-clause-text g c =
     subst (λ t. OfInput (asked c.args.words.now.items) (g.S.Source.left c.args.source.now) (λ b. WritesAs t (g.K.Sink.written c.args.sink.now) (g.K.Sink.written c.drive_form.new.sink) (IsOutcome c.args.words.now.items b))) (sym c.status_of.ensures)
     (form_writes c.args.words.now.items c.in-Some.form (rw c.deref.ensures.value at c.in-Some.ensures) (status_of c.drive_form.result) (g.S.Source.left c.args.source.now) (g.K.Sink.written c.args.sink.now) (g.K.Sink.written c.drive_form.new.sink) (form_prints c.in-Some.form (g.S.Source.left c.args.source.now) (g.S.Source.left c.drive_form.new.source) (g.K.Sink.written c.args.sink.now) (g.K.Sink.written c.drive_form.new.sink) _ _ c.drive_form.result c.drive_form.ensures.driven))
 
-pub returns-in-Some-clause-trace : goal.returns-in-Some-clause-trace
-returns-in-Some-clause-trace g c notation = run_is_traced notation c.args.words.now.items _
-
-pub returns-in-Some-clause-summary : goal.returns-in-Some-clause-summary
-returns-in-Some-clause-summary g c = trial_is_traced c.args.words.now.items
-
-pub returns-in-Some-clause-trial_text : goal.returns-in-Some-clause-trial_text
-returns-in-Some-clause-trial_text g c seed is =
-    subst (λ f. OfInput f (g.S.Source.left c.args.source.now) (λ b. WritesAs c.status_of.result (g.K.Sink.written c.args.sink.now) (g.K.Sink.written c.drive_form.new.sink) (IsOutcome c.args.words.now.items b))) is (returns-in-Some-clause-text g c)
-
-pub returns-in-Some-clause-front : goal.returns-in-Some-clause-front
-returns-in-Some-clause-front g c notation run cut =
-    run_front c.args.words.now.items notation c.in-Some.form (g.S.Source.left c.args.source.now) (g.S.Source.left c.drive_form.new.source) (g.K.Sink.written c.args.sink.now) (g.K.Sink.written c.drive_form.new.sink) c.drive_form.result run (the_form c.args.words.now.items c.in-Some.form (rw c.deref.ensures.value at c.in-Some.ensures) (Run notation) run) (form_streams c.in-Some.form (g.S.Source.left c.args.source.now) (g.S.Source.left c.drive_form.new.source) (g.K.Sink.written c.args.sink.now) (g.K.Sink.written c.drive_form.new.sink) _ _ c.drive_form.result c.drive_form.ensures.driven) (subst IsCut c.status_of.ensures cut)
-
 pub returns-in-Some-clause-checked : goal.returns-in-Some-clause-checked
 returns-in-Some-clause-checked g c = check_is_checked c.args.words.now.items _
-
-pub returns-in-Some-clause-migrated : goal.returns-in-Some-clause-migrated
-returns-in-Some-clause-migrated g c = migration_is_migrated c.args.words.now.items _
-
-pub returns-in-Some-clause-wished : goal.returns-in-Some-clause-wished
-returns-in-Some-clause-wished g c = want_is_wished c.args.words.now.items _
-
-pub returns-in-Some-clause-watched : goal.returns-in-Some-clause-watched
-returns-in-Some-clause-watched g c = watch_is_watched c.args.words.now.items _
-
-pub returns-in-Some-clause-least : goal.returns-in-Some-clause-least
-returns-in-Some-clause-least g c = watch_is_least c.args.words.now.items _
-
-pub returns-in-Some-clause-sequenced : goal.returns-in-Some-clause-sequenced
-returns-in-Some-clause-sequenced g c = program_is_traced c.args.words.now.items _
 
 pub returns-in-Some-clause-ended : goal.returns-in-Some-clause-ended
 returns-in-Some-clause-ended g c e = all_words c.args.words.now.items c.in-Some.form (rw c.deref.ensures.value at c.in-Some.ensures) NothingRefused (g.S.Source.left c.args.source.now) (form_ended c.in-Some.form c.drive_form.result (input_for (Some c.in-Some.form) (g.S.Source.left c.args.source.now)) (g.K.Sink.written c.args.sink.now) (g.K.Sink.written c.drive_form.new.sink) (form_prints c.in-Some.form (g.S.Source.left c.args.source.now) (g.S.Source.left c.drive_form.new.source) (g.K.Sink.written c.args.sink.now) (g.K.Sink.written c.drive_form.new.sink) _ _ c.drive_form.result c.drive_form.ensures.driven) (sym c.status_of.ensures ∙ e))
@@ -127,35 +78,37 @@ returns-in-Some-clause-complete g c read write =
 pub returns-in-Some-clause-only_check : goal.returns-in-Some-clause-only_check
 returns-in-Some-clause-only_check g c e = sym (rw c.deref.ensures.value at c.in-Some.ensures) ∙ ap Some (only_check c.in-Some.form (g.S.Source.left c.args.source.now) (g.S.Source.left c.drive_form.new.source) (g.K.Sink.written c.args.sink.now) (g.K.Sink.written c.drive_form.new.sink) c.drive_form.result (form_streams c.in-Some.form (g.S.Source.left c.args.source.now) (g.S.Source.left c.drive_form.new.source) (g.K.Sink.written c.args.sink.now) (g.K.Sink.written c.drive_form.new.sink) _ _ c.drive_form.result c.drive_form.ensures.driven) (sym c.status_of.ensures ∙ e))
 
-pub returns-in-Some-clause-whole : goal.returns-in-Some-clause-whole
-returns-in-Some-clause-whole g c notation run e = run_at_end notation c.in-Some.form (g.S.Source.left c.args.source.now) (g.S.Source.left c.drive_form.new.source) (g.K.Sink.written c.args.sink.now) (g.K.Sink.written c.drive_form.new.sink) c.drive_form.result (the_form c.args.words.now.items c.in-Some.form (rw c.deref.ensures.value at c.in-Some.ensures) (Run notation) run) (form_streams c.in-Some.form (g.S.Source.left c.args.source.now) (g.S.Source.left c.drive_form.new.source) (g.K.Sink.written c.args.sink.now) (g.K.Sink.written c.drive_form.new.sink) _ _ c.drive_form.result c.drive_form.ensures.driven) (sym c.status_of.ensures ∙ e)
-
-pub returns-in-Some-clause-whole_check : goal.returns-in-Some-clause-whole_check
-returns-in-Some-clause-whole_check g c check e = check_at_end c.in-Some.form (g.S.Source.left c.args.source.now) (g.S.Source.left c.drive_form.new.source) (g.K.Sink.written c.args.sink.now) (g.K.Sink.written c.drive_form.new.sink) c.drive_form.result (the_form c.args.words.now.items c.in-Some.form (rw c.deref.ensures.value at c.in-Some.ensures) Check check) (form_streams c.in-Some.form (g.S.Source.left c.args.source.now) (g.S.Source.left c.drive_form.new.source) (g.K.Sink.written c.args.sink.now) (g.K.Sink.written c.drive_form.new.sink) _ _ c.drive_form.result c.drive_form.ensures.driven) (sym c.status_of.ensures ∙ e)
-
-pub returns-in-Some-clause-whole_migration : goal.returns-in-Some-clause-whole_migration
-returns-in-Some-clause-whole_migration g c migrate e = migration_at_end c.in-Some.form (g.S.Source.left c.args.source.now) (g.S.Source.left c.drive_form.new.source) (g.K.Sink.written c.args.sink.now) (g.K.Sink.written c.drive_form.new.sink) c.drive_form.result (the_form c.args.words.now.items c.in-Some.form (rw c.deref.ensures.value at c.in-Some.ensures) Migrate migrate) (form_streams c.in-Some.form (g.S.Source.left c.args.source.now) (g.S.Source.left c.drive_form.new.source) (g.K.Sink.written c.args.sink.now) (g.K.Sink.written c.drive_form.new.sink) _ _ c.drive_form.result c.drive_form.ensures.driven) (sym c.status_of.ensures ∙ e)
-
-pub returns-in-Some-clause-whole_wishes : goal.returns-in-Some-clause-whole_wishes
-returns-in-Some-clause-whole_wishes g c want e = wishes_at_end c.in-Some.form (g.S.Source.left c.args.source.now) (g.S.Source.left c.drive_form.new.source) (g.K.Sink.written c.args.sink.now) (g.K.Sink.written c.drive_form.new.sink) c.drive_form.result (the_form c.args.words.now.items c.in-Some.form (rw c.deref.ensures.value at c.in-Some.ensures) Want want) (form_streams c.in-Some.form (g.S.Source.left c.args.source.now) (g.S.Source.left c.drive_form.new.source) (g.K.Sink.written c.args.sink.now) (g.K.Sink.written c.drive_form.new.sink) _ _ c.drive_form.result c.drive_form.ensures.driven) (sym c.status_of.ensures ∙ e)
-
-pub returns-in-Some-clause-whole_watch : goal.returns-in-Some-clause-whole_watch
-returns-in-Some-clause-whole_watch g c watch e = watch_at_end c.in-Some.form (g.S.Source.left c.args.source.now) (g.S.Source.left c.drive_form.new.source) (g.K.Sink.written c.args.sink.now) (g.K.Sink.written c.drive_form.new.sink) c.drive_form.result (the_form c.args.words.now.items c.in-Some.form (rw c.deref.ensures.value at c.in-Some.ensures) Watch watch) (form_streams c.in-Some.form (g.S.Source.left c.args.source.now) (g.S.Source.left c.drive_form.new.source) (g.K.Sink.written c.args.sink.now) (g.K.Sink.written c.drive_form.new.sink) _ _ c.drive_form.result c.drive_form.ensures.driven) (sym c.status_of.ensures ∙ e)
-
-pub returns-in-Some-clause-whole_program : goal.returns-in-Some-clause-whole_program
-returns-in-Some-clause-whole_program g c program e = program_at_end c.in-Some.form (g.S.Source.left c.args.source.now) (g.S.Source.left c.drive_form.new.source) (g.K.Sink.written c.args.sink.now) (g.K.Sink.written c.drive_form.new.sink) c.drive_form.result (the_form c.args.words.now.items c.in-Some.form (rw c.deref.ensures.value at c.in-Some.ensures) Program program) (form_streams c.in-Some.form (g.S.Source.left c.args.source.now) (g.S.Source.left c.drive_form.new.source) (g.K.Sink.written c.args.sink.now) (g.K.Sink.written c.drive_form.new.sink) _ _ c.drive_form.result c.drive_form.ensures.driven) (sym c.status_of.ensures ∙ e)
-
 pub returns-in-Some-clause-to_script : goal.returns-in-Some-clause-to_script
 returns-in-Some-clause-to_script g c show e = show_to_script c.in-Some.form (g.S.Source.left c.args.source.now) (g.S.Source.left c.drive_form.new.source) (g.K.Sink.written c.args.sink.now) (g.K.Sink.written c.drive_form.new.sink) c.drive_form.result (the_form c.args.words.now.items c.in-Some.form (rw c.deref.ensures.value at c.in-Some.ensures) Show show) (form_streams c.in-Some.form (g.S.Source.left c.args.source.now) (g.S.Source.left c.drive_form.new.source) (g.K.Sink.written c.args.sink.now) (g.K.Sink.written c.drive_form.new.sink) _ _ c.drive_form.result c.drive_form.ensures.driven) (sym c.status_of.ensures ∙ e)
-
-pub returns-in-Some-clause-silent : goal.returns-in-Some-clause-silent
-returns-in-Some-clause-silent g c show e = show_silent c.in-Some.form (g.S.Source.left c.args.source.now) (g.S.Source.left c.drive_form.new.source) (g.K.Sink.written c.args.sink.now) (g.K.Sink.written c.drive_form.new.sink) c.drive_form.result (the_form c.args.words.now.items c.in-Some.form (rw c.deref.ensures.value at c.in-Some.ensures) Show show) (form_streams c.in-Some.form (g.S.Source.left c.args.source.now) (g.S.Source.left c.drive_form.new.source) (g.K.Sink.written c.args.sink.now) (g.K.Sink.written c.drive_form.new.sink) _ _ c.drive_form.result c.drive_form.ensures.driven) (sym c.status_of.ensures ∙ e)
-
-pub returns-in-Some-clause-silent_check : goal.returns-in-Some-clause-silent_check
-returns-in-Some-clause-silent_check g c check e = check_silent c.in-Some.form (g.S.Source.left c.args.source.now) (g.S.Source.left c.drive_form.new.source) (g.K.Sink.written c.args.sink.now) (g.K.Sink.written c.drive_form.new.sink) c.drive_form.result (the_form c.args.words.now.items c.in-Some.form (rw c.deref.ensures.value at c.in-Some.ensures) Check check) (form_streams c.in-Some.form (g.S.Source.left c.args.source.now) (g.S.Source.left c.drive_form.new.source) (g.K.Sink.written c.args.sink.now) (g.K.Sink.written c.drive_form.new.sink) _ _ c.drive_form.result c.drive_form.ensures.driven) (sym c.status_of.ensures ∙ e)
 
 pub returns-in-Some-clause-trial_not_asked : goal.returns-in-Some-clause-trial_not_asked
 returns-in-Some-clause-trial_not_asked g c = λ seed is. c.drive_form.ensures.not_asked seed (the_form c.args.words.now.items c.in-Some.form (rw c.deref.ensures.value at c.in-Some.ensures) (Trial seed) is)
 
 pub returns-in-Some-clause-trial_not_read : goal.returns-in-Some-clause-trial_not_read
 returns-in-Some-clause-trial_not_read g c = λ seed is fault. no_read c.drive_form.result (sym c.status_of.ensures ∙ fault) (c.drive_form.ensures.not_read seed (the_form c.args.words.now.items c.in-Some.form (rw c.deref.ensures.value at c.in-Some.ensures) (Trial seed) is))
+
+pub returns-in-None-clause-promised : goal.returns-in-None-clause-promised
+returns-in-None-clause-promised g c = all_promised c.args.words.now.items _
+
+pub returns-in-None-clause-also : goal.returns-in-None-clause-also
+returns-in-None-clause-also g c = all_also c.args.words.now.items _
+
+pub returns-in-Some-clause-promised : goal.returns-in-Some-clause-promised
+returns-in-Some-clause-promised g c = all_promised c.args.words.now.items _
+
+pub returns-in-Some-clause-also : goal.returns-in-Some-clause-also
+returns-in-Some-clause-also g c = all_also c.args.words.now.items _
+
+pub returns-in-Some-clause-front : goal.returns-in-Some-clause-front
+returns-in-Some-clause-front g c form words cut =
+    let here = form_front c.in-Some.form (g.S.Source.left c.drive_form.new.source) (g.S.Source.left c.args.source.now) (g.K.Sink.written c.args.sink.now) (g.K.Sink.written c.drive_form.new.sink) c.drive_form.result (form_streams c.in-Some.form (g.S.Source.left c.args.source.now) (g.S.Source.left c.drive_form.new.source) (g.K.Sink.written c.args.sink.now) (g.K.Sink.written c.drive_form.new.sink) _ _ c.drive_form.result c.drive_form.ensures.driven) (subst IsCut c.status_of.ensures cut) in
+    let asked_so = subst (λ f. OfInput f (g.S.Source.left c.args.source.now) (λ input. IsFrontOf c.in-Some.form input (g.S.Source.left c.drive_form.new.source) (g.K.Sink.written c.args.sink.now) (g.K.Sink.written c.drive_form.new.sink))) (rw c.deref.ensures.value at c.in-Some.ensures) here in
+    subst (λ f. OfInput (asked c.args.words.now.items) (g.S.Source.left c.args.source.now) (λ input. IsFrontOf f input (g.S.Source.left c.drive_form.new.source) (g.K.Sink.written c.args.sink.now) (g.K.Sink.written c.drive_form.new.sink))) (the_form c.args.words.now.items c.in-Some.form (rw c.deref.ensures.value at c.in-Some.ensures) form words) asked_so
+
+pub returns-in-Some-clause-whole : goal.returns-in-Some-clause-whole
+returns-in-Some-clause-whole g c form words reads e =
+    whole_at_end c.in-Some.form (g.S.Source.left c.args.source.now) (g.S.Source.left c.drive_form.new.source) (g.K.Sink.written c.args.sink.now) (g.K.Sink.written c.drive_form.new.sink) c.drive_form.result (subst (λ f. (meaning_of f).reads_to_end) (sym (the_form c.args.words.now.items c.in-Some.form (rw c.deref.ensures.value at c.in-Some.ensures) form words)) reads) (form_streams c.in-Some.form (g.S.Source.left c.args.source.now) (g.S.Source.left c.drive_form.new.source) (g.K.Sink.written c.args.sink.now) (g.K.Sink.written c.drive_form.new.sink) _ _ c.drive_form.result c.drive_form.ensures.driven) (sym c.status_of.ensures ∙ e)
+
+pub returns-in-Some-clause-silent : goal.returns-in-Some-clause-silent
+returns-in-Some-clause-silent g c form words silent e =
+    form_silent c.in-Some.form (g.S.Source.left c.args.source.now) (g.S.Source.left c.drive_form.new.source) (g.K.Sink.written c.args.sink.now) (g.K.Sink.written c.drive_form.new.sink) c.drive_form.result (subst (λ f. (meaning_of f).is_silent) (sym (the_form c.args.words.now.items c.in-Some.form (rw c.deref.ensures.value at c.in-Some.ensures) form words)) silent) (form_streams c.in-Some.form (g.S.Source.left c.args.source.now) (g.S.Source.left c.drive_form.new.source) (g.K.Sink.written c.args.sink.now) (g.K.Sink.written c.drive_form.new.sink) _ _ c.drive_form.result c.drive_form.ensures.driven) (sym c.status_of.ensures ∙ e)

@@ -1,0 +1,5 @@
+pub mod Done
+pub mod EndsRefused
+pub mod OneAsked
+pub mod Silent
+pub mod Telling

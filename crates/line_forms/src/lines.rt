@@ -1,0 +1,100 @@
+//! The machine of lines that each ask for something.
+
+ghost use Rattle.std.specs.Prelude.{◌≡◌, IfOk};
+
+use crate::line_form::{LineForm, OpensLines};
+use cca_base::Refusal;
+use line_machine::{End, Machine, Out};
+use model_form::{Accepted, BehindModel, refuse_stop_to, refuse_to};
+use std::alloc::{AllocError, Global};
+use std::marker::PhantomData;
+
+/// The machine of a form by its lines.
+#[derive(Drop)]
+pub struct Lines<L, I> {
+    form: L,
+    of: PhantomData<I>,
+}
+
+impl<L, I> std::marker::Model for Lines<L, I> {
+    ghost Value = { L };
+
+    ghost view = { λ w. w.form };
+}
+
+impl<L: LineForm<I> + Drop, I: Drop> Lines<L, I> {
+    /// The machine where the form stands.
+    pub fn new(form: L) -> Lines<L, I>
+        ensures { result ≡ form }
+    {
+        Lines {
+            form,
+            of: PhantomData,
+        }
+    }
+}
+
+// By the clauses of the trait a line gives `LineSteps`, and the end of the input `LineCloses` (specs/LinesMachine.antt).
+impl<L: LineForm<I> + Drop, I: Drop> Machine for Lines<L, I> {
+    ghost use Rattle.line_forms.specs.LinesMachine.{lines_machine, line_steps_are_one, line_closes_are_one};
+
+    ghost limit_of = { (lines_machine L.LineForm).limit_of };
+
+    ghost refusal = { (lines_machine L.LineForm).refusal };
+
+    ghost steps = { (lines_machine L.LineForm).steps };
+
+    ghost closes = { (lines_machine L.LineForm).closes };
+
+    ghost awaits = { (lines_machine L.LineForm).awaits };
+
+    ghost steps_are_one = { line_steps_are_one L.LineForm.own L.said_one L.serves_one };
+
+    ghost closes_are_one = { line_closes_are_one L.LineForm.own };
+
+    fn limit(&self) -> usize {
+        self.form.limit()
+    }
+
+    fn refuse(
+        &self,
+        alloc: Global,
+        number: u64,
+        code: u8,
+        out: &mut Out,
+    ) -> Result<(), AllocError> {
+        let refusal = Refusal::bare(code);
+        let json = self.form.is_json();
+        refuse_to(alloc, json, self.form.model(), number, &refusal, out)
+    }
+
+    fn step(
+        &mut self,
+        alloc: Global,
+        number: u64,
+        line: &[u8],
+        out: &mut Out,
+    ) -> Result<Option<End>, AllocError> {
+        match self.form.read(alloc, line) {
+            Ok(Some(item)) => self.form.serve(alloc, number, &item, out),
+            Ok(None) => Ok(None),
+            Err(stop) => {
+                let json = self.form.is_json();
+                refuse_stop_to(alloc, json, self.form.model(), number, &stop, out)?;
+                Ok(Some(End::Refused))
+            }
+        }
+    }
+
+    fn close(&mut self, alloc: Global, count: u64, out: &mut Out) -> Result<End, AllocError> {
+        self.form.close(alloc, count, out)
+    }
+}
+
+impl<L: OpensLines<I> + Drop, I: Drop> BehindModel for Lines<L, I> {
+    ghost first = { L.first };
+
+    fn open(alloc: Global, accepted: Accepted) -> Result<Lines<L, I>, AllocError> {
+        Ok(Lines::new(L::open(alloc, accepted)?))
+    }
+}

@@ -1,0 +1,71 @@
+//! A line that is refused: its refusal is printed.
+
+ghost use Rattle.std.specs.Prelude.{◌≡◌, ℕ, ◌++◌, Some, OnOk, OnErr};
+ghost use Rattle.cca_base.specs.Prelude.{bare, stop_code};
+ghost use Rattle.line_machine.specs.Outs.{Appended, IsFront};
+ghost use Rattle.model_form.specs.Acceptance.{SaysNotAccepted};
+ghost use Rattle.trace_text.specs.Json.{refusal_text};
+
+use acceptance::NotAccepted;
+use cca_base::{Model, Refusal, Stop};
+use line_machine::Out;
+use std::alloc::{AllocError, Global};
+use trace_text::refusal_line;
+
+/// Appends the line of a refusal. The error is out of memory, and then all is as it was.
+pub fn refuse_to(
+    alloc: Global,
+    json: bool,
+    model: &Model,
+    number: u64,
+    refusal: &Refusal,
+    out: &mut Out,
+) -> Result<(), AllocError>
+    ensures ok { OnOk result
+        (out.new.bytes ≡ out.old.bytes ++ refusal_text json model.now number refusal.now) }
+    ensures err { OnErr result (out.new ≡ out.old) }
+    ensures front { IsFront out.old out.new }
+{
+    let text = refusal_line(alloc, model, number, refusal, json)?;
+    out.push(text.as_slice())
+}
+
+/// The same for a line that was not taken, by the code alone.
+pub fn refuse_stop_to(
+    alloc: Global,
+    json: bool,
+    model: &Model,
+    number: u64,
+    stop: &Stop,
+    out: &mut Out,
+) -> Result<(), AllocError>
+    ensures ok { OnOk result ((code : ℕ) × (stop_code stop.now ≡ Some code)
+        × (out.new.bytes ≡ out.old.bytes ++ refusal_text json model.now number (bare code))) }
+    ensures err { OnErr result (out.new ≡ out.old) }
+    ensures front { IsFront out.old out.new }
+{
+    match stop.code() {
+        Some(code) => refuse_to(alloc, json, model, number, &Refusal::bare(code), out),
+        None => Err(AllocError),
+    }
+}
+
+/// The same for a model that is not accepted.
+pub fn refuse_model_to(
+    alloc: Global,
+    json: bool,
+    number: u64,
+    stop: NotAccepted,
+    out: &mut Out,
+) -> Result<(), AllocError>
+    ensures ok { OnOk result (Appended (SaysNotAccepted json number stop) out.old out.new) }
+    ensures err { OnErr result (out.new ≡ out.old) }
+    ensures front { IsFront out.old out.new }
+{
+    match stop {
+        NotAccepted::Refused { refusal, model } => {
+            refuse_to(alloc, json, &model, number, &refusal, out)
+        }
+        NotAccepted::Memory => Err(AllocError),
+    }
+}
