@@ -1,10 +1,12 @@
 -- Solutions where one value of one subject is excluded.
-use Rattle.std.proofs.Common.{◌≡◌, ◌≢◌, ◌==◌, ◌&&◌, ◌<◌, not, ℕ, true, List, Option, Some, None, IfSome, IsNone, length, slice_index, sym, ap, subst, ◌∙◌, inl, inr}
+use Rattle.std.proofs.Common.{◌≡◌, ◌≢◌, ◌==◌, ◌&&◌, ◌<◌, ◌≤◌, not, ℕ, Bool, true, false, List, length, slice_index, sym, ap, subst, ◌∙◌, inl, inr}
 use Rattle.std.specs.Prelude.{nat_lt}
 use Rattle.std.proofs.lemmas.Bool.{cases_eq, and_parts, and_from, lt-ltb, eq-eqb, ne_eqb, not_from_true, not_from_false, false≢true}
 use Rattle.cca_base.specs.Sets.{has}
 use Rattle.cca_base.specs.declared.limits.TheConstants.{MAX_CHOICES}
 use Rattle.clause_form.specs.declared.clause.Clause.{Clause}
+use Rattle.clause_form.specs.Clauses.{AllBelow}
+use Rattle.consistency.specs.declared.subjects.TheConstants.{SET_SUBJECTS}
 use Rattle.consistency.specs.Problem.{IsProblem}
 use Rattle.consistency.specs.Search.{IsSolution, IsSolutionOrNone}
 
@@ -17,6 +19,13 @@ module _ (clauses : List Clause) (base narrower : List ℕ) (subject value : ℕ
         ap (λ (j : ℕ). has (slice_index base j) v) e ∙ parts.0)
     | inr ne ↦ ap (λ (s : ℕ). has s v) (sym (others d ne)) ∙ h
   ]
+
+  pub narrower_proper : IsProblem clauses narrower
+  narrower_proper = record {
+    small = subst (λ n. n ≤ SET_SUBJECTS) (sym full) proper.small;
+    within = subst (λ n. AllBelow n clauses) (sym full) proper.within;
+    few = λ d v h. proper.few d v (inside d v h);
+  }
 
   other_solution : (xs : List ℕ) → IsSolution clauses narrower xs → IsSolution clauses base xs × (slice_index xs subject ≢ value)
   other_solution xs h = (
@@ -43,13 +52,13 @@ module _ (clauses : List Clause) (base narrower : List ℕ) (subject value : ℕ
   }
 
   -- what a search there finds has another value, and where it finds nothing all have this one
-  pub other_some : (o : Option (List ℕ)) → IsSolutionOrNone clauses narrower o → IfSome o (λ xs. IsSolution clauses base xs × (slice_index xs subject ≢ value))
-  other_some None h = record {}
-  other_some (Some xs) h = other_solution xs h
+  pub other_some : (xs : List ℕ) (b : Bool) → IsSolutionOrNone clauses narrower xs b → b ≡ true → IsSolution clauses base xs × (slice_index xs subject ≢ value)
+  other_some xs false h e = absurd (false≢true e)
+  other_some xs true h e = other_solution xs h
 
-  pub other_none : (o : Option (List ℕ)) → IsSolutionOrNone clauses narrower o → IsNone o → (xs : List ℕ) → IsSolution clauses base xs → slice_index xs subject ≡ value
-  other_none (Some ys) h e xs solution = absurd (cc)
-  other_none None h e xs solution = elim (cases_eq (slice_index xs subject) value) [
+  pub other_none : (ys : List ℕ) (b : Bool) → IsSolutionOrNone clauses narrower ys b → b ≡ false → (xs : List ℕ) → IsSolution clauses base xs → slice_index xs subject ≡ value
+  other_none ys true h e xs solution = absurd (false≢true (sym e))
+  other_none ys false h e xs solution = elim (cases_eq (slice_index xs subject) value) [
     | inl same ↦ same
     | inr ne ↦ absurd (h xs (to_other xs solution ne))
   ]

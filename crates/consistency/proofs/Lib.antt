@@ -1,6 +1,7 @@
 pub mod SubjectSetLaws
 pub mod Narrow
 pub mod SearchFrom
+pub mod PathLaws
 pub mod Bridge
 pub mod Orders
 pub mod FollowsLaws

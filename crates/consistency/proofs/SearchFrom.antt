@@ -1,7 +1,7 @@
 -- What a search knows, one value at a time.
-use Rattle.std.proofs.Common.{take, ◌≡◌, inl, inr, ℕ, ◌+◌, ◌<◌, ◌≤◌, ◌||◌, ◌==◌, true, false, List, [], ◌∷◌, ◌++◌, length, slice_index, slice_index_or, slice_set, sym, ap, subst, ◌∙◌, arith, get_or-set_same, get_or-set_other, length-set, eq-eqb}
+use Rattle.std.proofs.Common.{take, ◌≡◌, inl, inr, ℕ, ◌<◌, ◌≤◌, ◌==◌, true, false, List, [], ◌∷◌, ◌++◌, length, slice_index, slice_index_or, slice_set, sym, ap, subst, ◌∙◌, arith, get_or-set_same, get_or-set_other, length-set, eq-eqb}
 use Rattle.std.specs.Prelude.{nat_lt}
-use Rattle.std.proofs.lemmas.Bool.{lt-ltb, cases_eq, cases_order, true≢false}
+use Rattle.std.proofs.lemmas.Bool.{lt-ltb, cases_eq, true≢false}
 use Rattle.std.proofs.lemmas.List.{get_or_append_left, ext_get_or, length_push}
 use Rattle.std.proofs.Math.Seq.{get_or-append_seam, take-append_seam}
 use Rattle.cca_base.specs.Sets.{has}
@@ -11,8 +11,7 @@ use Rattle.consistency.specs.declared.subjects.SubjectSet.{SubjectSet}
 use Rattle.consistency.specs.declared.subjects.TheConstants.{SET_SUBJECTS}
 use Rattle.cca_base.specs.declared.limits.TheConstants.{MAX_CHOICES}
 use Rattle.consistency.specs.Subjects.{is_in}
-use Rattle.consistency.specs.Search.{IsSolution, AreMet, IsFirstFrom, IsClash, Assumed, choosing, Agrees, Extends, Knows, nothing, values_at, reason_at}
-use Rattle.consistency.proofs.Narrow.{or_l, or_r}
+use Rattle.consistency.specs.Search.{IsSolution, AreMet, IsClash, Assumed, choosing, Agrees, Knows, nothing, values_at, reason_at}
 
 -- the longer prefix says more
 agrees_shorter : (a : Assumed) (v : ℕ) (r : SubjectSet) (xs : List ℕ) → Agrees (choosing a v) r xs → Agrees a r xs
@@ -20,7 +19,7 @@ agrees_shorter a v r xs h d m =
     let both = h d m in
     (both.0, λ n. (let k : d < length (a.chosen ++ v ∷ []) = omega (arith, length_push a.chosen v) in both.1 k ∙ get_or_append_left a.chosen (v ∷ []) 0 d n))
 
-agrees_longer : (a : Assumed) (v : ℕ) (r : SubjectSet) (xs : List ℕ) → (is_in r (length a.chosen) ≡ true → slice_index xs (length a.chosen) ≡ v) → Agrees a r xs → Agrees (choosing a v) r xs
+pub agrees_longer : (a : Assumed) (v : ℕ) (r : SubjectSet) (xs : List ℕ) → (is_in r (length a.chosen) ≡ true → slice_index xs (length a.chosen) ≡ v) → Agrees a r xs → Agrees (choosing a v) r xs
 agrees_longer a v r xs last h d m = (
   (h d m).0,
   λ n. elim (cases_eq d (length a.chosen)) [
@@ -51,75 +50,16 @@ chosen domains s v set because_of h set_is why_is a xs at knows d k agrees =
           ∙ knows d dk (λ x m. agrees_shorter a v (reason_at (slice_set domains s one) d) xs agrees x (ap (λ (y : Domain). is_in y.reason x) same ∙ m)))
     ]
 
-module _ (clauses : List Clause) (base : List ℕ) (few : (d v : ℕ) → has (slice_index base d) v ≡ true → v < MAX_CHOICES) where
-  -- a solution's values are small and meet the clauses, and agree with what is assumed
-  solution_met : (xs : List ℕ) → IsSolution clauses base xs → AreMet clauses (length base) xs
-  solution_met xs h = record { full = h.full; small = λ d n. few d (slice_index xs d) (h.within d n); met = h.met }
-
-  solution_agrees : (prefix xs : List ℕ) (r : SubjectSet) → IsSolution clauses base xs → Extends prefix xs → Agrees (record { base = base; chosen = prefix }) r xs
-  solution_agrees prefix xs r h extends d m = (h.within d, extends d)
-
-  module _ (prefix : List ℕ) (domains : List Domain) (conflict_set : SubjectSet) (value : ℕ)
-      (knows : (xs : List ℕ) → AreMet clauses (length base) xs → Knows (record { base = base; chosen = prefix }) domains xs)
-      (room : length prefix < length domains)
-      (blamed : (d : ℕ) → is_in (reason_at domains (length prefix)) d ≡ true → is_in conflict_set d ≡ true)
-      (tried : (xs : List ℕ) → AreMet clauses (length base) xs → Agrees (record { base = base; chosen = prefix }) conflict_set xs → slice_index xs (length prefix) < value → ⊥) where
-    abbrev held : Assumed
-    held = record { base = base; chosen = prefix }
-
-    in_set : (xs : List ℕ) → AreMet clauses (length base) xs → Agrees held conflict_set xs → has (values_at domains (length prefix)) (slice_index xs (length prefix)) ≡ true
-    in_set xs h agrees = knows xs h (length prefix) room (λ d m. agrees d (blamed d m))
-
-    -- a value that isn't in the set is tried
-    pub tried_absent : has (values_at domains (length prefix)) value ≡ false → (xs : List ℕ) → AreMet clauses (length base) xs → Agrees held conflict_set xs → slice_index xs (length prefix) < value + 1 → ⊥
-    tried_absent gone xs h agrees k =
-        elim (cases_eq (slice_index xs (length prefix)) value) [
-          | inl e ↦ true≢false (sym (subst (λ (v : ℕ). has (values_at domains (length prefix)) v ≡ true) e (in_set xs h agrees)) ∙ gone)
-          | inr ne ↦ tried xs h agrees (omega arith)
-        ]
-
-    -- so is one with which there's a clash
-    pub tried_clash : (subjects more : SubjectSet) → ((d : ℕ) → is_in more d ≡ (is_in conflict_set d || is_in subjects d)) → IsClash clauses base (prefix ++ value ∷ []) subjects
-        → (xs : List ℕ) → AreMet clauses (length base) xs → Agrees held more xs → slice_index xs (length prefix) < value + 1 → ⊥
-    tried_clash subjects more unions clash xs h agrees k =
-        elim (cases_eq (slice_index xs (length prefix)) value) [
-          | inl e ↦ clash xs h (agrees_longer held value subjects xs (λ m. e) (λ d m. agrees d (or_r _ _ _ (unions d) m)))
-          | inr ne ↦ tried xs h (λ d m. agrees d (or_l _ _ _ (unions d) m)) (omega arith)
-        ]
-
-    -- what comes first with the first value that has a solution comes first
-    pub found : (xs : List ℕ) → length domains ≡ length base → IsFirstFrom clauses base (prefix ++ value ∷ []) xs → IsFirstFrom clauses base prefix xs
-    found xs same first = record {
-      solution = first.solution;
-      extends = λ d n. (let k : d < length (prefix ++ value ∷ []) = omega (arith, length_push prefix value) in first.extends d k ∙ get_or_append_left prefix (value ∷ []) 0 d n);
-      first = λ ys h extends.
-          (let s : length prefix < length (prefix ++ value ∷ []) = omega (arith, length_push prefix value) in
-          let mine : slice_index xs (length prefix) ≡ value = first.extends (length prefix) s ∙ get_or-append_seam prefix value [] 0 in
-          elim (cases_order (slice_index ys (length prefix)) value) [
-            | inl e ↦ first.first ys h (λ d n. elim (cases_eq d (length prefix)) [
-              | inl at ↦ subst (λ (k : ℕ). slice_index ys k ≡ slice_index (prefix ++ value ∷ []) k) (sym at) (e ∙ sym (get_or-append_seam prefix value [] 0))
-              | inr ne ↦ (let k : d < length prefix = omega (arith, length_push prefix value) in extends d k ∙ sym (get_or_append_left prefix (value ∷ []) 0 d k))
-            ])
-            | inr (inl l) ↦ absurd (tried ys (solution_met ys h) (solution_agrees prefix ys conflict_set h extends) l)
-            | inr (inr g) ↦ inr (record {
-              place = length prefix;
-              inside = (let f = first.solution.full in omega arith);
-              same = λ d n. (let k : d < length (prefix ++ value ∷ []) = omega (arith, length_push prefix value) in first.extends d k ∙ (get_or_append_left prefix (value ∷ []) 0 d n ∙ sym (extends d n)));
-              less = omega arith;
-            })
-          ]);
-    }
-
 -- a clash that doesn't speak of the subject stands without its value
 pub early : (clauses : List Clause) (base prefix : List ℕ) (value : ℕ) (subjects : SubjectSet) → is_in subjects (length prefix) ≡ false → IsClash clauses base (prefix ++ value ∷ []) subjects → IsClash clauses base prefix subjects
 early clauses base prefix value subjects gone clash xs h agrees = clash xs h (agrees_longer (record { base = base; chosen = prefix }) value subjects xs (λ m. absurd (true≢false (sym m ∙ gone))) agrees)
 
-same_list : (base prefix xs : List ℕ) → length prefix ≡ length base → length xs ≡ length base → Extends prefix xs → prefix ≡ xs
-same_list base prefix xs full f extends = let e : length prefix ≡ length xs = omega arith in ext_get_or 0 prefix xs e (λ i n. sym (extends i n))
-
+-- where each subject has a value that is no solution all of them are to blame
 pub whole_clash : (clauses : List Clause) (base prefix : List ℕ) (all : SubjectSet) → length prefix ≡ length base → length base ≤ SET_SUBJECTS → ((m : ℕ) → m < SET_SUBJECTS → is_in all m ≡ true) → (IsSolution clauses base prefix → ⊥) → IsClash clauses base prefix all
 whole_clash clauses base prefix all full small every wrong xs h agrees =
-    let same : prefix ≡ xs = same_list base prefix xs full h.full (λ d n. (agrees d (every d (omega arith))).1 n) in
+    let long : length xs ≡ length base = h.full in
+    let e : length prefix ≡ length xs = omega arith in
+    let same : prefix ≡ xs = ext_get_or 0 prefix xs e (λ d n. sym ((agrees d (every d (omega arith))).1 n)) in
     wrong (subst (IsSolution clauses base) (sym same) (record { full = h.full; within = λ d n. (agrees d (every d (omega arith))).0 n; met = h.met }))
 
 -- at first what is known is that values are small
@@ -129,6 +69,11 @@ start clauses a n made domains xs same full values h d k agrees =
     let inside : d < n = omega (arith, ap (λ (ds : List Domain). length ds) same) in
     ap (λ (ds : List Domain). has (values_at ds d) (slice_index xs d)) same ∙ (values d (slice_index xs d) inside ∙ lt-ltb (slice_index xs d) MAX_CHOICES (h.small d inside))
 
+-- no solution agrees with what is to blame
+pub clash_none : (clauses : List Clause) (base : List ℕ) (subjects : SubjectSet) → ((d v : ℕ) → has (slice_index base d) v ≡ true → v < MAX_CHOICES) → IsClash clauses base [] subjects → (xs : List ℕ) → IsSolution clauses base xs → ⊥
+clash_none clauses base subjects few clash xs h =
+    clash xs (record { full = h.full; small = λ d n. few d (slice_index xs d) (h.within d n); met = h.met }) (λ d m. (h.within d, λ n. absurd (omega (arith, n))))
+
 -- what a call wrote into a vector's slice
-pub written : {X : Type 0} (n : ℕ) (now fresh rest : List X) → now ≡ take n (fresh ++ rest) → n ≡ length fresh → now ≡ fresh
-written n now fresh rest h e = h ∙ (ap (λ (k : ℕ). take k (fresh ++ rest)) e ∙ take-append_seam fresh rest)
+pub written : {X : Type 0} (n : ℕ) (fresh rest : List X) → n ≡ length fresh → take n (fresh ++ rest) ≡ fresh
+written n fresh rest e = ap (λ (k : ℕ). take k (fresh ++ rest)) e ∙ take-append_seam fresh rest

@@ -1,11 +1,12 @@
 -- Members of a set of subjects.
-use Rattle.std.proofs.Common.{◌≡◌, ℕ, ◌+◌, ◌*◌, ◌/◌, ◌%◌, ◌<◌, ◌≤◌, ◌^◌, ◌-◌, ◌≢◌, Bool, true, false, ◌||◌, eqb, List, length, set, get_or, slice_index, bit_or, sym, ap, subst, ◌∙◌, arith, inl, inr, get_or-set_same, get_or-set_other, replicate}
-use Rattle.std.proofs.lemmas.Bool.{cases_eq, cases_lt, eq-eqb, ne_eqb}
+use Rattle.std.proofs.Common.{◌≡◌, ℕ, ◌+◌, ◌*◌, ◌/◌, ◌%◌, ◌<◌, ◌≤◌, ◌^◌, ◌-◌, ◌≢◌, Bool, true, false, ◌||◌, eqb, List, length, set, get_or, slice_index, bit_or, bit_and, ◌&&◌, sym, ap, subst, ◌∙◌, arith, inl, inr, w64, get_or-set_same, get_or-set_other, replicate}
+use Rattle.std.proofs.lemmas.Bool.{cases_eq, cases_lt, eq-eqb, ne_eqb, true≢false}
 use Rattle.std.proofs.lemmas.List.{get_or-replicate, get_or_past}
-use Rattle.std.proofs.lemmas.Nat.Bits.{bit_at_ones}
+use Rattle.std.proofs.lemmas.Nat.Bits.{bit_at_ones, bit_at-trailing_zeros}
+use Rattle.std.specs.Int.{trailing_zeros}
 use Rattle.std.proofs.Math.Nat.{div-add-mod}
 use Rattle.consistency.specs.declared.subjects.TheConstants.{WORD_BITS}
-use Rattle.cca_base.proofs.SetLaws.{members_of, has-or, has-empty}
+use Rattle.cca_base.proofs.SetLaws.{members_of, has-or, has-and, has-empty}
 use Rattle.cca_base.specs.Sets.{has}
 
 -- by words and places in them
@@ -63,3 +64,27 @@ joined_in n words one other i full full1 full2 end joined k m = elim (cases_lt k
   | inl l ↦ ap (λ (w : ℕ). has w m) (joined k l) ∙ has-or (slice_index one k) (slice_index other k) m
   | inr g ↦ (let g' : n ≤ k = omega arith in past n words k m full g' ∙ (sym (past n other k m full2 g') ∙ ap (λ (b : Bool). b || has (slice_index other k) m) (sym (past n one k m full1 g'))))
 ]
+
+-- ---- sets with nothing in common
+
+and_false : (a b : Bool) → a ≡ true → (a && b) ≡ false → b ≡ false
+and_false true b e h = h
+and_false false b e h = absurd (true≢false (sym e))
+
+pub apart_in : (n : ℕ) (one other : List ℕ) (i : ℕ) → length one ≡ n → n ≤ i → ((k : ℕ) → k < i → bit_and (slice_index one k) (slice_index other k) ≡ 0)
+    → (k m : ℕ) → has (slice_index one k) m ≡ true → has (slice_index other k) m ≡ false
+apart_in n one other i full end apart k m h = elim (cases_lt k i) [
+  | inl l ↦ and_false _ _ h (sym (has-and (slice_index one k) (slice_index other k) m) ∙ (ap (λ (w : ℕ). has w m) (apart k l) ∙ has-empty m))
+  | inr g ↦ absurd (true≢false (sym h ∙ past n one k m full (omega arith)))
+]
+
+-- ---- the first subject
+
+pub lowest_in : (words : List ℕ) (k word zeros n : ℕ) → word ≡ slice_index words k → word ≢ 0 → word < 2 ^ WORD_BITS → zeros ≡ trailing_zeros w64 word → n ≡ k * WORD_BITS + zeros
+    → has (slice_index words (n / WORD_BITS)) (n % WORD_BITS) ≡ true
+lowest_in words k word zeros n read some fits lowest at =
+    let one = bit_at-trailing_zeros w64 word (omega arith) fits in
+    let below : zeros < WORD_BITS = omega (arith, one.0) in
+    let e : n / WORD_BITS ≡ k = omega arith in
+    let r : n % WORD_BITS ≡ zeros = omega arith in
+    ap (λ (j : ℕ). has (slice_index words j) (n % WORD_BITS)) e ∙ (ap (has (slice_index words k)) (r ∙ lowest) ∙ (ap (λ (w : ℕ). has w (trailing_zeros w64 word)) (sym read) ∙ ap (λ (b : ℕ). eqb b 1) one.1))

@@ -1,7 +1,9 @@
 pub mod Subjects
 pub mod Search
+pub mod Path
 pub mod Bounds
 pub mod Problem
+pub mod Space
 pub mod Found
 pub mod Base
 pub mod Conflict

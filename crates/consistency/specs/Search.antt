@@ -1,5 +1,5 @@
 -- Solutions of clauses, and what a search for the first one knows.
-use Rattle.std.specs.Prelude.{◌≡◌, ◌⊎◌, ◌↔◌, ℕ, ◌+◌, ◌<◌, IsTrue, Contains, ◌≢◌, true, false, List, ◌∷◌, [], ◌++◌, length, slice_index, slice_index_or, All, Option, Some, None}
+use Rattle.std.specs.Prelude.{◌≡◌, ◌⊎◌, ◌↔◌, ℕ, Bool, ◌+◌, ◌<◌, IsTrue, Contains, ◌≢◌, true, false, List, ◌∷◌, [], ◌++◌, length, slice_index, slice_index_or, All, Option, Some, None}
 use Rattle.cca_base.specs.declared.cube.Pair.{Pair}
 use Rattle.cca_base.specs.Cube.{IsRising}
 use Rattle.cca_base.specs.Sets.{has}
@@ -11,8 +11,6 @@ use Rattle.consistency.specs.declared.domain.Domain.{Domain}
 use Rattle.consistency.specs.declared.subjects.SubjectSet.{SubjectSet}
 use Rattle.consistency.specs.declared.visit.Visit.{Visit}
 use Rattle.consistency.specs.declared.visit.Visit.TheVariants.{Same, Narrowed, Clash}
-use Rattle.consistency.specs.declared.search.SearchResult.{SearchResult}
-use Rattle.consistency.specs.declared.search.SearchResult.TheVariants as outcome
 use Rattle.consistency.specs.Subjects.{is_in}
 
 -- every clause is true
@@ -25,10 +23,10 @@ pub record IsSolution (clauses : List Clause) (base xs : List ℕ) : Type 0 wher
   pub within : (d : ℕ) → d < length base → has (slice_index base d) (slice_index xs d) ≡ true
   pub met : AllMet xs clauses
 
--- a solution, or none where there is none
-abbrev pub IsSolutionOrNone : List Clause → List ℕ → Option (List ℕ) → Type 0
-IsSolutionOrNone clauses base None = (xs : List ℕ) → IsSolution clauses base xs → ⊥
-IsSolutionOrNone clauses base (Some xs) = IsSolution clauses base xs
+-- a solution where the answer is yes, and none at all where it is no
+abbrev pub IsSolutionOrNone : List Clause → List ℕ → List ℕ → Bool → Type 0
+IsSolutionOrNone clauses base xs true = IsSolution clauses base xs
+IsSolutionOrNone clauses base xs false = (ys : List ℕ) → IsSolution clauses base ys → ⊥
 
 -- at the first place where they differ the one is less
 pub record IsLess (xs ys : List ℕ) : Type 0 where
@@ -70,10 +68,6 @@ abbrev pub Agrees : Assumed → SubjectSet → List ℕ → Type 0
 Agrees a subjects xs = (d : ℕ) → is_in subjects d ≡ true
     → (d < length a.base → has (slice_index a.base d) (slice_index xs d) ≡ true) × (d < length a.chosen → slice_index xs d ≡ slice_index a.chosen d)
 
--- the values begin with the prefix
-abbrev pub Extends : List ℕ → List ℕ → Type 0
-Extends prefix xs = (d : ℕ) → d < length prefix → slice_index xs d ≡ slice_index prefix d
-
 -- each value is in its domain, if the values agree with what is assumed on the subjects that are its reason
 abbrev pub Knows : Assumed → List Domain → List ℕ → Type 0
 Knows a domains xs = (d : ℕ) → d < length domains → Agrees a (reason_at domains d) xs → has (values_at domains d) (slice_index xs d) ≡ true
@@ -107,7 +101,7 @@ RefutesAll clauses domains reasons = (a : Assumed) (xs : List ℕ) → AllMet xs
 -- what a visit says of a clause
 abbrev pub IsVisit : List Literal → List Domain → Visit → Type 0
 IsVisit literals domains Same = Unit {0}
-IsVisit literals domains (Narrowed subject) = Unit {0}
+IsVisit literals domains (Narrowed subject) = subject < length domains
 IsVisit literals domains (Clash reasons) = Refutes literals domains reasons
 
 -- a small value for each of so many subjects, with which every clause is true
@@ -120,25 +114,19 @@ pub record AreMet (clauses : List Clause) (n : ℕ) (xs : List ℕ) : Type 0 whe
 abbrev pub KnowsAll : List Clause → List ℕ → List ℕ → List Domain → Type 0
 KnowsAll clauses base prefix domains = (xs : List ℕ) → AreMet clauses (length base) xs → Knows (record { base = base; chosen = prefix }) domains xs
 
--- the first solution that extends the prefix
-pub record IsFirstFrom (clauses : List Clause) (base prefix xs : List ℕ) : Type 0 where
-  pub solution : IsSolution clauses base xs
-  pub extends : Extends prefix xs
-  pub first : (ys : List ℕ) → IsSolution clauses base ys → Extends prefix ys → (xs ≡ ys) ⊎ IsLess xs ys
-
 -- no values with which every clause is true agree on these subjects with what is assumed
 abbrev pub IsClash : List Clause → List ℕ → List ℕ → SubjectSet → Type 0
 IsClash clauses base prefix subjects = (xs : List ℕ) → AreMet clauses (length base) xs → Agrees (record { base = base; chosen = prefix }) subjects xs → ⊥
 
--- the first solution that extends the prefix, or subjects that are to blame that there is none
-abbrev pub IsSearchResult : List Clause → List ℕ → List ℕ → SearchResult → Type 0
-IsSearchResult clauses base prefix (outcome.Found xs) = IsFirstFrom clauses base prefix xs
-IsSearchResult clauses base prefix (outcome.Clash subjects) = IsClash clauses base prefix subjects
-
 -- a solution, or subjects that are to blame that there is none
-abbrev pub IsSolutionOrClash : List Clause → List ℕ → SearchResult → Type 0
-IsSolutionOrClash clauses base (outcome.Found xs) = IsSolution clauses base xs
-IsSolutionOrClash clauses base (outcome.Clash subjects) = IsClash clauses base [] subjects
+abbrev pub IsSolutionOrClash : List Clause → List ℕ → List ℕ → Option SubjectSet → Type 0
+IsSolutionOrClash clauses base xs None = IsSolution clauses base xs
+IsSolutionOrClash clauses base xs (Some subjects) = IsClash clauses base [] subjects
+
+-- the first solution, or subjects that are to blame that there is none
+abbrev pub IsFirstOrClash : List Clause → List ℕ → List ℕ → Option SubjectSet → Type 0
+IsFirstOrClash clauses base xs None = IsFirst clauses base xs
+IsFirstOrClash clauses base xs (Some subjects) = IsClash clauses base [] subjects
 
 -- what was known is known of the values that have one value more
 abbrev pub Chooses : List Domain → ℕ → ℕ → List Domain → Type 0

@@ -9,16 +9,17 @@ ghost use Rattle.consistency.specs.Bounds.{HoldSolutions};
 ghost use Rattle.consistency.specs.Forced.{AreForced};
 ghost use Rattle.consistency.specs.Problem.{IsProblem};
 ghost use Rattle.consistency.specs.Search.{IsSolution, IsBackbone, AreVaried};
+ghost use Rattle.consistency.specs.Space.{HasRoom, HasSpare};
 ghost use Rattle.consistency.specs.declared.subjects.TheConstants.{SET_SUBJECTS};
 ghost use Rattle.consistency.specs.Worlds.{AreWorldsOf};
 
 use crate::base::model_base;
 use crate::bounds::bounds;
 use crate::guess::solution_or_clash;
-use crate::other::other_solution;
+use crate::other::is_other_found;
 use crate::pairs::all_pairs;
 use crate::problem::Problem;
-use crate::search::SearchResult;
+use crate::space::{Space, Spare};
 use crate::subjects::{SubjectSet, has_subject, no_subject, with_subject};
 use crate::worlds::Worlds;
 use cca_base::{List, Model, Pair, Seen, State, ValueSet, VarSet};
@@ -48,14 +49,16 @@ fn backbone(
     problem: &Problem,
     base: &[ValueSet],
     sets: &[ValueSet],
-    components: usize,
     values: &[u8],
+    components: usize,
     vars: VarSet,
+    spare: &mut Spare,
 ) -> Result<List<Pair>, AllocError>
     requires proper { IsProblem problem.now.clauses base.now }
     requires bounds { HoldSolutions problem.now.clauses base.now sets.now }
     requires solution { IsSolution problem.now.clauses base.now values.now }
     requires front { components ≤ length base.now }
+    requires room { HasSpare (length base.now) spare.old }
     ensures { IfOk result (IsBackbone problem.now.clauses base.now components vars) }
 {
     let mut pairs = List::new(alloc);
@@ -63,45 +66,55 @@ fn backbone(
     for item in 0..(values.len() - components) as u16 {
         let subject = components + item as usize;
         if vars.has(item) && !has_subject(&varied, subject as u16) {
-            match other_solution(alloc, problem, base, sets, subject, values)? {
-                Some(other) => varied = with_differing(&varied, values, other.as_slice()),
-                None => pairs.push(Pair {
-                    item,
-                    value: values[subject],
-                })?,
+            if is_other_found(problem, base, sets, values, subject, spare) {
+                varied = with_differing(&varied, values, &spare.other);
+            } else {
+                let value = values[subject];
+                pairs.push(Pair { item, value })?;
             }
         }
     }
     Ok(pairs)
 }
 
-/// The variables of the set that have one value in all solutions, where there is some.
+/// The variables of the set that have one value in all solutions of the base, where there is some.
 fn first_backbone(
     alloc: Global,
     problem: &Problem,
-    base: &[ValueSet],
     components: usize,
     vars: VarSet,
+    space: &mut Space,
 ) -> Result<List<Pair>, AllocError>
-    requires proper { IsProblem problem.now.clauses base.now }
-    requires front { components ≤ length base.now }
-    requires some { ((xs : List ℕ) → IsSolution problem.now.clauses base.now xs → ⊥) → ⊥ }
-    ensures { IfOk result (IsBackbone problem.now.clauses base.now components vars) }
+    requires proper { IsProblem problem.now.clauses space.old.base.items }
+    requires room { HasRoom (length space.old.base.items) space.old }
+    requires front { components ≤ length space.old.base.items }
+    requires some { ((xs : List ℕ) → IsSolution problem.now.clauses space.old.base.items xs → ⊥)
+        → ⊥ }
+    ensures { IfOk result (IsBackbone problem.now.clauses space.old.base.items components vars) }
 {
-    let sets = bounds(alloc, problem, base)?;
-    let sets = sets.as_slice();
-    match solution_or_clash(alloc, problem, base, Vec::from_slice(alloc, sets)?)? {
-        SearchResult::Found(values) => backbone(
-            alloc,
-            problem,
-            base,
-            sets,
-            components,
-            values.as_slice(),
-            vars,
-        ),
-        SearchResult::Clash(_) => Ok(List::new(alloc)),
+    let spare = &mut space.spare;
+    bounds(problem, &space.base, &mut space.sets);
+    spare.guessed.copy_from_slice(&space.sets);
+    let clash = solution_or_clash(
+        problem,
+        &space.base,
+        &mut spare.guessed,
+        &mut spare.domains,
+        &mut space.values,
+    );
+    if clash.is_some() {
+        return Ok(List::new(alloc));
     }
+    backbone(
+        alloc,
+        problem,
+        &space.base,
+        &space.sets,
+        &space.values,
+        components,
+        vars,
+        spare,
+    )
 }
 
 impl Worlds {
@@ -121,9 +134,10 @@ impl Worlds {
         ensures values { IfOk result (λ r. All (λ p. HasValue model.now p.item p.value) r.pairs) }
     {
         let modes = all_pairs(alloc, model, state)?;
-        let base = model_base(alloc, model, &self.rules, modes.as_slice(), &[])?;
+        let mut space = Space::of(alloc, model)?;
+        model_base(model, &self.rules, modes.as_slice(), &[], &mut space.base);
         let components = model.components().len();
-        let pairs = first_backbone(alloc, &self.rules, base.as_slice(), components, vars)?;
+        let pairs = first_backbone(alloc, &self.rules, components, vars, &mut space)?;
         Ok(Seen { pairs })
     }
 }

@@ -1,6 +1,6 @@
 //! What each subject may be, where components have given modes and variables given values.
 
-ghost use Rattle.std.specs.Prelude.{◌≡◌, ◌&&◌, ◌++◌, ℕ, ◌<◌, ◌≤◌, nat_lt, length, slice_index, All, IfOk};
+ghost use Rattle.std.specs.Prelude.{◌≡◌, ◌&&◌, ◌++◌, ℕ, ◌<◌, ◌≤◌, nat_lt, length, slice_index, All};
 ghost use Rattle.cca_base.specs.Prelude.{has, mode_counts, value_counts, HasMode, HasValue};
 ghost use Rattle.cca_base.specs.declared.limits.TheConstants.{MAX_CHOICES};
 ghost use Rattle.clause_form.specs.Clauses.{AreClauses};
@@ -10,72 +10,60 @@ ghost use Rattle.consistency.specs.Base.{allows, ArePairs, IsBase};
 use crate::problem::Problem;
 use cca_base::{Model, Pair, ValueSet};
 use clause_form::Sizes;
-use std::alloc::{AllocError, Global};
 
-/// All values of each subject.
-fn whole_sets(alloc: Global, sizes: &Sizes) -> Result<Vec<ValueSet>, AllocError>
-    ensures few { IfOk result (λ _. All (λ n. n ≤ MAX_CHOICES) sizes.now) }
-    ensures full { IfOk result (λ r. length r.items ≡ length sizes.now) }
-    ensures values { IfOk result (λ r.
-        (d v : ℕ) → d < length sizes.now →
-        has (slice_index r.items d) v ≡ nat_lt v (slice_index sizes.now d)) }
+/// Writes all values of each subject.
+fn fill(sizes: &Sizes, sets: &mut [ValueSet])
+    requires { length sets.old ≡ length sizes.now }
+    ensures few { All (λ n. n ≤ MAX_CHOICES) sizes.now }
+    ensures values { (d v : ℕ) → d < length sizes.now →
+        has (slice_index sets.new d) v ≡ nat_lt v (slice_index sizes.now d) }
 {
-    let mut sets = Vec::with_capacity(alloc, sizes.len())?;
-    for size in sizes.as_slice() {
-        sets.push(ValueSet::full(*size))?;
+    for (at, size) in sizes.as_slice().iter().enumerate() {
+        sets[at] = ValueSet::full(*size);
     }
-    Ok(sets)
 }
 
 /// Leaves the subject of each pair, counted from the first one's number, its value alone.
-fn restricted(sets: Vec<ValueSet>, first: usize, pairs: &[Pair]) -> Vec<ValueSet>
-    requires pairs { ArePairs (length sets.items) first pairs.now }
-    ensures full { length result.items ≡ length sets.items }
-    ensures values { (d v : ℕ) → d < length sets.items →
-        has (slice_index result.items d) v
-        ≡ (has (slice_index sets.items d) v && allows first pairs.now d v) }
+fn restrict(sets: &mut [ValueSet], first: usize, pairs: &[Pair])
+    requires pairs { ArePairs (length sets.old) first pairs.now }
+    ensures { (d v : ℕ) → d < length sets.old →
+        has (slice_index sets.new d) v
+        ≡ (has (slice_index sets.old d) v && allows first pairs.now d v) }
 {
-    let mut left = sets;
     for pair in pairs {
         let subject = first + pair.item as usize;
-        left[subject] = left[subject].common(ValueSet::empty().with(pair.value));
+        sets[subject] = sets[subject].common(ValueSet::empty().with(pair.value));
     }
-    left
 }
 
-/// The values that each subject may have, where components have these modes and variables these values.
-fn base_of(
-    alloc: Global,
-    sizes: &Sizes,
-    components: usize,
-    modes: &[Pair],
-    seen: &[Pair],
-) -> Result<Vec<ValueSet>, AllocError>
+/// Writes the values that each subject may have, where components have these modes and variables these values.
+fn base_of(sizes: &Sizes, components: usize, modes: &[Pair], seen: &[Pair], base: &mut [ValueSet])
+    requires full { length base.old ≡ length sizes.now }
     requires modes { ArePairs (length sizes.now) 0 modes.now }
     requires seen { ArePairs (length sizes.now) components seen.now }
-    ensures { IfOk result (λ r. IsBase sizes.now components modes.now seen.now r.items) }
+    ensures { IsBase sizes.now components modes.now seen.now base.new }
 {
-    let sets = whole_sets(alloc, sizes)?;
-    let sets = restricted(sets, 0, modes);
-    Ok(restricted(sets, components, seen))
+    fill(sizes, base);
+    restrict(base, 0, modes);
+    restrict(base, components, seen);
 }
 
-/// The values that each subject of the model may have, where components have these modes and variables these values.
+/// Writes the values that each subject of the model may have, where components have these modes and variables these values.
 pub fn model_base(
-    alloc: Global,
     model: &Model,
     problem: &Problem,
     modes: &[Pair],
     seen: &[Pair],
-) -> Result<Vec<ValueSet>, AllocError>
+    base: &mut [ValueSet],
+)
     requires sizes { problem.now.sizes ≡ mode_counts model.now ++ value_counts model.now }
     requires clauses { AreClauses (clauses_in problem.now) }
+    requires full { length base.old ≡ length problem.now.sizes }
     requires modes { All (λ p. HasMode model.now p.item p.value) modes.now }
     requires seen { All (λ p. HasValue model.now p.item p.value) seen.now }
-    ensures base { IfOk result (λ r.
-        IsBase problem.now.sizes (length model.now.components) modes.now seen.now r.items) }
-    ensures proper { IfOk result (λ r. IsProblem problem.now.clauses r.items) }
+    ensures base { IsBase problem.now.sizes (length model.now.components) modes.now seen.now base.new }
+    ensures proper { IsProblem problem.now.clauses base.new }
 {
     let components = model.components().len();
-    base_of(alloc, &problem.sizes, components, modes, seen)
+    base_of(&problem.sizes, components, modes, seen, base);
 }

@@ -1,15 +1,16 @@
 //! What propagation alone leaves of each subject's values. It keeps no reasons, assumes everything at once, and so takes
 //! much less than a search.
 
-ghost use Rattle.std.specs.Prelude.{◌≡◌, ◌≤◌, length, IfOk, OnOk, IfSome};
+ghost use Rattle.std.specs.Prelude.{◌≡◌, ◌≤◌, ◌<◌, length, IfSome};
 ghost use Rattle.clause_form.specs.Clauses.{AreBelow, AllBelow};
 ghost use Rattle.consistency.specs.Problem.{IsProblem};
 ghost use Rattle.consistency.specs.Bounds.{OthersOut, Leaves, LeavesAll, HoldSolutions};
+ghost use Rattle.consistency.specs.declared.subjects.TheConstants.{SET_SUBJECTS};
 
 use crate::problem::Problem;
+use crate::subjects::{SubjectSet, add_subject, no_subject, take_subject};
 use cca_base::ValueSet;
 use clause_form::{Clause, Literal};
-use std::alloc::{AllocError, Global};
 
 /// The place of the one literal that can be true, or the length where none can. None comes where several can.
 pub fn only_open(literals: &[Literal], sets: &[ValueSet]) -> Option<usize>
@@ -33,7 +34,8 @@ pub fn only_open(literals: &[Literal], sets: &[ValueSet]) -> Option<usize>
 /// Narrows the set of the one subject that can still make the clause true, and says which, where it has lost values.
 fn narrow(literals: &[Literal], sets: &mut [ValueSet]) -> Option<u16>
     requires { AreBelow (length sets.old) literals.now }
-    ensures { Leaves literals.now sets.old sets.new }
+    ensures leaves { Leaves literals.now sets.old sets.new }
+    ensures subject { IfSome result (λ subject. subject < length sets.old) }
 {
     let place = only_open(literals, sets)?;
     if place == literals.len() {
@@ -55,63 +57,57 @@ fn narrow_places(
     clauses: &[Clause],
     places: &[usize],
     sets: &mut [ValueSet],
-    changed: &mut Vec<u16>,
-) -> Result<(), AllocError>
-    requires { AllBelow (length sets.old) clauses.now }
-    ensures { OnOk result (LeavesAll clauses.now sets.old sets.new) }
+    changed: &mut SubjectSet,
+)
+    requires below { AllBelow (length sets.old) clauses.now }
+    requires small { length sets.old ≤ SET_SUBJECTS }
+    ensures { LeavesAll clauses.now sets.old sets.new }
 {
     for place in places {
         if *place < clauses.len() {
             if let Some(subject) = narrow(clauses[*place].literals.as_slice(), sets) {
-                changed.push(subject)?;
+                add_subject(changed, subject);
             }
         }
     }
-    Ok(())
 }
 
 /// Looks at the clauses of what has changed, until nothing changes.
-pub fn settle(
-    problem: &Problem,
-    sets: &mut [ValueSet],
-    changed: &mut Vec<u16>,
-) -> Result<(), AllocError>
-    requires { AllBelow (length sets.old) problem.now.clauses }
-    ensures { OnOk result (LeavesAll problem.now.clauses sets.old sets.new) }
+pub fn settle(problem: &Problem, sets: &mut [ValueSet], changed: SubjectSet)
+    requires below { AllBelow (length sets.old) problem.now.clauses }
+    requires small { length sets.old ≤ SET_SUBJECTS }
+    ensures { LeavesAll problem.now.clauses sets.old sets.new }
 {
     let clauses = problem.clauses.as_slice();
+    let mut changed = changed;
     for _ in 0..u32::MAX {
-        let Some(subject) = changed.pop() else {
-            return Ok(());
+        let Some(subject) = take_subject(&mut changed) else {
+            return;
         };
         if let Some(places) = problem.places.get(subject as usize) {
-            narrow_places(clauses, places.as_slice(), sets, changed)?;
+            narrow_places(clauses, places.as_slice(), sets, &mut changed);
         }
     }
-    Ok(())
 }
 
 /// Looks at every clause, and again at those of what has changed, until nothing changes.
-fn narrow_whole(alloc: Global, problem: &Problem, sets: &mut [ValueSet]) -> Result<(), AllocError>
-    requires { AllBelow (length sets.old) problem.now.clauses }
-    ensures { OnOk result (LeavesAll problem.now.clauses sets.old sets.new) }
+fn narrow_whole(problem: &Problem, sets: &mut [ValueSet])
+    requires below { AllBelow (length sets.old) problem.now.clauses }
+    requires small { length sets.old ≤ SET_SUBJECTS }
+    ensures { LeavesAll problem.now.clauses sets.old sets.new }
 {
-    let mut changed = Vec::with_capacity(alloc, sets.len())?;
+    let mut changed = no_subject();
     let clauses = problem.clauses.as_slice();
-    narrow_places(clauses, problem.all.as_slice(), sets, &mut changed)?;
-    settle(problem, sets, &mut changed)
+    narrow_places(clauses, problem.all.as_slice(), sets, &mut changed);
+    settle(problem, sets, changed);
 }
 
-/// What propagation leaves of each subject's values.
-pub fn bounds(
-    alloc: Global,
-    problem: &Problem,
-    base: &[ValueSet],
-) -> Result<Vec<ValueSet>, AllocError>
-    requires { IsProblem problem.now.clauses base.now }
-    ensures { IfOk result (λ r. HoldSolutions problem.now.clauses base.now r.items) }
+/// Writes what propagation leaves of each subject's values.
+pub fn bounds(problem: &Problem, base: &[ValueSet], sets: &mut [ValueSet])
+    requires proper { IsProblem problem.now.clauses base.now }
+    requires full { length sets.old ≡ length base.now }
+    ensures { HoldSolutions problem.now.clauses base.now sets.new }
 {
-    let mut sets = Vec::from_slice(alloc, base)?;
-    narrow_whole(alloc, problem, &mut sets)?;
-    Ok(sets)
+    sets.copy_from_slice(base);
+    narrow_whole(problem, sets);
 }

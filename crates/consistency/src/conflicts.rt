@@ -2,16 +2,17 @@
 //! once, in component order. A search with the pairs as assumptions names those that had to do with a clash, its core, so
 //! that only pairs of cores cost a search.
 
-ghost use Rattle.std.specs.Prelude.{◌≡◌, [], ◌++◌, ◌↔◌, All, IfOk, IfSome, IsNone};
+ghost use Rattle.std.specs.Prelude.{◌≡◌, [], ◌++◌, ◌↔◌, length, All, IfOk, IfSome, IsNone};
 ghost use Rattle.cca_base.specs.Prelude.{pairs_of, CanShow, HasMode, HasValue, IsConflict, IsCube, IsState, KeepsOfClash};
 ghost use Rattle.consistency.specs.Cores.{IsCore, IsShowable};
+ghost use Rattle.consistency.specs.Space.{HasRoom};
 
 use crate::base::model_base;
 use crate::bounds::bounds;
 use crate::guess::solution_or_clash;
 use crate::pairs::{all_pairs, joined};
 use crate::rules::Rules;
-use crate::search::SearchResult;
+use crate::space::Space;
 use crate::subjects::{SubjectSet, has_subject};
 use crate::worlds::Worlds;
 use cca_base::{Cube, Model, Pair, Seen, State};
@@ -19,29 +20,32 @@ use std::alloc::{AllocError, Global};
 
 /// The subjects that are to blame that no state which extends the modes has a world that agrees with what is seen. None
 /// comes where some state has one.
-fn core_of(rules: &Rules, modes: &Cube, seen: &Seen) -> Result<Option<SubjectSet>, AllocError>
+fn core_of(rules: &Rules, modes: &Cube, seen: &Seen, space: &mut Space) -> Option<SubjectSet>
     requires modes { All (λ p. HasMode rules.now.model.now p.item p.value) modes.now }
     requires seen { All (λ p. HasValue rules.now.model.now p.item p.value) seen.now.pairs }
-    ensures some { IfOk result (λ o.
-        IfSome o (IsCore rules.now.model.now seen.now.pairs modes.now)) }
-    ensures none { IfOk result (λ o.
-        IsNone o → IsShowable rules.now.model.now seen.now.pairs modes.now) }
+    requires room { HasRoom (length rules.now.worlds.now.sizes) space.old }
+    ensures some { IfSome result (IsCore rules.now.model.now seen.now.pairs modes.now) }
+    ensures none { IsNone result → IsShowable rules.now.model.now seen.now.pairs modes.now }
+    ensures room { HasRoom (length rules.now.worlds.now.sizes) space.new }
 {
-    let alloc = rules.alloc;
     let worlds = rules.worlds;
     let problem = &worlds.rules;
-    let base = model_base(
-        alloc,
+    let pairs = modes.as_slice();
+    model_base(
         rules.model,
         problem,
-        modes.as_slice(),
+        pairs,
         seen.pairs.as_slice(),
-    )?;
-    let sets = bounds(alloc, problem, base.as_slice())?;
-    match solution_or_clash(alloc, problem, base.as_slice(), sets)? {
-        SearchResult::Found(_solution) => Ok(None),
-        SearchResult::Clash(subjects) => Ok(Some(subjects)),
-    }
+        &mut space.base,
+    );
+    bounds(problem, &space.base, &mut space.sets);
+    solution_or_clash(
+        problem,
+        &space.base,
+        &mut space.sets,
+        &mut space.spare.domains,
+        &mut space.values,
+    )
 }
 
 /// The same of the modes that were kept with those that are still to be tried.
@@ -50,18 +54,21 @@ pub fn core_left(
     kept: &Cube,
     behind: &[Pair],
     seen: &Seen,
+    space: &mut Space,
 ) -> Result<Option<SubjectSet>, AllocError>
     requires cube { IsCube (kept.now ++ behind.now) }
     requires modes { All (λ p. HasMode rules.now.model.now p.item p.value)
         (kept.now ++ behind.now) }
     requires seen { All (λ p. HasValue rules.now.model.now p.item p.value) seen.now.pairs }
+    requires room { HasRoom (length rules.now.worlds.now.sizes) space.old }
     ensures some { IfOk result (λ o.
         IfSome o (IsCore rules.now.model.now seen.now.pairs (kept.now ++ behind.now))) }
     ensures none { IfOk result (λ o.
         IsNone o → IsShowable rules.now.model.now seen.now.pairs (kept.now ++ behind.now)) }
+    ensures room { HasRoom (length rules.now.worlds.now.sizes) space.new }
 {
     let others = joined(rules.alloc, kept, behind)?;
-    core_of(rules, &others, seen)
+    Ok(core_of(rules, &others, seen, space))
 }
 
 /// The pairs of a state, with subjects among them that are to blame that no world of it agrees with what is seen.
@@ -72,17 +79,24 @@ pub struct Blamed {
 }
 
 /// What is to blame that no world of the state agrees with what is seen. None comes exactly where some world does.
-pub fn blame_of(rules: &Rules, state: &State, seen: &Seen) -> Result<Option<Blamed>, AllocError>
+pub fn blame_of(
+    rules: &Rules,
+    state: &State,
+    seen: &Seen,
+    space: &mut Space,
+) -> Result<Option<Blamed>, AllocError>
     requires state { IsState rules.now.model.now state.now.modes }
     requires seen { All (λ p. HasValue rules.now.model.now p.item p.value) seen.now.pairs }
+    requires room { HasRoom (length rules.now.worlds.now.sizes) space.old }
     ensures pairs { IfOk result (λ o. IfSome o (λ b. b.pairs ≡ pairs_of state.now.modes)) }
     ensures core { IfOk result (λ o. IfSome o (λ b.
         IsCore rules.now.model.now seen.now.pairs b.pairs b.core)) }
     ensures none { IfOk result (λ o.
         IsNone o ↔ CanShow rules.now.model.now state.now.modes seen.now.pairs) }
+    ensures room { HasRoom (length rules.now.worlds.now.sizes) space.new }
 {
     let pairs = all_pairs(rules.alloc, rules.model, state)?;
-    match core_of(rules, &pairs, seen)? {
+    match core_of(rules, &pairs, seen, space) {
         Some(core) => Ok(Some(Blamed { pairs, core })),
         None => Ok(None),
     }
@@ -90,10 +104,17 @@ pub fn blame_of(rules: &Rules, state: &State, seen: &Seen) -> Result<Option<Blam
 
 /// What is kept of the pairs, each of which is tried once. A pair outside the last core is dropped without a search: the
 /// core clashes without it.
-fn kept_of(rules: &Rules, pairs: &Cube, seen: &Seen, core: SubjectSet) -> Result<Cube, AllocError>
+fn kept_of(
+    rules: &Rules,
+    pairs: &Cube,
+    seen: &Seen,
+    core: SubjectSet,
+    space: &mut Space,
+) -> Result<Cube, AllocError>
     requires pairs { All (λ p. HasMode rules.now.model.now p.item p.value) pairs.now }
     requires seen { All (λ p. HasValue rules.now.model.now p.item p.value) seen.now.pairs }
     requires core { IsCore rules.now.model.now seen.now.pairs pairs.now core }
+    requires room { HasRoom (length rules.now.worlds.now.sizes) space.old }
     ensures { IfOk result (KeepsOfClash rules.now.model.now seen.now.pairs [] pairs.now) }
 {
     let mut kept = Cube::new(rules.alloc);
@@ -101,7 +122,7 @@ fn kept_of(rules: &Rules, pairs: &Cube, seen: &Seen, core: SubjectSet) -> Result
     for (at, pair) in pairs.as_slice().iter().enumerate() {
         if has_subject(&core, pair.item) {
             let behind = &pairs.as_slice()[at + 1..];
-            match core_left(rules, &kept, behind, seen)? {
+            match core_left(rules, &kept, behind, seen, space)? {
                 Some(smaller) => core = smaller,
                 None => kept.push(*pair)?,
             }
@@ -131,8 +152,12 @@ pub fn conflict(
         model,
         worlds: &worlds,
     };
-    match blame_of(&rules, state, seen)? {
-        Some(blamed) => Ok(Some(kept_of(&rules, &blamed.pairs, seen, blamed.core)?)),
+    let mut space = Space::of(alloc, model)?;
+    match blame_of(&rules, state, seen, &mut space)? {
+        Some(blamed) => {
+            let kept = kept_of(&rules, &blamed.pairs, seen, blamed.core, &mut space)?;
+            Ok(Some(kept))
+        }
         None => Ok(None),
     }
 }

@@ -7,6 +7,7 @@ ghost use Rattle.consistency.specs.Worlds.{AreWorldsOf};
 use crate::base::model_base;
 use crate::refuted::is_refuted;
 use crate::rules::Rules;
+use crate::space::Space;
 use crate::worlds::{Worlds, counter};
 use cca_base::{Cube, Formula, Model};
 use clause_form::denied_clauses;
@@ -28,9 +29,10 @@ impl Worlds {
         ensures { IfOk result (λ b. IsTrue b ↔ Follows model.now modes.now formula.now) }
     {
         let denied = denied_clauses(alloc, model, formula)?;
-        let base = model_base(alloc, model, &self.rules, modes.as_slice(), &[])?;
+        let mut space = Space::of(alloc, model)?;
+        model_base(model, &self.rules, modes.as_slice(), &[], &mut space.base);
         let denied = denied.clauses.as_slice();
-        if is_refuted(alloc, &self.rules, base.as_slice(), denied)? {
+        if is_refuted(&self.rules, &space.base, denied, &mut space.sets) {
             return Ok(true);
         }
         let rules = Rules {

@@ -1,154 +1,116 @@
 //! A solution that is guessed and tested: each subject takes the least value that propagation leaves it. Only where this fails
 //! is a search made.
 
-ghost use Rattle.std.specs.Prelude.{◌≡◌, ◌<◌, length, IfOk, IfSome};
-ghost use Rattle.cca_base.specs.declared.limits.TheConstants.{MAX_CHOICES, MAX_ROWS};
+ghost use Rattle.std.specs.Prelude.{◌≡◌, ◌*◌, ◌<◌, ◌≤◌, length, IsTrue};
 ghost use Rattle.clause_form.specs.Clauses.{AllBelow};
 ghost use Rattle.consistency.specs.Problem.{IsProblem};
 ghost use Rattle.consistency.specs.Search.{IsSolution, IsSolutionOrClash, IsSolutionOrNone};
+ghost use Rattle.consistency.specs.declared.subjects.TheConstants.{SET_SUBJECTS};
 
 use crate::bounds::settle;
+use crate::domain::Domain;
+use crate::least::{least, next};
 use crate::problem::Problem;
-use crate::search::{SearchResult, solve};
+use crate::search::solve;
 use crate::solution::is_solution;
-use cca_base::{List, MAX_CHOICES, ValueSet};
-use std::alloc::{AllocError, Global};
-
-/// The least value of the set.
-fn least(set: ValueSet) -> Option<u8>
-    ensures { IfSome result (λ value. value < MAX_CHOICES) }
-{
-    for value in 0..MAX_CHOICES as u8 {
-        if set.has(value) {
-            return Some(value);
-        }
-    }
-    None
-}
-
-/// The least value of the set behind this one, or this one where there is none.
-fn next(set: ValueSet, first: u8) -> u8
-    requires { first < MAX_CHOICES }
-    ensures { result < MAX_CHOICES }
-{
-    for value in first + 1..MAX_CHOICES as u8 {
-        if set.has(value) {
-            return value;
-        }
-    }
-    first
-}
+use crate::subjects::{SubjectSet, no_subject, with_subject};
+use cca_base::ValueSet;
 
 /// Gives the subject its least value, or the one behind it where the least is to be avoided, and narrows the sets.
-fn pick(
-    problem: &Problem,
-    sets: &mut [ValueSet],
-    changed: &mut Vec<u16>,
-    subject: u16,
-    avoided: Option<&u8>,
-) -> Result<Option<u8>, AllocError>
+fn pick(problem: &Problem, sets: &mut [ValueSet], subject: u16, avoided: Option<&u8>) -> Option<u8>
     requires below { AllBelow (length sets.old) problem.now.clauses }
+    requires small { length sets.old ≤ SET_SUBJECTS }
     requires subject { subject < length sets.old }
-    ensures { length sets.new ≡ length sets.old }
 {
     let set = sets[subject as usize];
-    let Some(first) = least(set) else {
-        return Ok(None);
-    };
+    let first = least(set)?;
     if set == ValueSet::empty().with(first) {
-        return Ok(Some(first));
+        return Some(first);
     }
     let value = match avoided {
         Some(avoided) if *avoided == first => next(set, first),
         _ => first,
     };
     sets[subject as usize] = ValueSet::empty().with(value);
-    changed.push(subject)?;
-    settle(problem, sets, changed)?;
-    Ok(Some(value))
+    settle(problem, sets, with_subject(&no_subject(), subject));
+    Some(value)
 }
 
-/// A value for each subject of those that are left after the choices before, other than the one to be avoided where it can be.
-/// None comes where nothing is left.
-fn picked(
-    alloc: Global,
-    problem: &Problem,
-    sets: &mut [ValueSet],
-    avoided: &[u8],
-) -> Result<Option<List<u8>>, AllocError>
+/// Writes a value for each subject of those that are left after the choices before, other than the one to be avoided where it
+/// can be. No comes where nothing is left.
+fn are_picked(problem: &Problem, sets: &mut [ValueSet], avoided: &[u8], values: &mut [u8]) -> bool
     requires below { AllBelow (length sets.old) problem.now.clauses }
-    requires small { length sets.old < MAX_ROWS }
-    ensures { IfOk result (λ o. IfSome o (λ values. length values ≡ length sets.old)) }
+    requires small { length sets.old ≤ SET_SUBJECTS }
+    requires full { length values.old ≡ length sets.old }
 {
-    let mut changed = Vec::new(alloc);
-    let mut values = Vec::with_capacity(alloc, sets.len())?;
     for subject in 0..sets.len() as u16 {
         let other = avoided.get(subject as usize);
-        match pick(problem, sets, &mut changed, subject, other)? {
-            Some(value) => values.push(value)?,
-            None => return Ok(None),
+        match pick(problem, sets, subject, other) {
+            Some(value) => values[subject as usize] = value,
+            None => return false,
         }
     }
-    Ok(Some(List::of(values)))
+    true
 }
 
-/// What takes least values of these sets, other than those to be avoided, where it is a solution.
-fn guess(
-    alloc: Global,
+/// Writes what takes least values of these sets, other than those to be avoided, and says whether it is a solution.
+pub fn is_guessed(
     problem: &Problem,
     base: &[ValueSet],
-    mut sets: Vec<ValueSet>,
+    sets: &mut [ValueSet],
     avoided: &[u8],
-) -> Result<Option<List<u8>>, AllocError>
+    values: &mut [u8],
+) -> bool
     requires proper { IsProblem problem.now.clauses base.now }
-    requires full { length sets.items ≡ length base.now }
-    ensures { IfOk result (λ o. IfSome o (IsSolution problem.now.clauses base.now)) }
+    requires sets { length sets.old ≡ length base.now }
+    requires values { length values.old ≡ length base.now }
+    ensures { IsTrue result → IsSolution problem.now.clauses base.now values.new }
 {
-    let Some(values) = picked(alloc, problem, &mut sets, avoided)? else {
-        return Ok(None);
-    };
-    if is_solution(problem, base, values.as_slice()) {
-        return Ok(Some(values));
-    }
-    Ok(None)
+    are_picked(problem, sets, avoided, values) && is_solution(problem, base, values)
 }
 
-/// Some solution, guessed from the sets or sought, or the subjects that are to blame that there is none.
+/// Writes some solution, guessed from the sets or sought, or says which subjects are to blame that there is none.
 pub fn solution_or_clash(
-    alloc: Global,
     problem: &Problem,
     base: &[ValueSet],
-    sets: Vec<ValueSet>,
-) -> Result<SearchResult, AllocError>
+    sets: &mut [ValueSet],
+    memory: &mut [Domain],
+    values: &mut [u8],
+) -> Option<SubjectSet>
     requires proper { IsProblem problem.now.clauses base.now }
-    requires full { length sets.items ≡ length base.now }
-    ensures { IfOk result (IsSolutionOrClash problem.now.clauses base.now) }
+    requires sets { length sets.old ≡ length base.now }
+    requires memory { length memory.old ≡ 3 * length base.now }
+    requires values { length values.old ≡ length base.now }
+    ensures { IsSolutionOrClash problem.now.clauses base.now values.new result }
 {
-    match guess(alloc, problem, base, sets, &[])? {
-        Some(solution) => Ok(SearchResult::Found(solution)),
-        None => solve(alloc, problem, base),
+    if is_guessed(problem, base, sets, &[], values) {
+        return None;
     }
+    solve(problem, base, memory, values)
 }
 
-/// Some solution, guessed from the sets as one that takes another value than those to be avoided at each subject where one is left, and
-/// else without these, or sought. None comes exactly where there is none.
+/// Writes some solution, guessed from the sets as one that takes another value than those to be avoided at each subject where one is
+/// left, and else without these, or sought. No comes exactly where there is none.
 pub fn solution_in(
-    alloc: Global,
     problem: &Problem,
     base: &[ValueSet],
     sets: &[ValueSet],
     avoided: &[u8],
-) -> Result<Option<List<u8>>, AllocError>
+    narrowed: &mut [ValueSet],
+    memory: &mut [Domain],
+    values: &mut [u8],
+) -> bool
     requires proper { IsProblem problem.now.clauses base.now }
-    requires full { length sets.now ≡ length base.now }
-    ensures { IfOk result (IsSolutionOrNone problem.now.clauses base.now) }
+    requires sets { length sets.now ≡ length base.now }
+    requires narrowed { length narrowed.old ≡ length base.now }
+    requires memory { length memory.old ≡ 3 * length base.now }
+    requires values { length values.old ≡ length base.now }
+    ensures { IsSolutionOrNone problem.now.clauses base.now values.new result }
 {
-    let guessed = guess(alloc, problem, base, Vec::from_slice(alloc, sets)?, avoided)?;
-    if guessed.is_some() {
-        return Ok(guessed);
+    narrowed.copy_from_slice(sets);
+    if is_guessed(problem, base, narrowed, avoided, values) {
+        return true;
     }
-    match solution_or_clash(alloc, problem, base, Vec::from_slice(alloc, sets)?)? {
-        SearchResult::Found(values) => Ok(Some(values)),
-        SearchResult::Clash(_) => Ok(None),
-    }
+    narrowed.copy_from_slice(sets);
+    solution_or_clash(problem, base, narrowed, memory, values).is_none()
 }

@@ -1,14 +1,16 @@
 //! A minimal clash of a state, by deletion over a core. One pair after the other is left out: it is kept where some state that extends
 //! the others has a world that agrees, and else only the pairs of their core go on.
 
-ghost use Rattle.std.specs.Prelude.{◌≡◌, ◌↔◌, ℕ, List, All, IfOk, IfSome, IsNone};
+ghost use Rattle.std.specs.Prelude.{◌≡◌, ◌↔◌, ℕ, List, length, All, IfOk, IfSome, IsNone};
 ghost use Rattle.cca_base.specs.Prelude.{pairs_of, CanShow, Clash, HasMode, HasValue, IsCube, IsPart, IsState};
 ghost use Rattle.consistency.specs.Conflict.{IsMinimalClash};
 ghost use Rattle.consistency.specs.Cores.{pairs_in};
+ghost use Rattle.consistency.specs.Space.{HasRoom};
 ghost use Rattle.consistency.specs.Worlds.{AreWorldsOf};
 
 use crate::conflicts::{blame_of, core_left};
 use crate::rules::Rules;
+use crate::space::Space;
 use crate::subjects::{SubjectSet, has_subject};
 use crate::worlds::Worlds;
 use cca_base::{Cube, List, Model, Pair, Seen, State};
@@ -28,18 +30,24 @@ fn pairs_in(alloc: Global, subjects: &SubjectSet, pairs: &[Pair]) -> Result<List
 }
 
 /// A minimal part of the pairs that clashes.
-fn minimal_part(rules: &Rules, pairs: List<Pair>, seen: &Seen) -> Result<Cube, AllocError>
+fn minimal_part(
+    rules: &Rules,
+    pairs: List<Pair>,
+    seen: &Seen,
+    space: &mut Space,
+) -> Result<Cube, AllocError>
     requires cube { IsCube pairs }
     requires modes { All (λ p. HasMode rules.now.model.now p.item p.value) pairs }
     requires seen { All (λ p. HasValue rules.now.model.now p.item p.value) seen.now.pairs }
     requires clash { Clash rules.now.model.now seen.now.pairs pairs }
+    requires room { HasRoom (length rules.now.worlds.now.sizes) space.old }
     ensures { IfOk result (λ c. (s : List ℕ) → IsPart pairs (pairs_of s) →
         IsMinimalClash rules.now.model.now s seen.now.pairs c) }
 {
     let mut kept = Cube::new(rules.alloc);
     let mut left = pairs;
     'leaving: while let Some(pair) = left.pop() {
-        match core_left(rules, &kept, left.as_slice(), seen)? {
+        match core_left(rules, &kept, left.as_slice(), seen, space)? {
             Some(core) => left = pairs_in(rules.alloc, &core, left.as_slice())?,
             None => kept.push(pair)?,
         }
@@ -71,10 +79,11 @@ impl Worlds {
             model,
             worlds: self,
         };
-        let Some(blamed) = blame_of(&rules, state, seen)? else {
+        let mut space = Space::of(alloc, model)?;
+        let Some(blamed) = blame_of(&rules, state, seen, &mut space)? else {
             return Ok(None);
         };
         let among = pairs_in(alloc, &blamed.core, blamed.pairs.as_slice())?;
-        Ok(Some(minimal_part(&rules, among, seen)?))
+        Ok(Some(minimal_part(&rules, among, seen, &mut space)?))
     }
 }

@@ -1,6 +1,6 @@
 //! Sets of subjects, as words of bits.
 
-ghost use Rattle.std.specs.Prelude.{◌≡◌, ℕ, ◌==◌, ◌||◌, ◌<◌, true, false};
+ghost use Rattle.std.specs.Prelude.{◌≡◌, ℕ, ◌==◌, ◌||◌, ◌<◌, ◌≤◌, true, false, IfSome};
 ghost use Rattle.consistency.specs.Subjects.{is_in};
 
 use cca_base::{MAX_COMPONENTS, MAX_VARIABLES};
@@ -64,4 +64,50 @@ pub fn union(one: &SubjectSet, other: &SubjectSet) -> SubjectSet
         words[i] |= other.words[i];
     }
     SubjectSet { words }
+}
+
+/// Puts `n` into the set.
+pub fn add_subject(set: &mut SubjectSet, n: u16)
+    requires { n < SET_SUBJECTS }
+    ensures { (m : ℕ) → is_in set.new m ≡ (m == n || is_in set.old m) }
+{
+    *set = with_subject(set, n);
+}
+
+/// Takes the first subject out of the set, where there is one.
+pub fn take_subject(set: &mut SubjectSet) -> Option<u16>
+    ensures { IfSome result (λ n. is_in set.old n ≡ true) }
+{
+    for at in 0..WORDS {
+        let word = set.words[at];
+        if word != 0 {
+            set.words[at] = word & (word - 1);
+            return Some((at * WORD_BITS) as u16 + word.trailing_zeros() as u16);
+        }
+    }
+    None
+}
+
+/// The subjects from the first number up to the other one.
+pub fn subjects_between(from: usize, to: usize) -> SubjectSet
+    requires { to ≤ SET_SUBJECTS }
+    ensures { (n : ℕ) → from ≤ n → n < to → is_in result n ≡ true }
+{
+    let mut set = no_subject();
+    for n in from..to {
+        add_subject(&mut set, n as u16);
+    }
+    set
+}
+
+/// Whether a subject is in both sets.
+pub fn share_subject(one: &SubjectSet, other: &SubjectSet) -> bool
+    ensures { result ≡ false → (n : ℕ) → is_in one.now n ≡ true → is_in other.now n ≡ false }
+{
+    for i in 0..WORDS {
+        if one.words[i] & other.words[i] != 0 {
+            return true;
+        }
+    }
+    false
 }

@@ -6,6 +6,7 @@ ghost use Rattle.cca_base.specs.declared.formula.Formula.{Formula};
 ghost use Rattle.clause_form.specs.Clauses.{AreClauses};
 ghost use Rattle.clause_form.specs.Formulas.{AreClausesOf};
 ghost use Rattle.consistency.specs.Problem.{clauses_in};
+ghost use Rattle.consistency.specs.Space.{HasRoom};
 ghost use Rattle.consistency.specs.Found.{FitsSeen, Counters, FitsAndDenies, IsFirstFound};
 
 use crate::base::model_base;
@@ -13,7 +14,8 @@ use crate::denied::denied_problem;
 use crate::found::{Found, split};
 use crate::problem::{Problem, problem_of};
 use crate::rules::Rules;
-use crate::search::first_solution;
+use crate::search::solve;
+use crate::space::Space;
 use cca_base::{Cube, Formula, Model, Pair, Seen};
 use clause_form::clauses_of;
 use std::alloc::{AllocError, Global};
@@ -40,20 +42,27 @@ fn first_found(
     problem: &Problem,
     modes: &[Pair],
     seen: &[Pair],
+    space: &mut Space,
 ) -> Result<Option<Found>, AllocError>
     requires sizes { problem.now.sizes ≡ mode_counts model.now ++ value_counts model.now }
     requires proper { AreClauses (clauses_in problem.now) }
     requires modes { All (λ p. HasMode model.now p.item p.value) modes.now }
     requires seen { All (λ p. HasValue model.now p.item p.value) seen.now }
+    requires room { HasRoom (length problem.now.sizes) space.old }
     ensures { (denied : Option Formula) →
         AreClausesOf model.now None denied (clauses_in problem.now) →
         IfOk result (IsFirstFound (FitsAndDenies model.now modes.now seen.now denied)) }
 {
     let components = model.components().len();
-    let base = model_base(alloc, model, problem, modes, seen)?;
-    match first_solution(alloc, problem, base.as_slice())? {
-        Some(values) => Ok(Some(split(alloc, components, values.as_slice())?)),
-        None => Ok(None),
+    model_base(model, problem, modes, seen, &mut space.base);
+    match solve(
+        problem,
+        &space.base,
+        &mut space.spare.domains,
+        &mut space.values,
+    ) {
+        None => Ok(Some(split(alloc, components, &space.values)?)),
+        Some(_because) => Ok(None),
     }
 }
 
@@ -69,7 +78,15 @@ pub fn counter(rules: &Rules, modes: &Cube, formula: &Formula) -> Result<Option<
 {
     let worlds = rules.worlds;
     let problem = denied_problem(rules.alloc, rules.model, &worlds.rules, formula)?;
-    first_found(rules.alloc, rules.model, &problem, modes.as_slice(), &[])
+    let mut space = Space::of(rules.alloc, rules.model)?;
+    first_found(
+        rules.alloc,
+        rules.model,
+        &problem,
+        modes.as_slice(),
+        &[],
+        &mut space,
+    )
 }
 
 impl Worlds {
@@ -98,12 +115,14 @@ impl Worlds {
         requires seen { All (λ p. HasValue model.now p.item p.value) seen.now.pairs }
         ensures { IfOk result (IsFirstFound (FitsSeen model.now modes.now seen.now.pairs)) }
     {
+        let mut space = Space::of(alloc, model)?;
         first_found(
             alloc,
             model,
             &self.rules,
             modes.as_slice(),
             seen.pairs.as_slice(),
+            &mut space,
         )
     }
 }

@@ -5,8 +5,8 @@ use Rattle.clause_form.specs.declared.clause.Literal.{Literal}
 use Rattle.consistency.proofs.Narrow.{only_in, narrowed_in}
 use Rattle.consistency.proofs.bounds.narrow.Goals as goal
 
-pub returns : goal.returns
-returns c xs met inside =
+pub returns-clause-leaves : goal.returns-clause-leaves
+returns-clause-leaves c xs met inside =
     let l = c.index-literals-place.result in
     let sets = c.args.sets.now in
     let here : c.in_ok-place.place < length c.args.literals.now = omega (arith, c.in_ok-place.ensures.place) in

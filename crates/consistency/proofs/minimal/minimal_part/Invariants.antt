@@ -1,9 +1,13 @@
 use Rattle.std.proofs.Common.{length}
+use Rattle.consistency.specs.Space.{HasRoom}
 use Rattle.consistency.proofs.Shrinking.{IsShrinking}
 use Rattle.consistency.proofs.minimal.minimal_part.Given as goal
 
 abbrev pub invariant-leaving : goal.invariant-leaving
-invariant-leaving l = IsShrinking l.rules.model.now l.seen.pairs l.fn.pairs l.kept l.left
+invariant-leaving l = record {
+  shrinking : IsShrinking l.rules.model.now l.seen.pairs l.fn.pairs l.kept l.left;
+  room : HasRoom (length l.rules.worlds.now.sizes) l.space;
+}
 
 abbrev pub decreases-leaving : goal.decreases-leaving
 decreases-leaving l = length l.left

@@ -5,8 +5,8 @@ use Rattle.consistency.specs.Subjects.{is_in}
 use Rattle.consistency.proofs.Narrow.{or_l, narrowed}
 use Rattle.consistency.proofs.propagate.assume.Goals as goal
 
-pub returns-in_ok-push : goal.returns-in_ok-push
-returns-in_ok-push c chosen xs knows =
+pub returns-then-ne : goal.returns-then-ne
+returns-then-ne c chosen xs knows =
     let mine : is_in c.with_subject-because.result c.args.subject ≡ true = or_l (c.args.subject == c.args.subject) _ _ (c.with_subject-because.ensures c.args.subject) (eq-eqb c.args.subject c.args.subject refl) in
     let value : c.index-base-subject.result ≡ slice_index c.args.base.now c.args.subject = get_or_read c.args.base.now c.args.subject c.index-base-subject.result c.requires.assumed c.index-base-subject.is 0 in
     narrowed c.args.domains.now (record { base = c.args.base.now; chosen = chosen }) xs c.args.subject c.index-domains-subject.result c.index-base-subject.result _ c.with_subject-because.result _ c.requires.subject

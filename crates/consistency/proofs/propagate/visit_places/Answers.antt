@@ -4,7 +4,7 @@ use Rattle.consistency.specs.declared.domain.Domain.{Domain}
 use Rattle.consistency.specs.Search.{Knows}
 use Rattle.consistency.proofs.Narrow.{met_item}
 use Rattle.consistency.proofs.propagate.visit_places.Goals as goal
-use Rattle.consistency.proofs.propagate.visit_places.Goals.{then-place-clauses+in-Same, then-place-clauses+in-Narrowed+in_ok-push-in-Narrowed, else-place-clauses}
+use Rattle.consistency.proofs.propagate.visit_places.Goals.{then-place-clauses+in-Same, then-place-clauses+in-Narrowed, else-place-clauses}
 
 pub returns-in-Clash-clause-keeps : goal.returns-in-Clash-clause-keeps
 returns-in-Clash-clause-keeps c prefix xs met knows =
@@ -20,7 +20,7 @@ loop-place-preserved c prefix xs met knows =
     elim c.if-place-clauses.branch [
       | then-place-clauses+in-Same w ↦ subst (λ (ds : List Domain). Knows prefix ds xs) (sym w.domains-is)
           (w.propagate_clause.ensures.keeps prefix xs (met_item xs c.args.clauses.now _ w.index-clauses-place.result _ met w.if-place-clauses.true w.index-clauses-place.is (w.as_slice.ensures ∙ ap (λ (x : Clause). x.literals) (sym w.index-clauses-place.is))) before)
-      | then-place-clauses+in-Narrowed+in_ok-push-in-Narrowed w ↦ subst (λ (ds : List Domain). Knows prefix ds xs) (sym w.domains-is)
+      | then-place-clauses+in-Narrowed w ↦ subst (λ (ds : List Domain). Knows prefix ds xs) (sym w.domains-is)
           (w.propagate_clause.ensures.keeps prefix xs (met_item xs c.args.clauses.now _ w.index-clauses-place.result _ met w.if-place-clauses.true w.index-clauses-place.is (w.as_slice.ensures ∙ ap (λ (x : Clause). x.literals) (sym w.index-clauses-place.is))) before)
       | else-place-clauses w ↦ subst (λ (ds : List Domain). Knows prefix ds xs) (sym w.domains-is) before
     ]
