@@ -14,7 +14,7 @@ use Rattle.clause_form.specs.Formulas.{AreClausesOf}
 use Rattle.consistency.specs.declared.subjects.SubjectSet.{SubjectSet}
 use Rattle.consistency.specs.Base.{IsBase}
 use Rattle.consistency.specs.Cores.{IsCore, IsShowable, pairs_in}
-use Rattle.consistency.specs.Search.{IsClash, IsSolution, IsSolutionOrClash}
+use Rattle.consistency.specs.Search.{IsClash, IsSolution, IsFirstOrClash}
 use Rattle.consistency.specs.Subjects.{is_in}
 use Rattle.consistency.proofs.Bridge.{parts_fit, at_mode, world_met, allowed_in, seen_allowed, pairs_allowed}
 
@@ -46,10 +46,10 @@ module _ (m : PlantModel) (modes seen : List Pair) (c : Clauses) (base : List �
       let fits = parts_fit m modes seen c base of b modes_in seen_in xs h in
       (take (length m.components) xs, fits.state, fits.extends, (drop (length m.components) xs, fits.world, fits.agrees))
 
-  pub blamed_core : (xs : List ℕ) (o : Option SubjectSet) → IsSolutionOrClash c.clauses base xs o → IfSome o (IsCore m seen modes)
+  pub blamed_core : (xs : List ℕ) (o : Option SubjectSet) → IsFirstOrClash c.clauses base xs o → IfSome o (IsCore m seen modes)
   blamed_core xs None h = tt
   blamed_core xs (Some subjects) h = clash_core subjects h
 
-  pub none_shows : (xs : List ℕ) (o : Option SubjectSet) → IsSolutionOrClash c.clauses base xs o → IsNone o → IsShowable m seen modes
-  none_shows xs None h e = solution_shows xs h
+  pub none_shows : (xs : List ℕ) (o : Option SubjectSet) → IsFirstOrClash c.clauses base xs o → IsNone o → IsShowable m seen modes
+  none_shows xs None h e = solution_shows xs h.solution
   none_shows xs (Some subjects) h e = absurd (cc)

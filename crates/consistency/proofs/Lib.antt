@@ -1,7 +1,11 @@
 pub mod SubjectSetLaws
 pub mod Narrow
 pub mod SearchFrom
-pub mod PathLaws
+pub mod DeadEnds
+pub mod GivenUp
+pub mod Paths
+pub mod FirstOnPath
+pub mod LeftToTry
 pub mod Bridge
 pub mod Orders
 pub mod FollowsLaws

@@ -1,5 +1,5 @@
 -- What a search knows on its way: of the values that are chosen, and of what is left of each subject.
-use Rattle.std.specs.Prelude.{◌≡◌, ℕ, zero, suc, ◌+◌, ◌*◌, ◌-◌, ◌^◌, ◌<◌, ◌≤◌, true, false, List, ◌∷◌, [], length, take, slice_index, slice_index_or, Option, Some, None}
+use Rattle.std.specs.Prelude.{◌≡◌, ℕ, ◌<◌, ◌≤◌, true, false, List, [], length, take, slice_index, slice_index_or, Option, Some, None}
 use Rattle.cca_base.specs.Sets.{has}
 use Rattle.cca_base.specs.declared.limits.TheConstants.{MAX_CHOICES}
 use Rattle.clause_form.specs.declared.clause.Clause.{Clause}
@@ -51,14 +51,3 @@ IsTurn clauses base values depth (Nowhere because) = IsClash clauses base [] bec
 abbrev pub Retracts : List Domain → ℕ → ℕ → List Domain → List Domain → Type 0
 Retracts roots at depth old new = (base values xs : List ℕ) → Knows (record { base = base; chosen = [] }) roots xs
     → Knows (record { base = base; chosen = take depth values }) old xs → Knows (record { base = base; chosen = take at values }) new xs
-
--- how much is left to try behind the values of the first of so many subjects
-abbrev pub weight : ℕ → List ℕ → ℕ
-weight n [] = 0
-weight zero (v ∷ vs) = 0
-weight (suc n) (v ∷ vs) = (MAX_CHOICES - v) * suc MAX_CHOICES ^ n + weight n vs
-
--- the same at a dead end, and less where there is none
-abbrev pub weight_at : List ℕ → Option DeadEnd → ℕ
-weight_at values None = 0
-weight_at values (Some end) = 1 + weight (length values) (take end.depth values)

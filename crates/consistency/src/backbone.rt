@@ -84,15 +84,16 @@ fn first_backbone(
     components: usize,
     vars: VarSet,
     space: &mut Space,
+    spare: &mut Spare,
 ) -> Result<List<Pair>, AllocError>
     requires proper { IsProblem problem.now.clauses space.old.base.items }
     requires room { HasRoom (length space.old.base.items) space.old }
+    requires spare { HasSpare (length space.old.base.items) spare.old }
     requires front { components ≤ length space.old.base.items }
     requires some { ((xs : List ℕ) → IsSolution problem.now.clauses space.old.base.items xs → ⊥)
         → ⊥ }
     ensures { IfOk result (IsBackbone problem.now.clauses space.old.base.items components vars) }
 {
-    let spare = &mut space.spare;
     bounds(problem, &space.base, &mut space.sets);
     spare.guessed.copy_from_slice(&space.sets);
     let clash = solution_or_clash(
@@ -135,9 +136,10 @@ impl Worlds {
     {
         let modes = all_pairs(alloc, model, state)?;
         let mut space = Space::of(alloc, model)?;
+        let mut spare = Spare::of(alloc, model)?;
         model_base(model, &self.rules, modes.as_slice(), &[], &mut space.base);
         let components = model.components().len();
-        let pairs = first_backbone(alloc, &self.rules, components, vars, &mut space)?;
+        let pairs = first_backbone(alloc, &self.rules, components, vars, &mut space, &mut spare)?;
         Ok(Seen { pairs })
     }
 }

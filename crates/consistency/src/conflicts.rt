@@ -9,9 +9,10 @@ ghost use Rattle.consistency.specs.Space.{HasRoom};
 
 use crate::base::model_base;
 use crate::bounds::bounds;
-use crate::guess::solution_or_clash;
+use crate::guess::is_guessed;
 use crate::pairs::{all_pairs, joined};
 use crate::rules::Rules;
+use crate::search::solve;
 use crate::space::Space;
 use crate::subjects::{SubjectSet, has_subject};
 use crate::worlds::Worlds;
@@ -20,12 +21,19 @@ use std::alloc::{AllocError, Global};
 
 /// The subjects that are to blame that no state which extends the modes has a world that agrees with what is seen. None
 /// comes where some state has one.
-fn core_of(rules: &Rules, modes: &Cube, seen: &Seen, space: &mut Space) -> Option<SubjectSet>
+fn core_of(
+    rules: &Rules,
+    modes: &Cube,
+    seen: &Seen,
+    space: &mut Space,
+) -> Result<Option<SubjectSet>, AllocError>
     requires modes { All (λ p. HasMode rules.now.model.now p.item p.value) modes.now }
     requires seen { All (λ p. HasValue rules.now.model.now p.item p.value) seen.now.pairs }
     requires room { HasRoom (length rules.now.worlds.now.sizes) space.old }
-    ensures some { IfSome result (IsCore rules.now.model.now seen.now.pairs modes.now) }
-    ensures none { IsNone result → IsShowable rules.now.model.now seen.now.pairs modes.now }
+    ensures some { IfOk result (λ o.
+        IfSome o (IsCore rules.now.model.now seen.now.pairs modes.now)) }
+    ensures none { IfOk result (λ o.
+        IsNone o → IsShowable rules.now.model.now seen.now.pairs modes.now) }
     ensures room { HasRoom (length rules.now.worlds.now.sizes) space.new }
 {
     let worlds = rules.worlds;
@@ -39,13 +47,17 @@ fn core_of(rules: &Rules, modes: &Cube, seen: &Seen, space: &mut Space) -> Optio
         &mut space.base,
     );
     bounds(problem, &space.base, &mut space.sets);
-    solution_or_clash(
+    if is_guessed(
         problem,
         &space.base,
         &mut space.sets,
-        &mut space.spare.domains,
+        &[],
         &mut space.values,
-    )
+    ) {
+        return Ok(None);
+    }
+    space.make_domains(rules.alloc)?;
+    Ok(solve(problem, &space.base, &mut space.domains, &mut space.values))
 }
 
 /// The same of the modes that were kept with those that are still to be tried.
@@ -68,7 +80,7 @@ pub fn core_left(
     ensures room { HasRoom (length rules.now.worlds.now.sizes) space.new }
 {
     let others = joined(rules.alloc, kept, behind)?;
-    Ok(core_of(rules, &others, seen, space))
+    core_of(rules, &others, seen, space)
 }
 
 /// The pairs of a state, with subjects among them that are to blame that no world of it agrees with what is seen.
@@ -96,7 +108,7 @@ pub fn blame_of(
     ensures room { HasRoom (length rules.now.worlds.now.sizes) space.new }
 {
     let pairs = all_pairs(rules.alloc, rules.model, state)?;
-    match core_of(rules, &pairs, seen, space) {
+    match core_of(rules, &pairs, seen, space)? {
         Some(core) => Ok(Some(Blamed { pairs, core })),
         None => Ok(None),
     }

@@ -41,6 +41,5 @@ pub use mirror::Mirror;
 pub use observed::union;
 pub use pairs::all_pairs;
 pub use rules::{Rules, rules_of};
-pub use space::Space;
 pub use standing::stand_in;
 pub use worlds::Worlds;

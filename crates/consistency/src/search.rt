@@ -92,8 +92,8 @@ fn descend(
     })
 }
 
-/// Seeks the first solution in three parts of the memory: the domains before anything is chosen, those now, and what is left of each subject that has
-/// a value.
+/// Seeks the first solution. Three parts of the memory have the domains before anything is chosen, the domains now, and what is left
+/// of each subject that has a value.
 fn search(
     problem: &Problem,
     base: &[ValueSet],

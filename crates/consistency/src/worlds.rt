@@ -55,12 +55,8 @@ fn first_found(
 {
     let components = model.components().len();
     model_base(model, problem, modes, seen, &mut space.base);
-    match solve(
-        problem,
-        &space.base,
-        &mut space.spare.domains,
-        &mut space.values,
-    ) {
+    space.make_domains(alloc)?;
+    match solve(problem, &space.base, &mut space.domains, &mut space.values) {
         None => Ok(Some(split(alloc, components, &space.values)?)),
         Some(_because) => Ok(None),
     }

@@ -1,5 +1,5 @@
 use Rattle.std.proofs.Common.{arith}
-use Rattle.consistency.proofs.PathLaws.{retracts}
+use Rattle.consistency.proofs.GivenUp.{retracts}
 use Rattle.consistency.proofs.retract.retract.Goals as goal
 
 pub returns : goal.returns

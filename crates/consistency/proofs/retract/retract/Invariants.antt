@@ -1,6 +1,6 @@
 use Rattle.std.proofs.Common.{◌≡◌, ℕ, ◌<◌, ◌≤◌, slice_index_or}
 use Rattle.consistency.specs.Search.{nothing}
-use Rattle.consistency.proofs.PathLaws.{IsRetracted}
+use Rattle.consistency.proofs.GivenUp.{IsRetracted}
 use Rattle.consistency.proofs.retract.retract.Given as goal
 
 abbrev pub invariant-loop-subject : goal.invariant-loop-subject

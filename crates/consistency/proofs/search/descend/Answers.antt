@@ -7,7 +7,9 @@ use Rattle.consistency.specs.declared.domain.Domain.{Domain}
 use Rattle.consistency.specs.Search.{IsSolution, KnowsAll, nothing, values_at}
 use Rattle.consistency.specs.Path.{IsLeft, IsPath}
 use Rattle.consistency.proofs.SearchFrom.{whole_clash}
-use Rattle.consistency.proofs.PathLaws.{none_left, path_longer, known_longer, clash_longer, known_left, path_set, first_of}
+use Rattle.consistency.proofs.DeadEnds.{none_left}
+use Rattle.consistency.proofs.Paths.{path_longer, known_longer, clash_longer, known_left, path_set}
+use Rattle.consistency.proofs.FirstOnPath.{first_of}
 use Rattle.consistency.proofs.search.descend.Goals as goal
 use Rattle.consistency.proofs.search.descend.Goals.{then-next-base, else-next-base}
 

@@ -4,9 +4,10 @@ use Rattle.cca_base.specs.Sets.{has}
 use Rattle.consistency.specs.declared.turn.DeadEnd.{DeadEnd}
 use Rattle.consistency.specs.declared.domain.Domain.{Domain}
 use Rattle.consistency.specs.Search.{Knows, nothing}
-use Rattle.consistency.specs.Path.{IsLeft, IsEnd, IsDeadEnd, IsLeftAt, weight_at}
+use Rattle.consistency.specs.Path.{IsLeft, IsEnd, IsDeadEnd, IsLeftAt}
 use Rattle.consistency.proofs.SearchFrom.{start}
-use Rattle.consistency.proofs.PathLaws.{known_left, path_cut, path_set, falls, choice_at, end_inside}
+use Rattle.consistency.proofs.Paths.{known_left, path_cut, path_set, choice_at}
+use Rattle.consistency.proofs.LeftToTry.{falls, end_inside, weight_at}
 use Rattle.consistency.proofs.search.search.Goals as goal
 
 pub returns-in-Some : goal.returns-in-Some

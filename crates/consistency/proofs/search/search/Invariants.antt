@@ -1,6 +1,7 @@
 use Rattle.std.proofs.Common.{[]}
 use Rattle.consistency.specs.Search.{KnowsAll}
-use Rattle.consistency.specs.Path.{IsEnd, weight_at}
+use Rattle.consistency.proofs.LeftToTry.{weight_at}
+use Rattle.consistency.specs.Path.{IsEnd}
 use Rattle.consistency.proofs.search.search.Given as goal
 
 abbrev pub invariant-loop-end : goal.invariant-loop-end

@@ -6,7 +6,8 @@ use Rattle.cca_base.proofs.SetLaws.{has-empty}
 use Rattle.consistency.specs.declared.domain.Domain.{Domain}
 use Rattle.consistency.specs.Search.{IsClash, nothing}
 use Rattle.consistency.specs.Path.{IsChoice}
-use Rattle.consistency.proofs.PathLaws.{passed, rest_left, rest_higher, none_left, choice_at}
+use Rattle.consistency.proofs.DeadEnds.{passed, rest_left, rest_higher, none_left}
+use Rattle.consistency.proofs.Paths.{choice_at}
 use Rattle.consistency.proofs.turn.turn_back.Goals as goal
 
 pub returns : goal.returns

@@ -13,7 +13,7 @@ returns-in_ok-split-in-None c denied of =
     let values : List ℕ = c.solve.new.values in
     let n : c.len-components.result ≡ length c.args.model.now.components = c.len-components.ensures ∙ ap length c.components.ensures.value in
     let base : IsBase p.sizes c.len-components.result c.args.modes.now c.args.seen.now fresh = subst (λ k. IsBase p.sizes k c.args.modes.now c.args.seen.now fresh) (sym n) c.model_base.ensures.base in
-    let after : c.deref.result.now ≡ fresh = c.deref.ensures.value ∙ written _ fresh _ (omega (arith, c.deref_mut.ensures.len)) in
+    let after : c.deref.result.now ≡ fresh = c.deref.ensures.value ∙ (ap (λ v. v.items) c.in_ok-make_domains.ensures.base ∙ written _ fresh _ (omega (arith, c.deref_mut.ensures.len))) in
     let kept : c.deref-in-None.result.now ≡ values = c.deref-in-None.ensures.value ∙ written _ values _ (omega (arith, c.deref_mut-3.ensures.len)) in
     first_split c.args.model.now c.args.modes.now c.args.seen.now denied (clauses_in p) c.len-components.result fresh of
     n base c.requires.modes c.requires.seen
@@ -26,7 +26,7 @@ returns-in-Some c denied of =
     let fresh : List ℕ = c.model_base.new.base in
     let n : c.len-components.result ≡ length c.args.model.now.components = c.len-components.ensures ∙ ap length c.components.ensures.value in
     let base : IsBase p.sizes c.len-components.result c.args.modes.now c.args.seen.now fresh = subst (λ k. IsBase p.sizes k c.args.modes.now c.args.seen.now fresh) (sym n) c.model_base.ensures.base in
-    let after : c.deref.result.now ≡ fresh = c.deref.ensures.value ∙ written _ fresh _ (omega (arith, c.deref_mut.ensures.len)) in
+    let after : c.deref.result.now ≡ fresh = c.deref.ensures.value ∙ (ap (λ v. v.items) c.in_ok-make_domains.ensures.base ∙ written _ fresh _ (omega (arith, c.deref_mut.ensures.len))) in
     none_fits c.args.model.now c.args.modes.now c.args.seen.now denied (clauses_in p) c.len-components.result fresh of
     n base c.requires.modes c.requires.seen
     (clash_none p.clauses fresh c.in-Some._because c.model_base.ensures.proper.few (subst (λ (b : List ℕ). IsClash p.clauses b [] c.in-Some._because) after c.in-Some.ensures))

@@ -22,7 +22,7 @@ first_backbone-requires-clause-some c none =
     (λ xs h. none xs (subst (λ (b : List ℕ). IsSolution rules.clauses b xs) (sym (written _ sets _ (omega (arith, c.deref_mut.ensures.len)))) h))
 
 -- the solutions' backbone, of the model's components
-found : (c : goal.Joined-modes-3) → IsBackbone c.self.inside.rules.clauses c.model_base.new.base (length c.args.model.now.components) c.args.vars c.in_ok-pairs.pairs
+found : (c : goal.Joined-modes-4) → IsBackbone c.self.inside.rules.clauses c.model_base.new.base (length c.args.model.now.components) c.args.vars c.in_ok-pairs.pairs
 found c =
     let clauses = c.self.inside.rules.clauses in
     let n : c.len-components.result ≡ length c.args.model.now.components = c.len-components.ensures ∙ ap length c.components.ensures.value in
@@ -31,7 +31,7 @@ found c =
     subst (λ (b : List ℕ). IsBackbone clauses b (length c.args.model.now.components) c.args.vars c.in_ok-pairs.pairs) (written made.len fresh (drop (length fresh) made.items) (omega (arith, c.deref_mut.ensures.len)))
     (subst (λ (k : ℕ). IsBackbone clauses (take made.len (fresh ++ drop (length fresh) made.items)) k c.args.vars c.in_ok-pairs.pairs) n c.in_ok-pairs.ensures)
 
-base_of : (c : goal.Joined-modes-3) → IsBase c.self.inside.rules.sizes (length c.args.model.now.components) (pairs_of c.args.state.now.modes) [] c.model_base.new.base
+base_of : (c : goal.Joined-modes-4) → IsBase c.self.inside.rules.sizes (length c.args.model.now.components) (pairs_of c.args.state.now.modes) [] c.model_base.new.base
 base_of c = subst (λ ps. IsBase c.self.inside.rules.sizes (length c.args.model.now.components) ps [] c.model_base.new.base) (c.as_slice.ensures.pairs ∙ c.in_ok-modes.ensures) c.model_base.ensures.base
 
 pub returns-clause-forced : goal.returns-clause-forced
