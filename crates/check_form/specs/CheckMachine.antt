@@ -8,7 +8,7 @@ use Rattle.cca_base.specs.PlantModel.{PlantModel}
 use Rattle.cca_base.specs.Refusals.{bare}
 use Rattle.cca_base.specs.Trace.{MayCome, start}
 use Rattle.line_forms.specs.LinesMachine.{lines_machine}
-use Rattle.line_forms.specs.declared.line_form.LineForm.{Ghosts as LineGhosts}
+use Rattle.line_forms.specs.LineMeaning.{LineMeaning}
 use Rattle.line_machine.specs.Next.{Next, Stops}
 use Rattle.line_machine.specs.declared.machine.End.TheVariants as ends
 use Rattle.line_machine.specs.declared.machine.Machine.{Ghosts}
@@ -116,7 +116,7 @@ closing_in (InScript b s) n = refused_answer false b.model n (bare ENDS_EARLY)
 closing_in (InTrace b x) n = trace_closing x.behind x
 
 -- what a line says, and what is done for it
-abbrev pub check_lines : LineGhosts CheckState CheckItem
+abbrev pub check_lines : LineMeaning CheckState CheckItem
 check_lines = record {
   model_of = model_of;
   is_json = λ s. false;

@@ -8,7 +8,7 @@ ghost use Rattle.check_form.specs.CheckMachine.{FitsScript, script_item};
 ghost use Rattle.check_form.specs.CheckScript.{is_trace_line, no_events, with_event};
 ghost use Rattle.check_form.specs.CheckStages.{KeepsScript, script_of};
 
-use crate::item::{CheckItem, copied_event};
+use crate::item::CheckItem;
 use cca_base::{Event, Model, Stop};
 use script_reader::{NamedModel, read_named_event};
 use std::alloc::{AllocError, Global};
@@ -50,18 +50,17 @@ impl ScriptEvents {
     }
 
     /// Keeps an event. The error is out of memory.
-    pub fn keep(&mut self, alloc: Global, model: &Model, event: &Event) -> Result<(), AllocError>
+    pub fn keep(&mut self, alloc: Global, model: &Model, event: Event) -> Result<(), AllocError>
         requires may_come { MayCome model.now (script_of self.old).pending
-            (script_of self.old).mirrored event.now }
+            (script_of self.old).mirrored event }
         requires keeps { KeepsScript model.now (script_of self.old) }
         ensures event { OnOk result ((after : _)
-            × PendingAfter (script_of self.old).pending event.now after
-            × (script_of self.new ≡ with_event (script_of self.old) event.now after)) }
+            × PendingAfter (script_of self.old).pending event after
+            × (script_of self.new ≡ with_event (script_of self.old) event after)) }
         ensures keeps { KeepsScript model.now (script_of self.new) }
     {
-        let known = self.known.after(alloc, model, event)?;
-        let own = copied_event(alloc, event)?;
-        self.events.push_back(own)?;
+        let known = self.known.after(alloc, model, &event)?;
+        self.events.push_back(event)?;
         self.known = known;
         Ok(())
     }

@@ -5,12 +5,12 @@ ghost use Rattle.model_form.specs.FormStates.{form_first};
 
 use crate::check_script::ScriptEvents;
 use crate::check_trace::TraceCheck;
-use crate::item::{CheckItem, copied};
+use crate::item::CheckItem;
 use cca_base::codes::ENDS_EARLY;
-use cca_base::{Model, Refusal, Stop};
-use line_forms::{LineForm, Lines, OpensLines};
+use cca_base::{Model, Stop};
+use line_forms::{LineForm, Lines, OpensLines, kept_line};
 use line_machine::{End, Out};
-use model_form::{Accepted, MAX_LINE, OfLines, WithModel, refuse_to};
+use model_form::{Accepted, MAX_LINE, OfLines, WithModel, refuse_code_to};
 use std::alloc::{AllocError, Global};
 use std::mem;
 use trace_text::MAX_TRACE_LINE;
@@ -63,21 +63,7 @@ impl LineForm<CheckItem> for Checking {
     ghost use Rattle.check_form.specs.CheckMachine.{check_lines};
     ghost use Rattle.check_form.specs.CheckOneStep.{said_one, serves_one};
 
-    ghost model_of = { check_lines.model_of };
-
-    ghost is_json = { check_lines.is_json };
-
-    ghost limit_of = { check_lines.limit_of };
-
-    ghost said = { check_lines.said };
-
-    ghost fits = { check_lines.fits };
-
-    ghost serves = { check_lines.serves };
-
-    ghost closing = { check_lines.closing };
-
-    ghost awaits = { check_lines.awaits };
+    ghost means = { check_lines };
 
     ghost said_one = { said_one };
 
@@ -100,12 +86,17 @@ impl LineForm<CheckItem> for Checking {
         }
     }
 
+    fn skips_empty(&self) -> bool {
+        // (one of a trace is a line like any other, and one of its script is read)
+        false
+    }
+
     fn read(&self, alloc: Global, line: &[u8]) -> Result<Option<CheckItem>, Stop> {
         let _compiled = self.accepted.compiled().model();
         match &self.part {
             Part::Script(script) => script.read(alloc, self.accepted.named(), line),
             Part::Trace(_) => {
-                let bytes = copied(alloc, line)?;
+                let bytes = kept_line(alloc, line)?;
                 Ok(Some(CheckItem::Judges(bytes)))
             }
         }
@@ -115,7 +106,7 @@ impl LineForm<CheckItem> for Checking {
         &mut self,
         alloc: Global,
         _number: u64,
-        item: &CheckItem,
+        item: CheckItem,
         out: &mut Out,
     ) -> Result<Option<End>, AllocError> {
         let model = self.accepted.compiled().model();
@@ -135,7 +126,7 @@ impl LineForm<CheckItem> for Checking {
                 CheckItem::Judges(_) => unreachable!(),
             },
             Part::Trace(trace) => match item {
-                CheckItem::Judges(line) => trace.line(alloc, model, line.as_slice(), out),
+                CheckItem::Judges(bytes) => trace.line(alloc, model, bytes.as_slice(), out),
                 CheckItem::Keeps(_) | CheckItem::Trace => unreachable!(),
             },
         }
@@ -145,9 +136,8 @@ impl LineForm<CheckItem> for Checking {
         match &self.part {
             Part::Trace(trace) => trace.close(alloc, out),
             Part::Script(_) => {
-                let refusal = Refusal::bare(ENDS_EARLY);
                 let model = self.accepted.compiled().model();
-                refuse_to(alloc, false, model, count, &refusal, out)?;
+                refuse_code_to(alloc, false, model, count, ENDS_EARLY, out)?;
                 Ok(End::Refused)
             }
         }

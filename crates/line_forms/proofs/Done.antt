@@ -12,9 +12,9 @@ use Rattle.line_machine.proofs.SureTextBegins.{goes_on}
 use Rattle.trace_text.specs.Json.{refusal_text}
 use Rattle.line_forms.specs.LinesDo.{code_at, SaidByCode, DoBy, LinesDo, LinesEndSo, LinesAreDone}
 use Rattle.line_forms.specs.LinesMachine.{DoesBy, lines_machine, line_closes_are_one}
-use Rattle.line_forms.specs.declared.line_form.LineForm.{Ghosts as LineGhosts}
+use Rattle.line_forms.specs.LineMeaning.{LineMeaning}
 
-module _ {L I : Type 0} (form : LineGhosts L I) where
+module _ {L I : Type 0} (form : LineMeaning L I) where
   -- the items of lines that do so
   abbrev Done : Next L → ℕ → List (List ℕ) → Next L → List ℕ → Type 0
   Done s n ls t text = (items : List I) × LinesDo form s n ls items t text

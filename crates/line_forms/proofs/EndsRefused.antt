@@ -12,7 +12,7 @@ use Rattle.model_form.proofs.NeverRejected.{IsNotRejected}
 use Rattle.model_form.proofs.RefusedOnly.{EndsByRefusal, IsRefused, ends_by_refusal}
 use Rattle.line_forms.specs.Asked.{Effect, Sets, Asks, Denies, ServesEffect}
 use Rattle.line_forms.specs.LinesMachine.{DoesBy, lines_machine, line_steps_are_one, line_closes_are_one}
-use Rattle.line_forms.specs.declared.line_form.LineForm.{Ghosts as LineGhosts}
+use Rattle.line_forms.specs.LineMeaning.{LineMeaning}
 
 -- what an item comes to ends the program only where its line is refused
 pub effect_refused : {L S T X : Type 0} (json : Bool) (m : PlantModel) (at : T → S → L) (Shows : T → X → T → List ℕ → Type 0) (f : Effect S X) (t : T) (n : ℕ) (e : End) (text : List ℕ)
@@ -21,7 +21,7 @@ effect_refused json m at Shows (Sets y) t n e text h = absurd (not_end e (at t y
 effect_refused json m at Shows (Asks x y) t n e text (v, shows, next) = absurd (not_end e (at v y) next)
 effect_refused json m at Shows (Denies code) t n e text h = same_end e Refused h.0
 
-module _ {L I : Type 0} (form : LineGhosts L I) where
+module _ {L I : Type 0} (form : LineMeaning L I) where
   -- a state and a line lead to one state and one text
   pub lines_fixed : ((x : L) (l : List ℕ) (a b : Result (Option I) ℕ) → form.said x l a → form.said x l b → a ≡ b)
       → ((i : I) (x : L) (l : List ℕ) (n : ℕ) (u v : Next L) (a c : List ℕ) → form.said x l (Ok (Some i)) → form.serves i x n u a → form.serves i x n v c → (u ≡ v) × (a ≡ c)) → IsFixed (lines_machine form)

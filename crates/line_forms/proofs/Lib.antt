@@ -1,3 +1,4 @@
+pub mod AskedForm
 pub mod Done
 pub mod EndsRefused
 pub mod OneAsked

@@ -14,10 +14,10 @@ use Rattle.trace_text.specs.Json.{refusal_text}
 use Rattle.line_forms.specs.Asked.{Effect, Sets, Asks, Denies, FollowsEffect, ServesEffect, Shown, Tells, TellsLines, ending_by}
 use Rattle.line_forms.specs.LinesDo.{code_at, SaidByCode, DoBy, LinesDo}
 use Rattle.line_forms.specs.LinesMachine.{lines_machine}
-use Rattle.line_forms.specs.declared.line_form.LineForm.{Ghosts as LineGhosts}
+use Rattle.line_forms.specs.LineMeaning.{LineMeaning}
 use Rattle.line_forms.proofs.Done.{ended, ends}
 
-module _ {L R S T X : Type 0} (form : LineGhosts L R) (json : Bool) (m : PlantModel) (at : T → S → L)
+module _ {L R S T X : Type 0} (form : LineMeaning L R) (json : Bool) (m : PlantModel) (at : T → S → L)
     (IsSaid : S → List ℕ → Result (Option R) ℕ → Type 0) (Follows : R → S → ℕ → (S → Asked X → Type 0) → Asked X → Type 0)
     (Leads : R → S → Effect S X → Type 0) (Shows : T → X → T → List ℕ → Type 0) (Ties : T → S → Type 0) (closing : T → List ℕ) (k : Tells form json m at IsSaid Follows Leads Shows Ties closing) where
   -- the lines are told so

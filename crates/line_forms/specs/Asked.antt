@@ -9,7 +9,7 @@ use Rattle.model_form.specs.Answers.{Answer, answer, refused_answer}
 use Rattle.model_form.specs.LinesEnds.{LinesEnd, AllRead, RefusedAt, Asked, ReadsLines, refused_at, with_item}
 use Rattle.model_form.specs.ModelSteps.{GoesOnIn, RefusesLine}
 use Rattle.model_form.specs.declared.limits.TheConstants.{MAX_LINE}
-use Rattle.line_forms.specs.declared.line_form.LineForm.{Ghosts as LineGhosts}
+use Rattle.line_forms.specs.LineMeaning.{LineMeaning}
 
 -- what an item comes to: it sets something for the later lines; it asks for a thing, and leaves this set; or its line is refused
 pub data Effect (S X : Type 0) : Type 0 where
@@ -43,7 +43,7 @@ module _ {L S T X : Type 0} (json : Bool) (m : PlantModel) (at : T → S → L) 
   ServesEffect (Asks x y) t n u text = (v : T) × Shows t x v text × (u ≡ GoesOn (at v y))
   ServesEffect (Denies code) t n u text = RefusesLine json m n (bare code) u text
 
-module _ {L R S T X : Type 0} (form : LineGhosts L R) (json : Bool) (m : PlantModel) (at : T → S → L)
+module _ {L R S T X : Type 0} (form : LineMeaning L R) (json : Bool) (m : PlantModel) (at : T → S → L)
     (IsSaid : S → List ℕ → Result (Option R) ℕ → Type 0) (Follows : R → S → ℕ → (S → Asked X → Type 0) → Asked X → Type 0)
     (Leads : R → S → Effect S X → Type 0) (Shows : T → X → T → List ℕ → Type 0) (Ties : T → S → Type 0) (closing : T → List ℕ) where
   -- a form's state says and does what an item comes to, where its place and its settings go together, and they go on to

@@ -9,9 +9,9 @@ use Rattle.line_machine.specs.declared.machine.End.{End}
 use Rattle.line_machine.specs.declared.machine.End.TheVariants.{Refused}
 use Rattle.trace_text.specs.Json.{refusal_text}
 use Rattle.line_forms.specs.LinesMachine.{lines_machine}
-use Rattle.line_forms.specs.declared.line_form.LineForm.{Ghosts as LineGhosts}
+use Rattle.line_forms.specs.LineMeaning.{LineMeaning}
 
-module _ {L I : Type 0} (form : LineGhosts L I) where
+module _ {L I : Type 0} (form : LineMeaning L I) where
   -- the code of a line of this number that is too long, or one too many
   abbrev pub code_at : L → ℕ → List ℕ → Option ℕ
   code_at x n l = length_code (form.limit_of x) n (length l)

@@ -7,9 +7,9 @@ use Rattle.line_machine.specs.declared.machine.Machine.{Ghosts}
 use Rattle.model_form.specs.Answers.{Answer, answer}
 use Rattle.model_form.specs.ModelSteps.{GoesOnIn, RefusesLine}
 use Rattle.trace_text.specs.Json.{refusal_text}
-use Rattle.line_forms.specs.declared.line_form.LineForm.{Ghosts as LineGhosts}
+use Rattle.line_forms.specs.LineMeaning.{LineMeaning}
 
-module _ {L I : Type 0} (form : LineGhosts L I) where
+module _ {L I : Type 0} (form : LineMeaning L I) where
   -- a line by what it says: nothing, an item that is served, or a refusal
   abbrev pub DoesBy : Result (Option I) ℕ → L → ℕ → Next L → List ℕ → Type 0
   DoesBy (Err code) x n u text = RefusesLine (form.is_json x) (form.model_of x) n (bare code) u text

@@ -2,10 +2,12 @@
 //! of all of them. What lines do is the items that they say, in order, their texts one behind the other, and how they end.
 #![tactic(auto)]
 
+mod kept;
 mod laws;
 mod line_form;
 mod lines;
 
+pub use kept::kept_line;
 pub use laws::lines_are_done;
 pub use line_form::{LineForm, OpensLines};
 pub use lines::Lines;

@@ -1,10 +1,11 @@
 //! A form of words by its lines: what a line says, and what is done for it.
 
-ghost use Rattle.std.specs.Prelude.{◌≡◌, ◌+◌, ℕ, Bool, List, Option, Result, Ok, Some, None, IfOk, IfSome};
-ghost use Rattle.cca_base.specs.Prelude.{Answers, CompiledModel, PlantModel};
+ghost use Rattle.std.specs.Prelude.{◌≡◌, ◌+◌, ℕ, Bool, List, [], Option, Result, Ok, Some, None, IfOk, IfSome, IsTrue};
+ghost use Rattle.cca_base.specs.Prelude.{Answers, CompiledModel};
 ghost use Rattle.line_machine.specs.Next.{Next, next_of};
 ghost use Rattle.line_machine.specs.Outs.{Appended, IsFront};
-ghost use Rattle.model_form.specs.Answers.{Answer, answer};
+ghost use Rattle.model_form.specs.Answers.{answer};
+ghost use Rattle.line_forms.specs.LineMeaning.{LineMeaning};
 
 use cca_base::{Model, Stop};
 use line_machine::{End, Out};
@@ -13,77 +14,61 @@ use std::alloc::{AllocError, Global};
 
 /// What a line says, and what is done for it. `I` is what a line may ask for.
 pub trait LineForm<I> {
-    /// The model that the lines stand behind.
-    ghost model_of: { Self → PlantModel };
-
-    /// Whether a refusal is printed as JSON.
-    ghost is_json: { Self → Bool };
-
-    /// The most bytes of the next line, without its LF.
-    ghost limit_of: { Self → ℕ };
-
-    /// What a line says in this state: nothing, an item, or its least code.
-    ghost said: { Self → List ℕ → Result (Option I) ℕ → Type 0 };
-
-    /// What is known in this state of an item that was read.
-    ghost fits: { Self → I → Type 0 };
-
-    /// In this state the item of the line of this number leads here, and prints this.
-    ghost serves: { I → Self → ℕ → Next Self → List ℕ → Type 0 };
-
-    /// What is printed at the end of the input behind so many lines, and how the program ends.
-    ghost closing: { Self → ℕ → Answer };
-
-    /// In this state the line of this number may come next.
-    ghost awaits: { Self → ℕ → Type 0 };
+    /// What lines mean here.
+    ghost means: { LineMeaning Self I };
 
     /// The model.
     fn model(&self) -> &Model
-        ensures { result.now ≡ model_of self.now };
+        ensures { result.now ≡ means.model_of self.now };
 
     /// Whether a refusal is printed as JSON.
     fn is_json(&self) -> bool
-        ensures { result ≡ is_json self.now };
+        ensures { result ≡ means.is_json self.now };
 
     /// The most bytes of the next line.
     fn limit(&self) -> usize
-        ensures { result ≡ limit_of self.now };
+        ensures { result ≡ means.limit_of self.now };
+
+    /// Whether an empty line is known to say nothing here.
+    fn skips_empty(&self) -> bool
+        ensures { IsTrue result → means.said self.now [] (Ok None) };
 
     /// Reads a line.
     fn read(&self, alloc: Global, line: &[u8]) -> Result<Option<I>, Stop>
-        ensures said { Answers result (said self.now line.now) }
-        ensures fits { IfOk result (λ item. IfSome item (fits self.now)) };
+        ensures said { Answers result (means.said self.now line.now) }
+        ensures fits { IfOk result (λ item. IfSome item (means.fits self.now)) };
 
     /// Does what a line of this number asks for, and appends what is printed. The error is out of memory.
     fn serve(
         &mut self,
         alloc: Global,
         number: u64,
-        item: &I,
+        item: I,
         out: &mut Out,
     ) -> Result<Option<End>, AllocError>
-        requires fits { fits self.old item.now }
-        requires turn { awaits self.old number }
+        requires fits { means.fits self.old item }
+        requires turn { means.awaits self.old number }
         ensures serves { IfOk result (λ end.
-            Appended (serves item.now self.old number (next_of self.new end)) out.old out.new) }
-        ensures turn { IfOk result (λ end. end ≡ None → awaits self.new (number + 1)) }
+            Appended (means.serves item self.old number (next_of self.new end)) out.old out.new) }
+        ensures turn { IfOk result (λ end. end ≡ None → means.awaits self.new (number + 1)) }
         ensures front { IsFront out.old out.new };
 
     /// Takes the end of the input, behind `count` lines, and appends what is printed. The error is out of memory.
     fn close(&mut self, alloc: Global, count: u64, out: &mut Out) -> Result<End, AllocError>
         ensures closes { IfOk result (λ end.
-            Appended (λ text. answer end text ≡ closing self.old count) out.old out.new) }
+            Appended (λ text. answer end text ≡ means.closing self.old count) out.old out.new) }
         ensures front { IsFront out.old out.new };
 
     // A state and a line have one meaning, and a state and an item that is said there lead to one state and one text.
     ghost said_one: { (x : Self) (l : List ℕ) (a b : Result (Option I) ℕ) →
-        said x l a → said x l b → a ≡ b };
+        means.said x l a → means.said x l b → a ≡ b };
 
     ghost serves_one: { (i : I) (x : Self) (l : List ℕ) (n : ℕ) (u v : Next Self) (a c : List ℕ) →
-        said x l (Ok (Some i)) → serves i x n u a → serves i x n v c → (u ≡ v) × (a ≡ c) };
+        means.said x l (Ok (Some i)) → means.serves i x n u a → means.serves i x n v c →
+        (u ≡ v) × (a ≡ c) };
 
     // A state that waits for a line may wait for the next one, as behind a line that says nothing.
-    ghost awaits_on: { (x : Self) (n : ℕ) → awaits x n → awaits x (n + 1) };
+    ghost awaits_on: { (x : Self) (n : ℕ) → means.awaits x n → means.awaits x (n + 1) };
 }
 
 /// A form that begins behind an accepted model.
@@ -94,5 +79,5 @@ pub trait OpensLines<I>: LineForm<I> {
     /// Before the first line. The error is out of memory.
     fn open(alloc: Global, accepted: Accepted) -> Result<Self, AllocError>
         ensures first { IfOk result (λ b. b ≡ first accepted) }
-        ensures turn { IfOk result (λ b. (n : ℕ) → Self.awaits b (n + 1)) };
+        ensures turn { IfOk result (λ b. (n : ℕ) → Self.means.awaits b (n + 1)) };
 }

@@ -3,9 +3,8 @@
 ghost use Rattle.std.specs.Prelude.{◌≡◌, IfOk};
 
 use crate::line_form::{LineForm, OpensLines};
-use cca_base::Refusal;
 use line_machine::{End, Machine, Out};
-use model_form::{Accepted, BehindModel, refuse_stop_to, refuse_to};
+use model_form::{Accepted, BehindModel, refuse_code_to, refuse_stop_to};
 use std::alloc::{AllocError, Global};
 use std::marker::PhantomData;
 
@@ -38,22 +37,26 @@ impl<L: LineForm<I> + Drop, I: Drop> Lines<L, I> {
 impl<L: LineForm<I> + Drop, I: Drop> Machine for Lines<L, I> {
     ghost use Rattle.line_forms.specs.LinesMachine.{lines_machine, line_steps_are_one, line_closes_are_one};
 
-    ghost limit_of = { (lines_machine L.LineForm).limit_of };
+    ghost limit_of = { (lines_machine L.means).limit_of };
 
-    ghost refusal = { (lines_machine L.LineForm).refusal };
+    ghost refusal = { (lines_machine L.means).refusal };
 
-    ghost steps = { (lines_machine L.LineForm).steps };
+    ghost steps = { (lines_machine L.means).steps };
 
-    ghost closes = { (lines_machine L.LineForm).closes };
+    ghost closes = { (lines_machine L.means).closes };
 
-    ghost awaits = { (lines_machine L.LineForm).awaits };
+    ghost awaits = { (lines_machine L.means).awaits };
 
-    ghost steps_are_one = { line_steps_are_one L.LineForm.own L.said_one L.serves_one };
+    ghost steps_are_one = { line_steps_are_one L.means L.said_one L.serves_one };
 
-    ghost closes_are_one = { line_closes_are_one L.LineForm.own };
+    ghost closes_are_one = { line_closes_are_one L.means };
 
     fn limit(&self) -> usize {
         self.form.limit()
+    }
+
+    fn skips_empty(&self) -> bool {
+        self.form.skips_empty()
     }
 
     fn refuse(
@@ -63,9 +66,8 @@ impl<L: LineForm<I> + Drop, I: Drop> Machine for Lines<L, I> {
         code: u8,
         out: &mut Out,
     ) -> Result<(), AllocError> {
-        let refusal = Refusal::bare(code);
         let json = self.form.is_json();
-        refuse_to(alloc, json, self.form.model(), number, &refusal, out)
+        refuse_code_to(alloc, json, self.form.model(), number, code, out)
     }
 
     fn step(
@@ -76,7 +78,7 @@ impl<L: LineForm<I> + Drop, I: Drop> Machine for Lines<L, I> {
         out: &mut Out,
     ) -> Result<Option<End>, AllocError> {
         match self.form.read(alloc, line) {
-            Ok(Some(item)) => self.form.serve(alloc, number, &item, out),
+            Ok(Some(item)) => self.form.serve(alloc, number, item, out),
             Ok(None) => Ok(None),
             Err(stop) => {
                 let json = self.form.is_json();

@@ -19,7 +19,7 @@ use Rattle.line_machine.specs.declared.machine.End.{End}
 use Rattle.line_machine.specs.declared.machine.End.TheVariants.{Refused}
 use Rattle.line_machine.specs.declared.machine.Machine.{Ghosts}
 use Rattle.line_machine.proofs.SureTextBegins.{stays_decided}
-use Rattle.line_machine.proofs.SentPieces.{write_on, less_on, room_on}
+use Rattle.line_machine.proofs.SentPieces.{append_known-nil, less_space-none, write_on, less_on, room_on}
 use Rattle.line_machine.specs.Call.{Call, bytes_of, Notes, AllCame}
 use Rattle.line_machine.specs.Calls.{InTurn, DrivenInTurn}
 use Rattle.line_machine.specs.declared.machine.TheConstants.{MAX_LINES}
@@ -184,6 +184,10 @@ module _ {S : Type 0} {m : Ghosts S} {first : S} {left0 out0 : Option (List ℕ)
 
       pub line_next : (t : S) {out' : Option (List ℕ)} {space' : Option ℕ} (o : Option End) → o ≡ None → Sent (Transition m s (n + 1) l (next_of t o)) out out' space space' → IsDriving m first left0 out0 space0 calls0 over (n + 1) t (drop (k + 1) held) left out' space' calls
       line_next t o is_none h = line_goes_on t (said_as t o None is_none h)
+
+      -- a line that does nothing goes by
+      pub line_skipped : Transition m s (n + 1) l (GoesOn s) [] → IsDriving m first left0 out0 space0 calls0 over (n + 1) s (drop (k + 1) held) left out space calls
+      line_skipped h = line_goes_on s (record { text = []; is = h; written = sym (append_known-nil out); less = less_space-none space })
 
       pub line_few : (t : S) {out' : Option (List ℕ)} {space' : Option ℕ} (o : Option End) → o ≡ None → Sent (Transition m s (n + 1) l (next_of t o)) out out' space space' → n + 1 ≤ MAX_LINES
       line_few t o is_none h = let k = said_as t o None is_none h in takes_few m s (n + 1) l t k.text k.is

@@ -10,6 +10,10 @@ pub append_known-nil : (o : Option (List ℕ)) → append_known o [] ≡ o
 append_known-nil None = refl
 append_known-nil (Some x) = ap (λ (l : List ℕ). Some l) (append-nil x)
 
+pub less_space-none : (o : Option ℕ) → o ≡ less_space o 0
+less_space-none None = refl
+less_space-none (Some x) = let k : x ≡ x - 0 = omega (arith) in ap (λ (i : ℕ). Some i) k
+
 less_twice : (o : Option ℕ) (m n : ℕ) → less_space (less_space o m) n ≡ less_space o (m + n)
 less_twice None m n = refl
 less_twice (Some x) m n = let k : (x - m) - n ≡ x - (m + n) = omega arith in ap (λ (i : ℕ). Some i) k

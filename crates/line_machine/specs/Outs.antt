@@ -7,8 +7,8 @@ pub record Buffered : Type 0 where
   pub capacity : ℕ
 
 -- so many more bytes fit
-abbrev pub HasPlace : Buffered → ℕ → Type 0
-HasPlace out n = length out.bytes + n ≤ out.capacity
+abbrev pub HasRoomLeft : Buffered → ℕ → Type 0
+HasRoomLeft out n = length out.bytes + n ≤ out.capacity
 
 -- a text of this kind was appended, and what stood there before is its front
 pub record Appended (Is : List ℕ → Type 0) (old new : Buffered) : Type 0 where

@@ -1,6 +1,6 @@
 //! A line buffer: bytes that came and are not yet given out, cut into lines one at a time. A scan mark makes each byte looked at
 //! once, however small the pieces are.
-ghost use Rattle.std.specs.Prelude.{◌≡◌, ◌==◌, position, ◌+◌, ◌-◌, ◌<◌, ◌≤◌, ℕ, List, [], ◌++◌, length, take, drop, vec_len, vec_capacity, IfSome, IfNone, IfOk, IfErr, OnErr, IsErrOf};
+ghost use Rattle.std.specs.Prelude.{◌≡◌, ◌==◌, position, ◌+◌, ◌-◌, ◌<◌, ◌≤◌, ℕ, List, [], ◌++◌, length, take, drop, vec_len, vec_capacity, IfSome, IfNone, IfOk, IfErr, IsTrue, OnErr, IsErrOf};
 ghost use Rattle.std.specs.Io.KnownBytes.{prepend_known, IsAtEnd};
 ghost use Rattle.titan_wire.specs.Wire.{Rose};
 ghost use Rattle.line_machine.specs.Lines.{HasNoLf, HasLine};
@@ -90,6 +90,16 @@ impl LineBuffer {
                 self.scanned = self.bytes.len() - self.start;
                 None
             }
+        }
+    }
+
+    /// Whether an empty line stands first.
+    pub fn begins_empty(&self) -> bool
+        ensures { IsTrue result → HasLine self.now 0 }
+    {
+        match self.bytes.get(self.start) {
+            Some(byte) => *byte == b'\n',
+            None => false,
         }
     }
 

@@ -1,7 +1,9 @@
 //! The driver: one loop that reads a line, steps the machine, and prints what it says before it reads again.
-ghost use Rattle.std.specs.Prelude.{◌≡◌, ◌+◌, ◌<◌, ◌≤◌, ℕ, Some, None, IsErrOf, IfSome, IfOk, List};
+ghost use Rattle.std.specs.Prelude.{◌≡◌, ◌+◌, ◌<◌, ◌≤◌, ℕ, Some, None, IsErrOf, IsTrue, IfSome, IfOk, List, []};
 ghost use Rattle.titan_wire.specs.Wire.{Rose};
-ghost use Rattle.line_machine.specs.Runs.{length_code, IsText};
+ghost use Rattle.line_machine.specs.Lines.{HasLine};
+ghost use Rattle.line_machine.specs.Next.{GoesOn};
+ghost use Rattle.line_machine.specs.Runs.{length_code, IsText, Transition};
 ghost use Rattle.line_machine.specs.declared.machine.End.{End};
 ghost use Rattle.line_machine.specs.Calls.{DrivenInTurn};
 ghost use Rattle.line_machine.specs.Driven.{HasRoomFor};
@@ -33,6 +35,19 @@ fn next_limit<M: Machine>(machine: &M, count: u64) -> (usize, u8)
     }
 }
 
+/// Whether the line behind so many is an empty one that stands in the buffer, isn't one too many, and does nothing.
+#[tactic(auto, using(crate::proofs::LengthCodes::empty_leads))]
+fn skips_line<M: Machine>(machine: &M, count: u64, buffer: &LineBuffer) -> bool
+    ensures line { IsTrue result → HasLine buffer.now 0 }
+    ensures skips { IsTrue result →
+        Transition M.Machine machine.now (count + 1) [] (GoesOn machine.now) [] }
+    ensures turn { IsTrue result → M.awaits machine.now (count + 1) →
+        M.awaits machine.now (count + 1 + 1) }
+    ensures few { IsTrue result → count + 1 ≤ MAX_LINES }
+{
+    count < MAX_LINES && buffer.begins_empty() && machine.skips_empty()
+}
+
 /// The loop of `drive`.
 fn drive_lines<M: Machine, S, K: Sink, I: Intake<S, K>>(
     alloc: Global,
@@ -55,6 +70,11 @@ fn drive_lines<M: Machine, S, K: Sink, I: Intake<S, K>>(
     let mut out = Out::new(alloc);
     let mut count: u64 = 0;
     'lines: loop {
+        if skips_line(machine, count, &buffer) {
+            buffer.drop_line(0);
+            count += 1;
+            continue;
+        }
         let (limit, code) = next_limit(machine, count);
         let found = match buffer.next_line::<S, K, I>(source, sink, limit) {
             Ok(found) => found,

@@ -1,6 +1,6 @@
 //! A form of words as a transducer over lines: a state machine that prints at each step (a Mealy machine).
-ghost use Rattle.std.specs.Prelude.{◌≡◌, ◌≤◌, ◌+◌, ◌++◌, ℕ, List, length, None, IfOk, OnOk};
-ghost use Rattle.line_machine.specs.Next.{Next, next_of};
+ghost use Rattle.std.specs.Prelude.{◌≡◌, ◌≤◌, ◌+◌, ◌++◌, ℕ, List, [], length, None, IfOk, IsTrue, OnOk};
+ghost use Rattle.line_machine.specs.Next.{Next, GoesOn, next_of};
 ghost use Rattle.line_machine.specs.Outs.{Appended, IsFront};
 
 use crate::out::Out;
@@ -49,6 +49,11 @@ pub trait Machine {
     /// The most bytes of the next line.
     fn limit(&self) -> usize
         ensures { result ≡ limit_of self.now };
+
+    /// Whether an empty line is known to do nothing here: it prints nothing, and leaves the state as it is. A driver may pass over it.
+    fn skips_empty(&self) -> bool
+        ensures skips { IsTrue result → (n : ℕ) → steps self.now n [] (GoesOn self.now) [] }
+        ensures turn { IsTrue result → (n : ℕ) → awaits self.now n → awaits self.now (n + 1) };
 
     /// Appends the text of a refusal. The error is out of memory.
     fn refuse(&self, alloc: Global, number: u64, code: u8, out: &mut Out) -> Result<(), AllocError>

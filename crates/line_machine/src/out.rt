@@ -1,29 +1,29 @@
 //! What is to be printed: a buffer of bytes that the caller keeps. A contract sees its bytes, and how many it has room for.
-ghost use Rattle.std.specs.Prelude.{◌≡◌, ◌+◌, ◌≤◌, [], ◌++◌, length, take, vec_capacity, IsOk, IfOk, OnOk, OnErr};
-ghost use Rattle.line_machine.specs.Outs.{HasPlace, IsFront};
+ghost use Rattle.std.specs.Prelude.{◌≡◌, ◌+◌, ◌≤◌, [], ◌++◌, length, take, IsOk, IfOk, OnOk, OnErr};
+ghost use Rattle.line_machine.specs.Outs.{HasRoomLeft, IsFront};
 
 use std::alloc::{AllocError, Global};
 use std::marker::Model;
-use titan_wire::append_within;
 
-/// Bytes that are to be printed.
+/// Bytes that are to be printed, the first ones of a vector that is all the room there is.
 #[derive(Debug, Drop)]
 pub struct Out {
-    bytes: Vec<u8>,
+    room: Vec<u8>,
+    len: usize,
 }
 
 impl Model for Out {
-    ghost use Rattle.std.specs.Prelude.{◌≤◌, length, vec_capacity};
+    ghost use Rattle.std.specs.Prelude.{◌≤◌, length, take};
     ghost use Rattle.line_machine.specs.Outs.{Buffered};
 
     ghost Value = { Buffered };
 
     ghost view = { λ o. record {
-      bytes = o.bytes.items;
-      capacity = vec_capacity o.bytes;
+      bytes = take o.len o.room.items;
+      capacity = length o.room.items;
     } };
 
-    ghost invariant = { λ o. length o.bytes.items ≤ vec_capacity o.bytes };
+    ghost invariant = { λ o. o.len ≤ length o.room.items };
 }
 
 impl Out {
@@ -33,7 +33,8 @@ impl Out {
         ensures capacity { result.capacity ≡ 0 }
     {
         Out {
-            bytes: Vec::new(alloc),
+            room: Vec::new(alloc),
+            len: 0,
         }
     }
 
@@ -43,7 +44,8 @@ impl Out {
         ensures capacity { IfOk result (λ o. o.capacity ≡ capacity) }
     {
         Ok(Out {
-            bytes: Vec::with_capacity(alloc, capacity)?,
+            room: Vec::from_elem(alloc, 0, capacity)?,
+            len: 0,
         })
     }
 
@@ -51,21 +53,21 @@ impl Out {
     pub fn as_slice(&self) -> &[u8]
         ensures { result.now ≡ self.now.bytes }
     {
-        self.bytes.as_slice()
+        &self.room[..self.len]
     }
 
     /// The number of bytes.
     pub fn len(&self) -> usize
         ensures { result ≡ length self.now.bytes }
     {
-        self.bytes.len()
+        self.len
     }
 
     /// How many bytes fit.
     pub fn capacity(&self) -> usize
         ensures { result ≡ self.now.capacity }
     {
-        self.bytes.capacity()
+        self.room.len()
     }
 
     /// Lets all bytes go, and keeps the room.
@@ -73,7 +75,7 @@ impl Out {
         ensures bytes { self.new.bytes ≡ [] }
         ensures capacity { self.new.capacity ≡ self.old.capacity }
     {
-        self.bytes.clear();
+        self.len = 0;
     }
 
     /// Lets all bytes behind the first ones go, and keeps the room.
@@ -81,24 +83,29 @@ impl Out {
         ensures bytes { self.new.bytes ≡ take len self.old.bytes }
         ensures capacity { self.new.capacity ≡ self.old.capacity }
     {
-        self.bytes.truncate(len);
+        if len < self.len {
+            self.len = len;
+        }
     }
 
     /// Makes room for so many more bytes, and takes memory only where they don't fit. The error is out of memory, and then all is as it was.
-    pub fn make_place(&mut self, count: usize) -> Result<(), AllocError>
-        ensures ok { OnOk result (HasPlace self.new count) }
+    pub fn reserve(&mut self, count: usize) -> Result<(), AllocError>
+        ensures ok { OnOk result (HasRoomLeft self.new count) }
         ensures bytes { self.new.bytes ≡ self.old.bytes }
         ensures err { OnErr result (self.new ≡ self.old) }
 
         // Where they fit it can't fail, and the room is as before; it never shrinks.
-        ensures succeeds { HasPlace self.old count → IsOk result }
-        ensures stays { HasPlace self.old count → self.new.capacity ≡ self.old.capacity }
+        ensures succeeds { HasRoomLeft self.old count → IsOk result }
+        ensures stays { HasRoomLeft self.old count → self.new.capacity ≡ self.old.capacity }
         ensures capacity { self.old.capacity ≤ self.new.capacity }
     {
-        if self.bytes.capacity() - self.bytes.len() < count {
-            self.bytes.reserve(count)?;
+        if count <= self.room.len() - self.len {
+            return Ok(());
         }
-        Ok(())
+        match self.len.checked_add(count) {
+            Some(len) => self.room.resize(len, 0),
+            None => Err(AllocError),
+        }
     }
 
     /// Appends bytes, and takes memory only where they don't fit. The error is out of memory, and then all is as it was.
@@ -108,29 +115,23 @@ impl Out {
         ensures front { IsFront self.old self.new }
 
         // Where they fit it can't fail, and the room is as before; it never shrinks.
-        ensures succeeds { HasPlace self.old (length bytes.now) → IsOk result }
-        ensures stays { HasPlace self.old (length bytes.now) → self.new.capacity ≡ self.old.capacity }
+        ensures succeeds { HasRoomLeft self.old (length bytes.now) → IsOk result }
+        ensures stays { HasRoomLeft self.old (length bytes.now) → self.new.capacity ≡ self.old.capacity }
         ensures capacity { self.old.capacity ≤ self.new.capacity }
     {
-        self.make_place(bytes.len())?;
+        self.reserve(bytes.len())?;
         self.push_within(bytes);
         Ok(())
     }
 
     /// Appends bytes that fit. It takes no memory, and can't fail.
     pub fn push_within(&mut self, bytes: &[u8])
-        requires { HasPlace self.old (length bytes.now) }
+        requires { HasRoomLeft self.old (length bytes.now) }
         ensures bytes { self.new.bytes ≡ self.old.bytes ++ bytes.now }
         ensures capacity { self.new.capacity ≡ self.old.capacity }
     {
-        append_within(&mut self.bytes, bytes);
-    }
-
-    /// The bytes, as a vector.
-    pub fn into_vec(self) -> Vec<u8>
-        ensures bytes { result.items ≡ self.bytes }
-        ensures capacity { vec_capacity result ≡ self.capacity }
-    {
-        self.bytes
+        let end = self.len + bytes.len();
+        self.room[self.len..end].copy_from_slice(bytes);
+        self.len = end;
     }
 }

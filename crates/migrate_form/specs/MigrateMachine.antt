@@ -7,7 +7,7 @@ use Rattle.cca_base.specs.Trace.{MayCome}
 use Rattle.cca_base.specs.declared.cube.Pair.{Pair}
 use Rattle.cca_base.specs.declared.events.Event.{Event}
 use Rattle.line_forms.specs.LinesMachine.{lines_machine}
-use Rattle.line_forms.specs.declared.line_form.LineForm.{Ghosts as LineGhosts}
+use Rattle.line_forms.specs.LineMeaning.{LineMeaning}
 use Rattle.line_machine.specs.Next.{Next, GoesOn}
 use Rattle.line_machine.specs.declared.machine.End.TheVariants.{Ended}
 use Rattle.line_machine.specs.declared.machine.Machine.{Ghosts}
@@ -52,7 +52,7 @@ KeepsLine k x u text =
     × (u ≡ GoesOn (record x { pending = after; mirrored = mirrored_after x.mirrored k.event })) × (text ≡ k.line ++ 10 ∷ [])
 
 -- what a line says with what is pending and mirrored, and what is done for its event; a script may end anywhere
-abbrev pub second_lines : LineGhosts ScriptSoFar KeptLine
+abbrev pub second_lines : LineMeaning ScriptSoFar KeptLine
 second_lines = record {
   model_of = λ x. x.model;
   is_json = λ x. false;

@@ -24,7 +24,7 @@ pub struct Migrate;
 pub type MigrateMachine = WithModel<Migrate, Lines<ScriptInSecond, KeptLine>>;
 
 /// Appends the model's text, and the line `script`.
-fn model_and_script(alloc: Global, model: &Model, out: &mut Out) -> Result<(), AllocError>
+fn print_model_and_script(alloc: Global, model: &Model, out: &mut Out) -> Result<(), AllocError>
     ensures text { OnOk result (out.new.bytes ≡ out.old.bytes
         ++ (printed_model model.now ++ codes "script" ++ 10 ∷ [])) }
     ensures front { IsFront out.old out.new }
@@ -43,7 +43,7 @@ pub trait OpensSecond<I>: LineForm<I> {
     fn open(alloc: Global, model: Model, names: IndexMap<Name, Subject>) -> Self
         requires { NamesFit names model }
         ensures first { result ≡ first model }
-        ensures turn { (n : ℕ) → Self.awaits result (n + 1) };
+        ensures turn { (n : ℕ) → Self.means.awaits result (n + 1) };
 }
 
 impl<L: OpensSecond<I> + Drop, I: Drop> ModelForm<Lines<L, I>> for Migrate {
@@ -71,7 +71,7 @@ impl<L: OpensSecond<I> + Drop, I: Drop> ModelForm<Lines<L, I>> for Migrate {
     ) -> Begun<Lines<L, I>> {
         let (compiled, names) = accepted.into_parts();
         let model = compiled.into_model().to_second();
-        model_and_script(alloc, &model, out)?;
+        print_model_and_script(alloc, &model, out)?;
         let script = L::open(alloc, model, names);
         Ok(Opened::Lines(Lines::new(script)))
     }

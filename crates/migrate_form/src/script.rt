@@ -8,7 +8,7 @@ ghost use Rattle.trace_laws.specs.Events.{PendingAfter, mirrored_after};
 use crate::migrate::OpensSecond;
 use cca_base::{Event, List, Model, Name, Stop, Subject};
 use indexmap::IndexMap;
-use line_forms::LineForm;
+use line_forms::{LineForm, kept_line};
 use line_machine::{End, Out};
 use model_form::MAX_LINE;
 use script_reader::{NamedModel, read_named_event};
@@ -45,7 +45,7 @@ impl std::marker::Model for ScriptInSecond {
 }
 
 /// Appends the line with its LF.
-fn whole_line(line: &[u8], out: &mut Out) -> Result<(), AllocError>
+fn print_line(line: &[u8], out: &mut Out) -> Result<(), AllocError>
     ensures text { OnOk result (out.new.bytes ≡ out.old.bytes ++ (line.now ++ 10 ∷ [])) }
     ensures front { IsFront out.old out.new }
 {
@@ -90,21 +90,7 @@ impl LineForm<KeptLine> for ScriptInSecond {
     ghost use Rattle.migrate_form.specs.MigrateMachine.{second_lines};
     ghost use Rattle.migrate_form.specs.OneStep.{said_one, serves_one};
 
-    ghost model_of = { second_lines.model_of };
-
-    ghost is_json = { second_lines.is_json };
-
-    ghost limit_of = { second_lines.limit_of };
-
-    ghost said = { second_lines.said };
-
-    ghost fits = { second_lines.fits };
-
-    ghost serves = { second_lines.serves };
-
-    ghost closing = { second_lines.closing };
-
-    ghost awaits = { second_lines.awaits };
+    ghost means = { second_lines };
 
     ghost said_one = { said_one };
 
@@ -124,12 +110,17 @@ impl LineForm<KeptLine> for ScriptInSecond {
         MAX_LINE
     }
 
+    #[tactic(auto, unfolding(script_reader::specs::EventLines::event_line))]
+    fn skips_empty(&self) -> bool {
+        true
+    }
+
     fn read(&self, alloc: Global, line: &[u8]) -> Result<Option<KeptLine>, Stop> {
         let model = NamedModel::new(&self.model, &self.names);
         let Known { pending, mirrored } = &self.known;
         match read_named_event(alloc, line, model, pending, *mirrored)? {
             Some(event) => {
-                let line = List::of(Vec::from_slice(alloc, line)?);
+                let line = kept_line(alloc, line)?;
                 Ok(Some(KeptLine { event, line }))
             }
             None => Ok(None),
@@ -140,10 +131,10 @@ impl LineForm<KeptLine> for ScriptInSecond {
         &mut self,
         alloc: Global,
         _number: u64,
-        item: &KeptLine,
+        item: KeptLine,
         out: &mut Out,
     ) -> Result<Option<End>, AllocError> {
-        whole_line(item.line.as_slice(), out)?;
+        print_line(item.line.as_slice(), out)?;
         self.follow(alloc, &item.event)?;
         Ok(None)
     }

@@ -30,7 +30,24 @@ pub fn refuse_to(
     out.push(text.as_slice())
 }
 
-/// The same for a line that was not taken, by the code alone.
+/// The same by a code alone.
+pub fn refuse_code_to(
+    alloc: Global,
+    json: bool,
+    model: &Model,
+    number: u64,
+    code: u8,
+    out: &mut Out,
+) -> Result<(), AllocError>
+    ensures ok { OnOk result (out.new.bytes
+        ≡ out.old.bytes ++ refusal_text json model.now number (bare code)) }
+    ensures err { OnErr result (out.new ≡ out.old) }
+    ensures front { IsFront out.old out.new }
+{
+    refuse_to(alloc, json, model, number, &Refusal::bare(code), out)
+}
+
+/// The same for a line that was not taken.
 pub fn refuse_stop_to(
     alloc: Global,
     json: bool,
@@ -45,7 +62,7 @@ pub fn refuse_stop_to(
     ensures front { IsFront out.old out.new }
 {
     match stop.code() {
-        Some(code) => refuse_to(alloc, json, model, number, &Refusal::bare(code), out),
+        Some(code) => refuse_code_to(alloc, json, model, number, code, out),
         None => Err(AllocError),
     }
 }

@@ -11,10 +11,10 @@ ghost use Rattle.model_form.specs.Openings.{next_by, AwaitsBy};
 use crate::accepted::Accepted;
 use crate::form::{Begun, ModelForm, Opened};
 use crate::limits::MAX_LINE;
-use crate::refused::{refuse_model_to, refuse_stop_to, refuse_to};
+use crate::refused::{refuse_code_to, refuse_model_to, refuse_stop_to};
 use acceptance::accept;
 use cca_base::codes::ENDS_EARLY;
-use cca_base::{Model, Name, Refusal, Subject};
+use cca_base::{Model, Name, Subject};
 use indexmap::IndexMap;
 use line_machine::{End, Machine, Out};
 use model_syntax::{LineEnd, ModelReader};
@@ -112,6 +112,13 @@ impl<F: ModelForm<B> + Drop, B: Machine + Drop> Machine for WithModel<F, B> {
         }
     }
 
+    fn skips_empty(&self) -> bool {
+        match &self.stage {
+            Stage::Model(..) => false,
+            Stage::Behind(behind) => behind.skips_empty(),
+        }
+    }
+
     fn refuse(
         &self,
         alloc: Global,
@@ -121,8 +128,7 @@ impl<F: ModelForm<B> + Drop, B: Machine + Drop> Machine for WithModel<F, B> {
     ) -> Result<(), AllocError> {
         match &self.stage {
             Stage::Model(form, reader) => {
-                let refusal = Refusal::bare(code);
-                refuse_to(alloc, form.is_json(), reader.model(), number, &refusal, out)
+                refuse_code_to(alloc, form.is_json(), reader.model(), number, code, out)
             }
             Stage::Behind(behind) => behind.refuse(alloc, number, code, out),
         }
@@ -162,8 +168,8 @@ impl<F: ModelForm<B> + Drop, B: Machine + Drop> Machine for WithModel<F, B> {
     fn close(&mut self, alloc: Global, count: u64, out: &mut Out) -> Result<End, AllocError> {
         match &mut self.stage {
             Stage::Model(form, reader) => {
-                let refusal = Refusal::bare(ENDS_EARLY);
-                refuse_to(alloc, form.is_json(), reader.model(), count, &refusal, out)?;
+                let json = form.is_json();
+                refuse_code_to(alloc, json, reader.model(), count, ENDS_EARLY, out)?;
                 Ok(End::Refused)
             }
             Stage::Behind(behind) => behind.close(alloc, count, out),

@@ -13,7 +13,6 @@ use Rattle.line_machine.specs.declared.machine.End.TheVariants.{Refused}
 use Rattle.trace_text.specs.Json.{refusal_text}
 use Rattle.program_form.specs.ProgramMachine.{ProgramState, Reads, Runs, ServesIn, Stage, program_lines, stage_by}
 use Rattle.program_form.specs.Stages.{ReadsTo, RunsWell, begun}
-use Rattle.program_form.specs.declared.item.ProgramItem.{ProgramItem}
 use Rattle.program_form.specs.declared.item.ProgramItem.TheVariants as items
 use Rattle.program_form.proofs.RunningWell.{well_at_first}
 
@@ -39,27 +38,26 @@ leads x n line y z (Some runner) at r =
     let runs : Runs runner ≡ stage_by (led y r.0).whole (led y r.0) = ap Runs r.4 ∙ sym (ap (λ p. stage_by p (led y r.0)) r.3) in
     subst (λ s. ServesIn s (items.Reads line) x n (GoesOn (at_stage x (Runs runner))) []) (sym at) (Ok r.0, r.2, (ap (λ s. GoesOn (at_stage x s)) runs, refl))
 
-module _ (w x : ProgramState) (same : w ≡ x) (n : ℕ) (line : List ℕ) (item : ProgramItem) (asks : item ≡ items.Reads line) (y z : Reading) (at : w.stage ≡ Reads y) where
-  -- what is done for the line is done for what it asks for
-  serves_item : (u : Next ProgramState) (text : List ℕ) → program_lines.serves (items.Reads line) w n u text → program_lines.serves item x n u text
-  serves_item u text h = subst (λ i. program_lines.serves i x n u text) (sym asks) (subst (λ v. program_lines.serves (items.Reads line) v n u text) same h)
+module _ (w x : ProgramState) (same : w ≡ x) (n : ℕ) (line : List ℕ) (y z : Reading) (at : w.stage ≡ Reads y) where
+  here : (u : Next ProgramState) (text : List ℕ) → program_lines.serves (items.Reads line) w n u text → program_lines.serves (items.Reads line) x n u text
+  here u text h = subst (λ v. program_lines.serves (items.Reads line) v n u text) same h
 
   -- a line is read, and the program may begin
-  pub reads_on : (o : Option Control) (next : ProgramState) (out : Buffered) → ReadsTo w.compiled.model y line (Ok o) z → next ≡ begun o (at_stage w (Reads z)) → Appended (program_lines.serves item x n (GoesOn next)) out out
+  pub reads_on : (o : Option Control) (next : ProgramState) (out : Buffered) → ReadsTo w.compiled.model y line (Ok o) z → next ≡ begun o (at_stage w (Reads z)) → Appended (program_lines.serves (items.Reads line) x n (GoesOn next)) out out
   reads_on o next out read to = record {
     text = [];
-    is = serves_item (GoesOn next) [] (subst (λ s. program_lines.serves (items.Reads line) w n (GoesOn s) []) (sym to) (leads w n line y z o at read));
+    is = here (GoesOn next) [] (subst (λ s. program_lines.serves (items.Reads line) w n (GoesOn s) []) (sym to) (leads w n line y z o at read));
     behind = sym (append-nil out.bytes);
   }
 
   -- a line is refused
   pub refuses : (m : PlantModel) (stop : Stop) (old new : Buffered) → m ≡ w.compiled.model → Answers (Err stop) (λ said. ReadsTo m y line said z)
-      → ((code : ℕ) × (stop_code stop ≡ Some code) × (new.bytes ≡ old.bytes ++ refusal_text false m n (bare code))) → Appended (program_lines.serves item x n (Stops Refused)) old new
+      → ((code : ℕ) × (stop_code stop ≡ Some code) × (new.bytes ≡ old.bytes ++ refusal_text false m n (bare code))) → Appended (program_lines.serves (items.Reads line) x n (Stops Refused)) old new
   refuses m stop old new model answer (code, is, behind) =
       let read = subst (λ k. ReadsTo k y line (Err code) z) model (coded (λ s. ReadsTo m y line s z) stop code answer is) in
       let text = refusal_text false m n (bare code) in
       record {
         text = text;
-        is = serves_item (Stops Refused) text (subst (λ s. ServesIn s (items.Reads line) w n (Stops Refused) text) (sym at) (Err code, read.0, (refl, ap (λ k. refusal_text false k n (bare code)) model)));
+        is = here (Stops Refused) text (subst (λ s. ServesIn s (items.Reads line) w n (Stops Refused) text) (sym at) (Err code, read.0, (refl, ap (λ k. refusal_text false k n (bare code)) model)));
         behind = behind;
       }

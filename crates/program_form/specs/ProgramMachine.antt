@@ -16,7 +16,7 @@ use Rattle.control_syntax.specs.Reading.{Reading, led, nothing_read}
 use Rattle.control_syntax.specs.declared.line.Line.{Line}
 use Rattle.control_syntax.specs.declared.part.Part.{Part}
 use Rattle.line_forms.specs.LinesMachine as frame
-use Rattle.line_forms.specs.declared.line_form.LineForm.{Ghosts as LineGhosts}
+use Rattle.line_forms.specs.LineMeaning.{LineMeaning}
 use Rattle.line_machine.specs.Next.{Next, GoesOn}
 use Rattle.line_machine.specs.declared.machine.End.TheVariants.{Ended}
 use Rattle.line_machine.specs.declared.machine.Machine.{Ghosts}
@@ -140,7 +140,7 @@ abbrev pub ProgramAwaits : ProgramState → ℕ → Type 0
 ProgramAwaits x n = (x.state.ticks < n) × IsProperStage x.stage
 
 -- what a line says, and what is done for it
-abbrev pub program_lines : LineGhosts ProgramState ProgramItem
+abbrev pub program_lines : LineMeaning ProgramState ProgramItem
 program_lines = record {
   model_of = λ x. x.compiled.model;
   is_json = λ x. false;

@@ -1,26 +1,30 @@
 //! The lines behind an accepted model: a control program, and the events behind it.
 
-ghost use Rattle.std.specs.Prelude.{◌≡◌, None, IfOk, IfSome};
+ghost use Rattle.std.specs.Prelude.{◌≡◌, ◌+◌, None, IfOk, IfSome};
 ghost use Rattle.cca_base.specs.Prelude.{Answers, IsCompiled};
 ghost use Rattle.formula_syntax.specs.Lookups.{NamesFit};
+ghost use Rattle.line_machine.specs.Next.{next_of};
+ghost use Rattle.line_machine.specs.Outs.{Appended, IsFront};
 ghost use Rattle.model_form.specs.FormStates.{form_first};
 ghost use Rattle.control_syntax.specs.Kept.{MayRunSoFar};
 ghost use Rattle.script_reader.specs.EventLines.{AnswersAs, AnswersWhatMayCome};
+ghost use Rattle.program_form.specs.ProgramMachine.{program_lines};
 ghost use Rattle.program_form.specs.Sequences.{event_line};
 ghost use Rattle.program_form.specs.Stages.{ReadsTo, RunsWell, begun};
+ghost use Rattle.program_form.specs.declared.item.ProgramItem.TheVariants.{Reads};
 
 use crate::item::ProgramItem;
 use crate::sequenced::make;
 use cca_base::codes::ENDS_EARLY;
-use cca_base::{Event, List, Model, Name, Refusal, Stop, Subject};
+use cca_base::{Event, Model, Name, Stop, Subject};
 use control_program::Runner;
 use control_syntax::{ProgramEnd, ProgramReader};
 use executive_loop::Executive;
 use formula_syntax::NamedModel;
 use indexmap::IndexMap;
-use line_forms::{LineForm, Lines, OpensLines};
+use line_forms::{LineForm, Lines, OpensLines, kept_line};
 use line_machine::{End, Out};
-use model_form::{Accepted, MAX_LINE, OfLines, WithModel, refuse_stop_to, refuse_to};
+use model_form::{Accepted, MAX_LINE, OfLines, WithModel, refuse_code_to, refuse_stop_to};
 use script_reader::{Context, read_event_by};
 use std::alloc::{AllocError, Global};
 use std::mem;
@@ -110,13 +114,6 @@ fn read_event(
     read_event_by(alloc, &context, false, line)
 }
 
-/// The same bytes. The error is out of memory.
-fn copied(alloc: Global, line: &[u8]) -> Result<List<u8>, AllocError>
-    ensures { IfOk result (λ bytes. bytes ≡ line.now) }
-{
-    Ok(List::of(Vec::from_slice(alloc, line)?))
-}
-
 impl OpensLines<ProgramItem> for Programmed {
     ghost use Rattle.program_form.specs.ProgramMachine.{program_first};
 
@@ -144,28 +141,47 @@ impl Programmed {
             self.stage = Stage::Running(whole);
         }
     }
+
+    /// Takes a line of the program: more of it is read, and it begins where it is whole; or the line is refused. The error is out of memory.
+    fn take_line(
+        &mut self,
+        alloc: Global,
+        number: u64,
+        line: &[u8],
+        out: &mut Out,
+    ) -> Result<Option<End>, AllocError>
+        requires fits { program_lines.fits self.old (Reads line.now) }
+        requires turn { program_lines.awaits self.old number }
+        ensures serves { IfOk result (λ end. Appended (program_lines.serves
+            (Reads line.now) self.old number (next_of self.new end)) out.old out.new) }
+        ensures turn { IfOk result (λ end. end ≡ None →
+            program_lines.awaits self.new (number + 1)) }
+        ensures front { IsFront out.old out.new }
+    {
+        match &mut self.stage {
+            Stage::Reading(reader) => {
+                let model = NamedModel::new(self.executive.compiled().model(), &self.names);
+                match read_program(alloc, &model, reader, line) {
+                    Ok(runner) => {
+                        self.begin(runner);
+                        Ok(None)
+                    }
+                    Err(stop) => {
+                        refuse_stop_to(alloc, false, model.model(), number, &stop, out)?;
+                        Ok(Some(End::Refused))
+                    }
+                }
+            }
+            Stage::Running(_) => unreachable!(),
+        }
+    }
 }
 
 // What is said and done stands in `program_lines` (specs/ProgramMachine.antt).
 impl LineForm<ProgramItem> for Programmed {
-    ghost use Rattle.program_form.specs.ProgramMachine.{program_lines};
     ghost use Rattle.program_form.specs.OneStep.{said_one, serves_one, awaits_on};
 
-    ghost model_of = { program_lines.model_of };
-
-    ghost is_json = { program_lines.is_json };
-
-    ghost limit_of = { program_lines.limit_of };
-
-    ghost said = { program_lines.said };
-
-    ghost fits = { program_lines.fits };
-
-    ghost serves = { program_lines.serves };
-
-    ghost closing = { program_lines.closing };
-
-    ghost awaits = { program_lines.awaits };
+    ghost means = { program_lines };
 
     ghost said_one = { said_one };
 
@@ -185,10 +201,17 @@ impl LineForm<ProgramItem> for Programmed {
         MAX_LINE
     }
 
+    #[tactic(auto, unfolding(crate::specs::Sequences::event_line))]
+    fn skips_empty(&self) -> bool {
+        // (an executive's model is an accepted one)
+        let _compiled = self.executive.compiled();
+        matches!(self.stage, Stage::Running(_))
+    }
+
     fn read(&self, alloc: Global, line: &[u8]) -> Result<Option<ProgramItem>, Stop> {
         match &self.stage {
             Stage::Reading(_) => {
-                let bytes = copied(alloc, line)?;
+                let bytes = kept_line(alloc, line)?;
                 Ok(Some(ProgramItem::Reads(bytes)))
             }
             Stage::Running(_) => match read_event(alloc, &self.executive, &self.names, line) {
@@ -203,32 +226,17 @@ impl LineForm<ProgramItem> for Programmed {
         &mut self,
         alloc: Global,
         number: u64,
-        item: &ProgramItem,
+        item: ProgramItem,
         out: &mut Out,
     ) -> Result<Option<End>, AllocError> {
-        match &mut self.stage {
-            Stage::Reading(reader) => match item {
-                ProgramItem::Reads(line) => {
-                    let model = NamedModel::new(self.executive.compiled().model(), &self.names);
-                    match read_program(alloc, &model, reader, line.as_slice()) {
-                        Ok(runner) => {
-                            self.begin(runner);
-                            Ok(None)
-                        }
-                        Err(stop) => {
-                            refuse_stop_to(alloc, false, model.model(), number, &stop, out)?;
-                            Ok(Some(End::Refused))
-                        }
-                    }
-                }
-                ProgramItem::Makes(_) => unreachable!(),
-            },
-            Stage::Running(runner) => match item {
-                ProgramItem::Makes(event) => {
-                    make(alloc, &mut self.executive, runner, event, out)?;
+        match item {
+            ProgramItem::Reads(bytes) => self.take_line(alloc, number, bytes.as_slice(), out),
+            ProgramItem::Makes(event) => match &mut self.stage {
+                Stage::Running(runner) => {
+                    make(alloc, &mut self.executive, runner, &event, out)?;
                     Ok(None)
                 }
-                ProgramItem::Reads(_) => unreachable!(),
+                Stage::Reading(_) => unreachable!(),
             },
         }
     }
@@ -236,9 +244,8 @@ impl LineForm<ProgramItem> for Programmed {
     fn close(&mut self, alloc: Global, count: u64, out: &mut Out) -> Result<End, AllocError> {
         match &self.stage {
             Stage::Reading(_) => {
-                let refusal = Refusal::bare(ENDS_EARLY);
                 let model = self.executive.compiled().model();
-                refuse_to(alloc, false, model, count, &refusal, out)?;
+                refuse_code_to(alloc, false, model, count, ENDS_EARLY, out)?;
                 Ok(End::Refused)
             }
             Stage::Running(_) => Ok(End::Ended),

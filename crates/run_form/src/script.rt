@@ -123,21 +123,7 @@ impl LineForm<Event> for Script {
     ghost use Rattle.run_form.specs.ScriptMachine.{script_lines};
     ghost use Rattle.run_form.specs.OneScript.{said_one, serves_one, awaits_on};
 
-    ghost model_of = { script_lines.model_of };
-
-    ghost is_json = { script_lines.is_json };
-
-    ghost limit_of = { script_lines.limit_of };
-
-    ghost said = { script_lines.said };
-
-    ghost fits = { script_lines.fits };
-
-    ghost serves = { script_lines.serves };
-
-    ghost closing = { script_lines.closing };
-
-    ghost awaits = { script_lines.awaits };
+    ghost means = { script_lines };
 
     ghost said_one = { said_one };
 
@@ -157,6 +143,13 @@ impl LineForm<Event> for Script {
         MAX_LINE
     }
 
+    #[tactic(auto, unfolding(script_reader::specs::EventLines::event_line))]
+    fn skips_empty(&self) -> bool {
+        // (an executive's model is an accepted one)
+        let _compiled = self.executive.compiled();
+        true
+    }
+
     fn read(&self, alloc: Global, line: &[u8]) -> Result<Option<Event>, Stop> {
         read(alloc, &self.executive, &self.names, line)
     }
@@ -165,7 +158,7 @@ impl LineForm<Event> for Script {
         &mut self,
         alloc: Global,
         _number: u64,
-        item: &Event,
+        item: Event,
         out: &mut Out,
     ) -> Result<Option<End>, AllocError> {
         make(
@@ -173,7 +166,7 @@ impl LineForm<Event> for Script {
             self.notation,
             &mut self.executive,
             &mut self.counts,
-            item,
+            &item,
             out,
         )?;
         Ok(None)

@@ -8,10 +8,8 @@ use Rattle.check_form.proofs.CheckAgrees.{check_agrees}
 use Rattle.check_form.proofs.CheckKeeps.{check_keeps}
 use Rattle.migrate_form.proofs.MigrateAgrees.{migrate_agrees}
 use Rattle.migrate_form.proofs.MigrateKeeps.{migrate_keeps}
-use Rattle.want_form.proofs.WantAgrees.{want_agrees}
-use Rattle.want_form.proofs.WantKeeps.{want_keeps}
-use Rattle.watch_form.proofs.WatchAgrees.{watch_agrees}
-use Rattle.watch_form.proofs.WatchKeeps.{watch_keeps}
+use Rattle.want_form.proofs.WantForm.{want_agrees, want_keeps}
+use Rattle.watch_form.proofs.WatchForm.{watch_agrees, watch_keeps}
 use Rattle.program_form.proofs.ProgramAgrees.{program_agrees}
 use Rattle.program_form.proofs.ProgramKeeps.{program_keeps}
 use Rattle.titan_top.specs.Meanings.{meaning_of}

@@ -1,7 +1,4 @@
 pub mod Answering
-pub mod WantAgrees
-pub mod WantEnds
-pub mod WantKeeps
+pub mod WantForm
 pub mod WeightsSet
 pub mod WishTelling
-pub mod WishesTold

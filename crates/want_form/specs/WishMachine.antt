@@ -8,7 +8,7 @@ use Rattle.goal_interpreter.specs.Targets.{IsTargetFor}
 use Rattle.goal_interpreter.specs.declared.target.Target.{Target}
 use Rattle.goal_interpreter.specs.declared.target.Target.TheVariants.{Found, Nowhere, Many}
 use Rattle.line_forms.specs.LinesMachine.{lines_machine}
-use Rattle.line_forms.specs.declared.line_form.LineForm.{Ghosts as LineGhosts}
+use Rattle.line_forms.specs.LineMeaning.{LineMeaning}
 use Rattle.line_machine.specs.Next.{Next, GoesOn}
 use Rattle.line_machine.specs.declared.machine.End.TheVariants.{Ended}
 use Rattle.line_machine.specs.declared.machine.Machine.{Ghosts}
@@ -56,7 +56,7 @@ ServesRequest (At pairs) x n u text = GoesOnIn (put_at x pairs) u text
 ServesRequest (Want formula) x n u text = (target : Target) × IsTargetFor x.compiled x.settings.weights x.settings.modes formula target × AnswersBy target x n u text
 
 -- what a line says and what is done for it: a request of the accepted model is served, and the lines may end anywhere
-abbrev pub wish_lines : LineGhosts WishState Request
+abbrev pub wish_lines : LineMeaning WishState Request
 wish_lines = record {
   model_of = λ x. x.compiled.model;
   is_json = λ x. false;

@@ -13,14 +13,14 @@ ghost use Rattle.want_form.specs.WishMachine.{ServesRequest, put_at, weighed};
 
 use crate::weights::{no_weights, set_weight};
 use cca_base::codes::MANY;
-use cca_base::{Compiled, Formula, List, Model, Name, Pair, Refusal, Stop, Subject};
+use cca_base::{Compiled, Formula, List, Model, Name, Pair, Stop, Subject};
 use formula_syntax::NamedModel;
 use goal_interpreter::{Target, Weights, interpret_by};
 use guard_compiler::{RuleClause, rules_of};
 use indexmap::IndexMap;
 use line_forms::{LineForm, Lines, OpensLines};
 use line_machine::{End, Out};
-use model_form::{Accepted, MAX_LINE, OfLines, WithModel, refuse_to};
+use model_form::{Accepted, MAX_LINE, OfLines, WithModel, refuse_code_to};
 use plan_runner::whole_plan;
 use policy_tables::Tables;
 use reversibility::Classes;
@@ -156,7 +156,7 @@ impl Wishing {
                 Ok(None)
             }
             Target::Many => {
-                refuse_to(alloc, false, model, number, &Refusal::bare(MANY), out)?;
+                refuse_code_to(alloc, false, model, number, MANY, out)?;
                 Ok(Some(End::Refused))
             }
         }
@@ -167,21 +167,7 @@ impl LineForm<Request> for Wishing {
     ghost use Rattle.want_form.specs.WishMachine.{wish_lines};
     ghost use Rattle.want_form.specs.OneStep.{said_one, serves_one};
 
-    ghost model_of = { wish_lines.model_of };
-
-    ghost is_json = { wish_lines.is_json };
-
-    ghost limit_of = { wish_lines.limit_of };
-
-    ghost said = { wish_lines.said };
-
-    ghost fits = { wish_lines.fits };
-
-    ghost serves = { wish_lines.serves };
-
-    ghost closing = { wish_lines.closing };
-
-    ghost awaits = { wish_lines.awaits };
+    ghost means = { wish_lines };
 
     ghost said_one = { said_one };
 
@@ -201,6 +187,12 @@ impl LineForm<Request> for Wishing {
         MAX_LINE
     }
 
+    fn skips_empty(&self) -> bool {
+        // (the model is an accepted one)
+        let _model = self.compiled.model();
+        true
+    }
+
     fn read(&self, alloc: Global, line: &[u8]) -> Result<Option<Request>, Stop> {
         let model = NamedModel::new(self.compiled.model(), &self.names);
         read_request(alloc, line, &model)
@@ -210,19 +202,19 @@ impl LineForm<Request> for Wishing {
         &mut self,
         alloc: Global,
         number: u64,
-        item: &Request,
+        item: Request,
         out: &mut Out,
     ) -> Result<Option<End>, AllocError> {
         match item {
             Request::Weight { pair, weight } => {
-                self.weigh(alloc, *pair, *weight)?;
+                self.weigh(alloc, pair, weight)?;
                 Ok(None)
             }
             Request::At(pairs) => {
                 self.put(pairs.as_slice());
                 Ok(None)
             }
-            Request::Want(formula) => self.answer(alloc, number, formula, out),
+            Request::Want(formula) => self.answer(alloc, number, &formula, out),
         }
     }
 

@@ -1,8 +1,5 @@
-pub mod WatchAgrees
-pub mod WatchEnds
-pub mod WatchKeeps
 mod WatchExamples
+pub mod WatchForm
 pub mod WatchLeast
 pub mod WatchSteps
 pub mod WatchTelling
-pub mod WatchTold

@@ -80,13 +80,13 @@ module _ (m : PlantModel) (is : IsState m (start_modes m)) (calls : List Tracker
   tells_ticks = record { all = length-map answers (answer_line m) ∙ (counts_ticks m (start m 0) y calls answers tracks).0; each = tells_each }
 
 says_least : (b : CompiledModel) (n : ℕ) (ls : List (List ℕ)) (e : End) (text : List ℕ) → IsCompiled b → SaysWatch b n ls e text → SaysLeast b n ls e text
-says_least b n ls e text compiled (r, y, answers, reads, tracks, ends, parts) = (
+says_least b n ls e text compiled (r, told, reads, (y, answers, tracks, words), ends, parts) = (
   r,
   map (answer_line b.model) answers,
   reads,
   tells_ticks b.model (start_state b.model compiled.accepted.well_formed) r.items y answers tracks,
   ends,
-  parts ∙ ap (λ l. l ++ (ending b.model r.ending).text) (sym (flat_map-map (λ (line : List ℕ). line) (answer_line b.model) answers)),
+  parts ∙ ap (λ l. l ++ (ending b.model r.ending).text) (words ∙ sym (flat_map-map (λ (line : List ℕ). line) (answer_line b.model) answers)),
 )
 
 pub costs_are_least : CostsAreLeast

@@ -1,12 +1,13 @@
 -- What is printed of the answers of a tracker.
 use Rattle.std.specs.Prelude.{◌≡◌, ◌-◌, ℕ, List, [], ◌++◌, flat_map, length, slice_index_or}
+use Rattle.cca_base.specs.Accepted.{CompiledModel}
 use Rattle.cca_base.specs.PlantModel.{PlantModel}
 use Rattle.cca_base.specs.declared.events.Shown.TheVariants as shown
 use Rattle.model_form.specs.Answers.{Saying}
 use Rattle.model_form.specs.LinesEnds.{ending}
 use Rattle.trace_text.specs.Reports.{report_line}
 use Rattle.trace_text.specs.WindowLines.{window_line}
-use Rattle.window_laws.specs.Ticks.{Answer, Found, Unexplained, Holding, Numbered, TrackerState, Tracks, start}
+use Rattle.window_laws.specs.Ticks.{Answer, Found, Unexplained, Holding, Numbered, TrackerCall, TrackerState, Tracks, start}
 use Rattle.watch_form.specs.Calls.{Calls, ReadsCalls, nothing_pending}
 
 -- the modes of the last state
@@ -27,8 +28,12 @@ answer_line m a = line_by m a.tick a.answer
 abbrev pub answers_text : PlantModel → List Numbered → List ℕ
 answers_text m answers = flat_map (answer_line m) answers
 
--- what is printed of the lines behind the line `script`, which has this number: the answers to their calls, and a refusal's line last
+-- the text of calls: that of the answers of a tracker to them
+abbrev pub CallsText : CompiledModel → List TrackerCall → List ℕ → Type 0
+CallsText b calls text = (y : TrackerState) × (answers : List Numbered) × Tracks b.model (start b.model 0) calls y answers × (text ≡ answers_text b.model answers)
+
+-- what is printed of the lines behind the line `script`, which has this number: the text of their calls, and a refusal's line last
 abbrev pub SaysWatch : Saying
 SaysWatch b n ls e text =
-    (r : Calls) × (y : TrackerState) × (answers : List Numbered) × ReadsCalls b.model nothing_pending n ls r × Tracks b.model (start b.model 0) r.items y answers
-    × (e ≡ (ending b.model r.ending).end) × (text ≡ answers_text b.model answers ++ (ending b.model r.ending).text)
+    (r : Calls) × (told : List ℕ) × ReadsCalls b.model nothing_pending n ls r × CallsText b r.items told
+    × (e ≡ (ending b.model r.ending).end) × (text ≡ told ++ (ending b.model r.ending).text)

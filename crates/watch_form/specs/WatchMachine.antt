@@ -4,7 +4,7 @@ use Rattle.std.specs.Option.{is_some}
 use Rattle.cca_base.specs.Accepted.{CompiledModel}
 use Rattle.cca_base.specs.declared.cube.Pair.{Pair}
 use Rattle.line_forms.specs.LinesMachine.{lines_machine}
-use Rattle.line_forms.specs.declared.line_form.LineForm.{Ghosts as LineGhosts}
+use Rattle.line_forms.specs.LineMeaning.{LineMeaning}
 use Rattle.line_machine.specs.Next.{Next, GoesOn}
 use Rattle.line_machine.specs.declared.machine.End.TheVariants.{Ended}
 use Rattle.line_machine.specs.declared.machine.Machine.{Ghosts}
@@ -67,7 +67,7 @@ abbrev pub WatchAwaits : WatchState → ℕ → Type 0
 WatchAwaits x n = x.state.ticks < n
 
 -- what a line says with what is pending, and what is done for it; the lines may end anywhere
-abbrev pub watch_lines : LineGhosts WatchState WatchEvent
+abbrev pub watch_lines : LineMeaning WatchState WatchEvent
 watch_lines = record {
   model_of = λ x. x.compiled.model;
   is_json = λ x. false;

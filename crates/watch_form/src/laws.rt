@@ -4,7 +4,7 @@ ghost use Rattle.watch_form.specs.WatchExamples.{BothPending, LinesOfValve, Noth
 ghost use Rattle.watch_form.specs.WatchLaws.{CostsAreLeast, WatchIsTold};
 
 /// What the machine prints for an input is the text of the answers of a tracker, and the other way round.
-#[tactic(auto, using(crate::proofs::WatchTold::watch_is_told))]
+#[tactic(auto, using(crate::proofs::WatchForm::watch_is_told))]
 pub fn watch_is_told()
     ensures { WatchIsTold }
 {}

@@ -156,21 +156,7 @@ impl LineForm<WatchEvent> for Watching {
     ghost use Rattle.watch_form.specs.WatchMachine.{watch_lines};
     ghost use Rattle.watch_form.specs.OneStep.{said_one, serves_one, awaits_on};
 
-    ghost model_of = { watch_lines.model_of };
-
-    ghost is_json = { watch_lines.is_json };
-
-    ghost limit_of = { watch_lines.limit_of };
-
-    ghost said = { watch_lines.said };
-
-    ghost fits = { watch_lines.fits };
-
-    ghost serves = { watch_lines.serves };
-
-    ghost closing = { watch_lines.closing };
-
-    ghost awaits = { watch_lines.awaits };
+    ghost means = { watch_lines };
 
     ghost said_one = { said_one };
 
@@ -190,6 +176,10 @@ impl LineForm<WatchEvent> for Watching {
         MAX_LINE
     }
 
+    fn skips_empty(&self) -> bool {
+        true
+    }
+
     fn read(&self, alloc: Global, line: &[u8]) -> Result<Option<WatchEvent>, Stop> {
         self.event(alloc, line)
     }
@@ -198,12 +188,12 @@ impl LineForm<WatchEvent> for Watching {
         &mut self,
         alloc: Global,
         _number: u64,
-        item: &WatchEvent,
+        item: WatchEvent,
         out: &mut Out,
     ) -> Result<Option<End>, AllocError> {
         match item {
             WatchEvent::Sent(command) => {
-                self.pending.command = Some(*command);
+                self.pending.command = Some(command);
                 Ok(None)
             }
             WatchEvent::Observe(pairs) => {

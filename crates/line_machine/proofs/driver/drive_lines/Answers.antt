@@ -1,6 +1,6 @@
-use Rattle.std.proofs.Common.{◌+◌, sym, subst, ◌∙◌, arith}
+use Rattle.std.proofs.Common.{◌+◌, refl, sym, subst, ◌∙◌, arith}
 use Rattle.std.proofs.lemmas.List.{take_all}
-use Rattle.line_machine.proofs.DriverInvariant.{IsDriving, came, goes_on_line, in_turn, found_line, found_long, found_last, line_room, line_cut, line_ends, line_next, line_few, long_room, long_cut, long_refused, starved, no_memory, last_room, last_ends}
+use Rattle.line_machine.proofs.DriverInvariant.{IsDriving, came, goes_on_line, in_turn, found_line, found_long, found_last, line_room, line_cut, line_ends, line_next, line_skipped, line_few, long_room, long_cut, long_refused, starved, no_memory, last_room, last_ends}
 use Rattle.line_machine.proofs.driver.drive_lines.Goals as goal
 
 pub refuse-requires-clause-room : goal.refuse-requires-clause-room
@@ -62,12 +62,25 @@ returns-in-Some-clause-driven g c =
     let line = found_line _ _ _ c.in-Ok.found c.in-Ok.ensures.found c.in-Line.len c.in-Line.is in
     in_turn _ d (line_ends d line c.front-in-lines.ensures _ c.in-Ok-take_line.said c.in-Some.end c.in-Some.is c.in-Ok-take_line.ensures.ok)
 
+pub lines-preserved-then-skips_line : goal.lines-preserved-then-skips_line
+lines-preserved-then-skips_line g c =
+    let line = c.skips_line.ensures.line c.if-skips_line.true in
+    record {
+      driving = subst (λ h. IsDriving g.M.Machine c.args.machine.now (g.I.Intake.left c.args.source.now) (g.K.Sink.written c.args.sink.now) (g.K.Sink.space c.args.sink.now) (g.I.Intake.calls c.args.source.now) ⊥ (c.lines.count + 1) c.lines.machine h (g.I.Intake.left c.lines.source) (g.K.Sink.written c.lines.sink) (g.K.Sink.space c.lines.sink) (g.I.Intake.calls c.lines.source)) (sym c.drop_line.ensures)
+          (line_skipped c.lines.invariant.driving line refl (c.skips_line.ensures.skips c.if-skips_line.true));
+      turn = c.skips_line.ensures.turn c.if-skips_line.true c.lines.invariant.turn;
+      empty = c.lines.invariant.empty;
+      few = c.skips_line.ensures.few c.if-skips_line.true;
+      quiet_source = c.lines.invariant.quiet_source;
+      quiet_sink = c.lines.invariant.quiet_sink;
+    }
+
 pub lines-preserved : goal.lines-preserved
 lines-preserved g c =
     let d = goes_on_line c.in-Ok.found c.in-Line.is (came c.lines.invariant.driving c.next_limit-limit.ensures.short c.in-Ok.ensures.came) in
     let line = found_line _ _ _ c.in-Ok.found c.in-Ok.ensures.found c.in-Line.len c.in-Line.is in
     record {
-      driving = subst (λ h. IsDriving g.M.Machine c.args.machine.now (g.I.Intake.left c.args.source.now) (g.K.Sink.written c.args.sink.now) (g.K.Sink.space c.args.sink.now) (g.I.Intake.calls c.args.source.now) ⊥ (c.lines.count + 1) c.take_line.new.machine h (g.I.Intake.left c.next_line.new.source) (g.K.Sink.written c.take_line.new.sink) (g.K.Sink.space c.take_line.new.sink) (g.I.Intake.calls c.next_line.new.source)) (sym c.drop_line.ensures)
+      driving = subst (λ h. IsDriving g.M.Machine c.args.machine.now (g.I.Intake.left c.args.source.now) (g.K.Sink.written c.args.sink.now) (g.K.Sink.space c.args.sink.now) (g.I.Intake.calls c.args.source.now) ⊥ (c.lines.count + 1) c.take_line.new.machine h (g.I.Intake.left c.next_line.new.source) (g.K.Sink.written c.take_line.new.sink) (g.K.Sink.space c.take_line.new.sink) (g.I.Intake.calls c.next_line.new.source)) (sym c.drop_line-in-lines.ensures)
           (line_next d line c.front-in-lines.ensures _ c.in-Ok-take_line.said c.in-None.is c.in-Ok-take_line.ensures.ok);
       turn = c.in-Ok-take_line.ensures.turn c.in-None.is;
       empty = c.in-Ok-take_line.ensures.empty;

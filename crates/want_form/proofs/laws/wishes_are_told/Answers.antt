@@ -1,4 +1,4 @@
-use Rattle.want_form.proofs.WishesTold as told
+use Rattle.want_form.proofs.WantForm as told
 use Rattle.want_form.proofs.laws.wishes_are_told.Goals as goal
 
 pub returns : goal.returns

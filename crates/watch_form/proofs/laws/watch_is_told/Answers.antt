@@ -1,4 +1,4 @@
-use Rattle.watch_form.proofs.WatchTold as told
+use Rattle.watch_form.proofs.WatchForm as told
 use Rattle.watch_form.proofs.laws.watch_is_told.Goals as goal
 
 pub returns : goal.returns

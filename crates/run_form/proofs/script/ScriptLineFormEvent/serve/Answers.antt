@@ -11,5 +11,5 @@ returns-clause-serves c =
     let old : ScriptState = record { notation = x.notation; compiled = x.executive.compiled; state = x.executive.state; counts = x.counts } in
     let new : ScriptState = record { notation = x.notation; compiled = y.compiled; state = y.state; counts = c.make.new.counts } in
     let goes : GoesOn new ≡ GoesOn (after_event old y.state report) = λ i. GoesOn (record { notation = x.notation; compiled = c.make.ensures.compiled i; state = y.state; counts = counts i }) in
-    let is = subst (λ (z : ScriptState). MakesEvent c.args.item.now z (GoesOn new) words.text) c.self.view_is (y.state, report, acts, goes, words.is) in
+    let is = subst (λ (z : ScriptState). MakesEvent c.args.item z (GoesOn new) words.text) c.self.view_is (y.state, report, acts, goes, words.is) in
     record { text = words.text; is = is; behind = words.behind }

@@ -1,0 +1,18 @@
+-- What the lines of a form mean.
+use Rattle.std.specs.Prelude.{ℕ, Bool, List, Option, Result}
+use Rattle.cca_base.specs.PlantModel.{PlantModel}
+use Rattle.line_machine.specs.Next.{Next}
+use Rattle.model_form.specs.Answers.{Answer}
+
+-- in a state: the model that the lines stand behind; whether a refusal is printed as JSON; the most bytes of the next line, without its LF; what a line says,
+-- which is nothing, an item, or its least code; what is known of an item that was read; where the item of the line of a number leads, and what it prints; what is
+-- printed at the end of the input behind so many lines, and how the program ends; and whether the line of a number may come next
+pub record LineMeaning (L I : Type 0) : Type 1 where
+  pub model_of : L → PlantModel
+  pub is_json : L → Bool
+  pub limit_of : L → ℕ
+  pub said : L → List ℕ → Result (Option I) ℕ → Type 0
+  pub fits : L → I → Type 0
+  pub serves : I → L → ℕ → Next L → List ℕ → Type 0
+  pub closing : L → ℕ → Answer
+  pub awaits : L → ℕ → Type 0

@@ -1,0 +1,10 @@
+use Rattle.std.proofs.Common.{◌≡◌, [], refl, sym, subst}
+use Rattle.line_machine.specs.Next.{GoesOn}
+use Rattle.model_form.specs.FormMachine.{FormSteps}
+use Rattle.model_form.specs.FormStates.{Behind}
+use Rattle.model_form.proofs.with_model.WithModelMachine.skips_empty.Goals as goal
+
+pub returns-in-Behind-clause-skips : goal.returns-in-Behind-clause-skips
+returns-in-Behind-clause-skips g c h n =
+    let at : c.args.self.now ≡ Behind c.in-Behind.behind = cc in
+    subst (λ s. FormSteps g.F.ModelForm g.B.Machine s n [] (GoesOn s) []) (sym at) (GoesOn c.in-Behind.behind, c.skips_empty.ensures.skips h n, refl)
