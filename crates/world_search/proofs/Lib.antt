@@ -1,0 +1,3 @@
+pub mod PutLaws
+pub mod WordLaws
+pub mod WorkLaws

@@ -2,5 +2,7 @@
 #![tactic(auto)]
 
 mod words;
+mod work;
 
 pub use words::{WordClause, WordLiteral};
+pub use work::{Work, narrow, try_value};

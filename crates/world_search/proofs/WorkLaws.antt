@@ -1,0 +1,71 @@
+-- What always holds of a search's buffers holds with one entry more.
+use Rattle.std.proofs.Common.{◌≡◌, ◌≢◌, inl, inr, ℕ, ◌+◌, ◌*◌, ◌%◌, ◌^◌, ◌<◌, ◌≤◌, Bool, eqb, true, false, List, [], ◌∷◌, ◌++◌, length, get_or, take, set, slice_index, bit_and, refl, sym, ap, subst, ◌∙◌, arith}
+use Rattle.std.proofs.lemmas.List.{length-append, length-set, length-take-le, take_more_set}
+use Rattle.std.proofs.lemmas.Nat.Bits.{bit_at-pow_other, bit_at-pow_same}
+use Rattle.cca_base.specs.Sets.{has}
+use Rattle.std.proofs.Math.Nat.{mod-eq_of_lt}
+use Rattle.std.proofs.Math.Pow.{pow-lt}
+use Rattle.clash_analysis.specs.Ends.{weight}
+use Rattle.clash_analysis.proofs.EndLaws.{marks_few, weight_level}
+use Rattle.cca_base.specs.declared.cube.Pair.{Pair}
+use Rattle.cca_base.specs.declared.limits.TheConstants.{MAX_CHOICES}
+use Rattle.clash_analysis.specs.declared.entry.Entry.{Entry}
+use Rattle.clash_analysis.specs.declared.entry.Why.{Why}
+use Rattle.clash_analysis.specs.Trails.{IsTrail, IsWhy}
+use Rattle.clash_analysis.specs.Clashes.{AreInside}
+use Rattle.clash_analysis.specs.Levels.{AreLevels}
+use Rattle.clash_analysis.specs.Ends.{AreSets, count_all}
+use Rattle.clash_analysis.specs.Laws.{Passes}
+use Rattle.world_search.specs.declared.work.Work.{Work}
+use Rattle.world_search.specs.Works.{HasMore, IsPut, IsReady, IsRight, IsShaped, KeepsLevels, MayFollow, ShareSome}
+use Rattle.world_search.proofs.PutLaws.{entry_of, inside_put, levels_put, right_after, room_after, room_for, sets_after}
+
+module _ (old new : Work) (u kept : ℕ) (why : Why) (ready : IsReady old) (inside : u < length old.dom.items) (some : ShareSome (slice_index old.dom.items u) kept) (more : HasMore (slice_index old.dom.items u) kept) where
+  pub room_here : old.long < length old.trail.items
+  room_here = room_for old.dom.items u kept inside some more ready.sets old.long (length old.trail.items) ready.room
+
+  module _ (put : IsPut old u kept why new) where
+    abbrev pub e : Entry
+    e = entry_of old.dom.items u kept why
+
+    pub shape_put : length new.marks.items ≡ length old.marks.items → IsShaped new
+    shape_put same = record {
+      dom = ap length put.dom ∙ length-set old.dom.items u (bit_and (slice_index old.dom.items u) kept) ∙ ready.shape.dom ∙ sym (ap length put.start);
+      learn = ap length put.learn ∙ ready.shape.learn ∙ sym (ap length put.start);
+      small = rw put.start ready.shape.small;
+      marks = same ∙ ready.shape.marks ∙ sym (ap length put.trail ∙ length-set old.trail.items old.long e);
+      short = rw (put.trail, length-set old.trail.items old.long e) ready.shape.short;
+    }
+
+    pub ready_put : length new.marks.items ≡ length old.marks.items → AreLevels new.marks.items new.levels (set old.trail.items old.long e) (old.long + 1) → IsReady new
+    ready_put same stands = record {
+      shape = shape_put same;
+      sets = subst (AreSets MAX_CHOICES) (sym put.dom) (sets_after old.dom.items u kept inside some more ready.sets);
+      room = rw (put.long, put.dom, put.trail, length-set old.trail.items old.long e) (room_after old.dom.items u kept inside some more ready.sets old.long (length old.trail.items) ready.room);
+      levels = rw (put.long, put.trail) stands;
+      inside = rw (put.long, put.dom, put.trail, length-set old.dom.items u (bit_and (slice_index old.dom.items u) kept)) (inside_put (length old.dom.items) old.trail.items old.long e room_here inside ready.inside);
+    }
+
+    pub right_put : (want : List ℕ → Bool) (pairs : List Pair) → IsWhy (Passes want) pairs old.dom.items u kept why → IsRight want pairs old → IsRight want pairs new
+    right_put want pairs is t = rw (put.start, put.long, put.dom, put.trail) (right_after old.dom.items u kept inside some more (Passes want) pairs old.start.items old.trail.items old.long why room_here is t)
+
+-- ---- a value that is tried
+
+one_bit : (w n : ℕ) → n < w → 1 * 2 ^ n % 2 ^ w ≡ 2 ^ n
+one_bit w n h = let small : 2 ^ n < 2 ^ w = pow-lt h in let one : 1 * 2 ^ n ≡ 2 ^ n = omega arith in rw one (mod-eq_of_lt small)
+
+pub one_has : (value : ℕ) → value < 64 → has (1 * 2 ^ value % 2 ^ 64) value ≡ true
+one_has value h = ap (λ s. has s value) (one_bit 64 value h) ∙ ap (λ b. eqb b 1) (bit_at-pow_same value)
+
+pub one_none : (value a : ℕ) → value < 64 → a ≢ value → has (1 * 2 ^ value % 2 ^ 64) a ≡ false
+one_none value a h other = ap (λ s. has s a) (one_bit 64 value h) ∙ ap (λ b. eqb b 1) (bit_at-pow_other value a other)
+
+-- there are as many marks as there is room
+pub mark_room : (old : Work) → IsReady old → old.long < length old.trail.items → old.levels < length old.marks.items
+mark_room old ready room = omega (arith, ready.shape.marks, marks_few old.marks.items old.levels old.long ready.levels.rising ready.levels.below)
+
+-- a level more weighs less
+pub weight_tried : (room : ℕ) (marks : List ℕ) (levels long : ℕ) → levels < length marks → length marks ≡ room
+    → weight room (room + 1) (take (levels + 1) (set marks levels long) ++ (long + 1) ∷ []) < weight room (room + 1) (take levels marks ++ long ∷ [])
+weight_tried room marks levels long few same =
+    rw (take_more_set marks levels long few) (weight_level room (room + 1) (take levels marks ++ long ∷ []) [] (long + 1) (omega (arith, length-append (take levels marks) (long ∷ []), length-take-le levels marks (omega arith))))
