@@ -17,4 +17,4 @@ pub use entry::{Entry, Why};
 pub use laws::{clauses, ends, learning, trails};
 pub use level::learn_from;
 pub use lower::{is_apart, narrow_learned, undo};
-pub use subjects::SubjectSet;
+pub use subjects::{SubjectSet, has_subject, no_subject, with_subject};

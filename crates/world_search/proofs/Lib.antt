@@ -1,3 +1,5 @@
 pub mod PutLaws
 pub mod WordLaws
 pub mod WorkLaws
+pub mod ClauseLaws
+pub mod FollowLaws

@@ -1,6 +1,7 @@
 -- What always holds of a search's buffers holds with one entry more.
 use Rattle.std.proofs.Common.{◌≡◌, ◌≢◌, inl, inr, ℕ, ◌+◌, ◌*◌, ◌%◌, ◌^◌, ◌<◌, ◌≤◌, Bool, eqb, true, false, List, [], ◌∷◌, ◌++◌, length, get_or, take, set, slice_index, bit_and, refl, sym, ap, subst, ◌∙◌, arith}
-use Rattle.std.proofs.lemmas.List.{length-append, length-set, length-take-le, take_more_set}
+use Rattle.std.proofs.lemmas.List.{length-append, length-set, length-take-le, take_more_set, with_items_is}
+use Rattle.std.specs.Vec.{with_items}
 use Rattle.std.proofs.lemmas.Nat.Bits.{bit_at-pow_other, bit_at-pow_same}
 use Rattle.cca_base.specs.Sets.{has}
 use Rattle.std.proofs.Math.Nat.{mod-eq_of_lt}
@@ -17,7 +18,7 @@ use Rattle.clash_analysis.specs.Levels.{AreLevels}
 use Rattle.clash_analysis.specs.Ends.{AreSets, count_all}
 use Rattle.clash_analysis.specs.Laws.{Passes}
 use Rattle.world_search.specs.declared.work.Work.{Work}
-use Rattle.world_search.specs.Works.{HasMore, IsPut, IsReady, IsRight, IsShaped, KeepsLevels, MayFollow, ShareSome}
+use Rattle.world_search.specs.Works.{HasMore, IsMoved, IsPut, IsReady, IsRight, IsShaped, KeepsLevels, MayFollow, ShareSome}
 use Rattle.world_search.proofs.PutLaws.{entry_of, inside_put, levels_put, right_after, room_after, room_for, sets_after}
 
 module _ (old new : Work) (u kept : ℕ) (why : Why) (ready : IsReady old) (inside : u < length old.dom.items) (some : ShareSome (slice_index old.dom.items u) kept) (more : HasMore (slice_index old.dom.items u) kept) where
@@ -69,3 +70,34 @@ pub weight_tried : (room : ℕ) (marks : List ℕ) (levels long : ℕ) → level
     → weight room (room + 1) (take (levels + 1) (set marks levels long) ++ (long + 1) ∷ []) < weight room (room + 1) (take levels marks ++ long ∷ [])
 weight_tried room marks levels long few same =
     rw (take_more_set marks levels long few) (weight_level room (room + 1) (take levels marks ++ long ∷ []) [] (long + 1) (omega (arith, length-append (take levels marks) (long ∷ []), length-take-le levels marks (omega arith))))
+
+-- ---- another clause is learned
+
+abbrev pub relearned : Work → List ℕ → Work
+relearned old ws = record old { learn = with_items old.learn ws }
+
+module _ (old : Work) (ws : List ℕ) (long : length ws ≡ length old.learn.items) where
+  pub learn_is : (with_items old.learn ws).items ≡ ws
+  learn_is = with_items_is old.learn ws (long ∙ sym old.learn.ok.0)
+
+  pub ready_learn : IsReady old → IsReady (relearned old ws)
+  ready_learn ready = record {
+    shape = record {
+      dom = ready.shape.dom;
+      learn = ap length learn_is ∙ long ∙ ready.shape.learn;
+      small = ready.shape.small;
+      marks = ready.shape.marks;
+      short = ready.shape.short;
+    };
+    sets = ready.sets;
+    room = ready.room;
+    levels = ready.levels;
+    inside = ready.inside;
+  }
+
+-- nothing has moved
+pub moved_not : (old new : Work) → new.start.items ≡ old.start.items → new.long ≡ old.long → new.trail.items ≡ old.trail.items → new.marks.items ≡ old.marks.items → new.levels ≡ old.levels → IsMoved old new
+moved_not old new start long trail marks levels = record {
+  levels = record { marks = marks; levels = levels };
+  longer = record { start = start; longer = omega (arith, long); room = ap length trail; kept = ap (take old.long) trail };
+}

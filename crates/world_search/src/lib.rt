@@ -1,8 +1,14 @@
 //! Whether some world has given pairs, and if not, which of them are to blame: a search with learning in a workspace that is made once.
 #![tactic(auto)]
 
+mod propagate;
+mod rules;
+mod visit;
 mod words;
 mod work;
 
+pub use propagate::{follow_trail, visit_all};
+pub use rules::Rules;
+pub use visit::visit_clause;
 pub use words::{WordClause, WordLiteral};
 pub use work::{Work, narrow, try_value};
