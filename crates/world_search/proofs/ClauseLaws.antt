@@ -11,7 +11,11 @@ use Rattle.cca_base.specs.Sets.{has}
 use Rattle.cca_base.proofs.SetLaws.{has-and, has-empty, has-or, has_above}
 use Rattle.clause_form.specs.declared.clause.Literal.{Literal}
 use Rattle.clause_form.specs.Clauses.{is_met, is_true}
-use Rattle.clash_analysis.specs.Learning.{IsClauseOf, IsOneOrOut, IsOut}
+use Rattle.std.proofs.lemmas.List.Folds.{list_any_at}
+use Rattle.clash_analysis.specs.Trails.{AllWithin, AreApart}
+use Rattle.clash_analysis.specs.Learning.{IsClauseOf, IsLearned, IsOneOrOut, IsOut}
+use Rattle.clash_analysis.specs.Laws.{Passes}
+use Rattle.clash_analysis.proofs.VisitLaws.{clause_apart, clause_learned}
 use Rattle.clash_analysis.proofs.ClimbLaws.{some_shared}
 use Rattle.world_search.specs.declared.words.WordLiteral.{WordLiteral}
 use Rattle.world_search.specs.Words.{IsMetIn, OthersOut, literal_of, literals_of, met}
@@ -106,3 +110,21 @@ module _ (start learn : List ℕ) (front : List Literal) (l : Literal) (inside :
           | inr other ↦ let (l2, among, at, is) = clause.only v a (ap (λ s. has s a) (sym (get_or-set_other learn l.subject v value 0 other)) ∙ held) in (l2, Contains-append_left front (l ∷ []) l2 among, at, is)
         ];
       }
+
+-- a clause with no open literal is learned, and is a clash
+pub clause_clash : (start dom learn : List ℕ) (words : List WordLiteral) → All (λ (w : WordLiteral). w.subject < length start) words → IsClauseOf start (literals_of words) learn → All (IsOut dom) (literals_of words)
+    → (want : List ℕ → Bool) → IsMetIn words want → AllWithin (Passes want) start → IsLearned (Passes want) learn × AreApart dom learn
+clause_clash start dom learn words inside clause out want holds all = (
+  clause_learned (Passes want) (literals_of words) (met_literals want words holds) start learn all (inside_literals (length start) words inside) clause,
+  clause_apart start dom learn (literals_of words) out clause,
+)
+
+-- one literal that is true makes the clause true
+pub met_at : (xs : List ℕ) (words : List WordLiteral) (i : ℕ) (d : WordLiteral) → i < length words → has (get_or words i d).values (slice_index xs (get_or words i d).subject) ≡ true → met xs words ≡ true
+met_at xs words i d h is = list_any_at (λ (w : WordLiteral). is_true xs (literal_of w)) words i d h is
+
+-- one literal more is out
+pub out_push : (dom : List ℕ) (words : List WordLiteral) (i : ℕ) (d : WordLiteral) → i < length words → All (IsOut dom) (literals_of (take i words)) → bit_and (slice_index dom (get_or words i d).subject) (get_or words i d).values ≡ 0
+    → All (IsOut dom) (literals_of (take (i + 1) words))
+out_push dom words i d h before none =
+    subst (All (IsOut dom)) (sym (more_literals words i d h)) (All-push (IsOut dom) (literals_of (take i words)) (literal_of (get_or words i d)) before (none_common (slice_index dom (get_or words i d).subject) (get_or words i d).values none))

@@ -56,6 +56,7 @@ module _ (old : Work) (head : ℕ) where
   pub ready_headed : IsReady headed → IsReady old
   ready_headed r = record {
     shape = record { dom = r.shape.dom; learn = r.shape.learn; small = r.shape.small; marks = r.shape.marks; short = r.shape.short };
+    roomy = record { sets = r.roomy.sets; room = r.roomy.room };
     sets = r.sets;
     room = r.room;
     levels = r.levels;

@@ -30,6 +30,7 @@ pub record IsRoomy (w : Work) : Type 0 where
 -- each subject has a value left, there is room on the trail for all others, and levels stand on it
 pub record IsReady (w : Work) : Type 0 where
   pub shape : IsShaped w
+  pub roomy : IsRoomy w
   pub sets : AreSets MAX_CHOICES w.dom.items
   pub room : w.long + count_all MAX_CHOICES w.dom.items ≤ length w.trail.items + length w.dom.items
   pub levels : AreLevels w.marks.items w.levels w.trail.items w.long
@@ -85,3 +86,23 @@ pub record IsMoved (old new : Work) : Type 0 where
 -- the number that falls with each step of a search
 abbrev pub weight_of : Work → ℕ
 weight_of w = weight (length w.trail.items) (length w.trail.items + 1) (take w.levels w.marks.items ++ w.long ∷ [])
+
+-- the first so many entries stand below all levels
+pub record StandsAbove (n : ℕ) (w : Work) : Type 0 where
+  pub room : n ≤ w.long
+  pub marks : (k : ℕ) → k < w.levels → n ≤ slice_index w.marks.items k
+
+-- what stands below all levels stays
+abbrev pub KeepsBelow : Work → Work → Type 0
+KeepsBelow old new = (n : ℕ) → StandsAbove n old → StandsAbove n new × (take n new.trail.items ≡ take n old.trail.items)
+
+-- what is learned is a clash with nothing blamed
+abbrev pub IsClashed : (List ℕ → Bool) → List Pair → Work → Type 0
+IsClashed want pairs w = IsClash want pairs w.start.items (take w.long w.trail.items) w.dom.items (λ _. false) w.learn.items
+
+-- the trail ends behind the mark of a lower level, up to which it is the same
+pub record IsFurther (old new : Work) : Type 0 where
+  pub marks : new.marks.items ≡ old.marks.items
+  pub fewer : new.levels < old.levels
+  pub long : new.long ≡ slice_index old.marks.items new.levels + 1
+  pub kept : take (slice_index old.marks.items new.levels) new.trail.items ≡ take (slice_index old.marks.items new.levels) old.trail.items

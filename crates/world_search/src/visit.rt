@@ -50,7 +50,7 @@ fn others(literals: &[WordLiteral], skip: usize, subjects: usize) -> SubjectSet
 }
 
 /// Learns the clause, where nothing is learned yet.
-fn learn_clause(literals: &[WordLiteral], start: &[u64], learn: &mut [u64])
+pub fn learn_clause(literals: &[WordLiteral], start: &[u64], learn: &mut [u64])
     requires inside { AreInside (length start.now) literals.now }
     requires long { length start.now ≡ length learn.old }
     requires none { (v : ℕ) → slice_index learn.old v ≡ 0 }

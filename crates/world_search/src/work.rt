@@ -6,7 +6,7 @@ ghost use Rattle.cca_base.specs.declared.cube.Pair.{Pair};
 ghost use Rattle.cca_base.specs.declared.limits.TheConstants.{MAX_CHOICES};
 ghost use Rattle.clash_analysis.specs.Laws.{Passes};
 ghost use Rattle.clash_analysis.specs.Trails.{IsWhy};
-ghost use Rattle.world_search.specs.Works.{HasMore, IsClear, IsLonger, IsMoved, IsPut, IsReady, IsRight, KeepsLevels, MayFollow, ShareSome, weight_of};
+ghost use Rattle.world_search.specs.Works.{HasMore, IsMoved, IsPut, IsReady, IsRight, KeepsBelow, KeepsLevels, MayFollow, ShareSome, weight_of};
 
 use clash_analysis::{Entry, Why};
 
@@ -78,7 +78,9 @@ pub fn try_value(work: &mut Work, subject: u16, value: u8)
     requires has { has (slice_index work.old.dom.items subject) value ≡ true }
     requires other { (a : ℕ) × (a ≢ value) × (has (slice_index work.old.dom.items subject) a ≡ true) }
     ensures ready { IsReady work.new }
-    ensures longer { IsLonger work.old work.new }
+    ensures start { work.new.start.items ≡ work.old.start.items }
+    ensures learn { work.new.learn.items ≡ work.old.learn.items }
+    ensures below { KeepsBelow work.old work.new }
     ensures weight { weight_of work.new < weight_of work.old }
     ensures right { (want : List ℕ → Bool) (pairs : List Pair) → IsRight want pairs work.old → IsRight want pairs work.new }
 {

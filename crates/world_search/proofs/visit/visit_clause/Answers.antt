@@ -7,10 +7,10 @@ use Rattle.clash_analysis.specs.Laws.{Passes}
 use Rattle.clash_analysis.specs.Subjects.{is_in}
 use Rattle.clash_analysis.specs.Trails.{AreApart}
 use Rattle.clash_analysis.specs.Learning.{IsClauseOf, IsLearned}
-use Rattle.clash_analysis.proofs.VisitLaws.{clause_apart, clause_learned, open_literal}
+use Rattle.clash_analysis.proofs.VisitLaws.{open_literal}
 use Rattle.world_search.specs.declared.words.WordLiteral.{WordLiteral}
 use Rattle.world_search.specs.Words.{OthersOut, literal_of, literals_of}
-use Rattle.world_search.proofs.ClauseLaws.{all_out, inside_literals, met_literals, one_or_out, some_common, some_more}
+use Rattle.world_search.proofs.ClauseLaws.{all_out, clause_clash, met_literals, one_or_out, some_common, some_more}
 use Rattle.world_search.proofs.WorkLaws.{learn_is, moved_not, ready_learn, relearned}
 use Rattle.world_search.proofs.visit.visit_clause.Goals as goal
 
@@ -46,12 +46,9 @@ returns-then-place-literals-clause-followed c =
       moved = moved_not old (relearned old c.learn_clause.new.learn) refl refl refl refl refl;
       right = λ want pairs holds t. t;
       clear = λ e. absurd (false≢true (sym e));
-      clash = λ found want holds all.
-          let clause : IsClauseOf old.start.items (literals_of words) c.learn_clause.new.learn = subst (λ s. IsClauseOf s (literals_of words) c.learn_clause.new.learn) c.deref-then-place-literals.ensures.value c.learn_clause.ensures.clause in (
-          subst (IsLearned (Passes want)) (sym is) (clause_learned (Passes want) (literals_of words) (met_literals want words holds) old.start.items c.learn_clause.new.learn all
-              (inside_literals (length old.start.items) words (subst (λ n. All (λ (w : WordLiteral). w.subject < n) words) shape.dom c.requires.inside)) clause),
-          subst (AreApart old.dom.items) (sym is) (clause_apart old.start.items old.dom.items c.learn_clause.new.learn (literals_of words) out clause),
-        );
+      clash = λ found want holds all. subst (λ l. IsLearned (Passes want) l × AreApart old.dom.items l) (sym is)
+          (clause_clash old.start.items old.dom.items c.learn_clause.new.learn words (subst (λ n. All (λ (w : WordLiteral). w.subject < n) words) shape.dom c.requires.inside)
+            (subst (λ s. IsClauseOf s (literals_of words) c.learn_clause.new.learn) c.deref-then-place-literals.ensures.value c.learn_clause.ensures.clause) out want holds all);
     }
 
 pub returns-then-left-literal-ne0-clause-followed : goal.returns-then-left-literal-ne0-clause-followed

@@ -1,11 +1,11 @@
 use Rattle.std.proofs.Common.{◌≡◌, ◌<◌, ◌+◌, ◌*◌, ◌%◌, ◌^◌, ◌∷◌, [], length, set, take, slice_index, ap, subst, sym, ◌∙◌, arith}
-use Rattle.std.proofs.lemmas.List.{length-set}
+use Rattle.std.proofs.lemmas.List.{length-set, take-set-le}
 use Rattle.clash_analysis.specs.declared.entry.Why.TheVariants.{Chosen}
 use Rattle.clash_analysis.specs.Levels.{AreLevels}
 use Rattle.world_search.specs.Works.{HasMore, IsPut, ShareSome}
 use Rattle.world_search.specs.declared.work.Work.{Work}
 use Rattle.world_search.proofs.PutLaws.{entry_of, levels_tried}
-use Rattle.world_search.proofs.WorkLaws.{mark_room, one_has, one_none, ready_put, right_put, room_here, weight_tried}
+use Rattle.world_search.proofs.WorkLaws.{mark_room, marks_tried, one_has, one_none, ready_put, right_put, room_here, weight_tried}
 use Rattle.world_search.proofs.work.try_value.Given as given
 use Rattle.world_search.proofs.work.try_value.Goals as goal
 
@@ -58,3 +58,18 @@ returns-clause-right c want pairs t =
     let some : ShareSome (slice_index old.dom.items c.args.subject) kept = (value, c.requires.has, one_has value c.requires.small) in
     let more : HasMore (slice_index old.dom.items c.args.subject) kept = (c.requires.other.0, c.requires.other.2, one_none value c.requires.other.0 c.requires.small c.requires.other.1) in
     right_put old c.put.new.work c.args.subject kept Chosen c.requires.ready c.requires.subject some more c.put.ensures.put want pairs tt t
+
+pub returns-clause-below : goal.returns-clause-below
+returns-clause-below c n stands =
+    let old = c.args.work.now in
+    let value = c.args.value in
+    let kept = 1 * 2 ^ value % 2 ^ 64 in
+    let some : ShareSome (slice_index old.dom.items c.args.subject) kept = (value, c.requires.has, one_has value c.requires.small) in
+    let more : HasMore (slice_index old.dom.items c.args.subject) kept = (c.requires.other.0, c.requires.other.2, one_none value c.requires.other.0 c.requires.small c.requires.other.1) in
+    let few = mark_room old c.requires.ready (room_here old old c.args.subject kept Chosen c.requires.ready c.requires.subject some more) in (
+      record {
+        room = omega (arith, stands.room, c.put.ensures.put.long);
+        marks = rw c.put.ensures.levels.marks (marks_tried n old few stands);
+      },
+      rw c.put.ensures.put.trail (take-set-le n old.trail.items old.long (entry_of old.dom.items c.args.subject kept Chosen) stands.room),
+    )

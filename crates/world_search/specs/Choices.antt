@@ -1,0 +1,39 @@
+-- What comes of a step of a search.
+use Rattle.std.specs.Prelude.{◌≡◌, ℕ, ◌<◌, ◌≤◌, Bool, true, false, List, length, slice_index, All}
+use Rattle.cca_base.specs.Sets.{has}
+use Rattle.cca_base.specs.declared.cube.Pair.{Pair}
+use Rattle.clash_analysis.specs.Trails.{AllWithin, AreApart, is_within}
+use Rattle.clash_analysis.specs.Learning.{IsLearned}
+use Rattle.clash_analysis.specs.Laws.{Passes}
+use Rattle.world_search.specs.declared.choose.Step.{Step}
+use Rattle.world_search.specs.declared.choose.Step.TheVariants.{Found, Tried, Clash}
+use Rattle.world_search.specs.declared.words.WordClause.{WordClause}
+use Rattle.world_search.specs.declared.work.Work.{Work}
+use Rattle.world_search.specs.Words.{AreMetIn, met}
+use Rattle.world_search.specs.Works.{IsClear, IsReady, IsRight, KeepsBelow, weight_of}
+
+-- the values are of the sets, one for each subject
+abbrev pub AreOf : List ℕ → List ℕ → Type 0
+AreOf sets xs = (v : ℕ) → v < length sets → is_within sets xs v ≡ true
+
+-- each clause is true
+abbrev pub AllMetBy : List ℕ → List WordClause → Type 0
+AllMetBy xs clauses = All (λ c. met xs c.literals.items ≡ true) clauses
+
+-- the trail stays right, with what stands below all levels, and weighs no more
+pub record IsStep (clauses : List WordClause) (old new : Work) : Type 0 where
+  pub ready : IsReady new
+  pub start : new.start.items ≡ old.start.items
+  pub below : KeepsBelow old new
+  pub weight : weight_of new ≤ weight_of old
+  pub right : (want : List ℕ → Bool) (pairs : List Pair) → AreMetIn clauses want → IsRight want pairs old → IsRight want pairs new
+
+-- the clause that is learned is a clash
+abbrev pub IsFoundFalse : List WordClause → Work → Type 0
+IsFoundFalse clauses w = (want : List ℕ → Bool) → AreMetIn clauses want → AllWithin (Passes want) w.start.items → IsLearned (Passes want) w.learn.items × AreApart w.dom.items w.learn.items
+
+-- the trial is of what is left, with all clauses true; or a value is tried; or a clause is found false
+abbrev pub IsOutcome : List WordClause → Work → Work → List ℕ → Step → Type 0
+IsOutcome clauses old new trial Found = AreOf new.dom.items trial × AllMetBy trial clauses
+IsOutcome clauses old new trial Tried = IsClear new × (weight_of new < weight_of old)
+IsOutcome clauses old new trial Clash = IsFoundFalse clauses new
