@@ -16,5 +16,5 @@ pub use blaming::blame;
 pub use entry::{Entry, Why};
 pub use laws::{clauses, ends, learning, trails};
 pub use level::learn_from;
-pub use lower::{is_apart, narrow_learned, undo};
+pub use lower::{clear, is_apart, narrow_learned, undo};
 pub use subjects::{SubjectSet, has_subject, no_subject, with_subject};

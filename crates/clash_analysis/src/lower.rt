@@ -60,7 +60,7 @@ fn others(learn: &[u64], u: u16) -> SubjectSet
 }
 
 /// Leaves nothing learned.
-fn clear(learn: &mut [u64])
+pub fn clear(learn: &mut [u64])
     ensures long { length learn.new ≡ length learn.old }
     ensures none { (v : ℕ) → slice_index learn.new v ≡ 0 }
 {

@@ -1,8 +1,7 @@
 -- A pair of the question, assumed or lost.
-use Rattle.std.proofs.Common.{◌≡◌, ◌≢◌, inl, inr, ℕ, ◌+◌, ◌-◌, ◌*◌, ◌%◌, ◌^◌, ◌<◌, ◌≤◌, Bool, true, false, ◌&&◌, not, eqb, w64, List, [], ◌∷◌, ◌++◌, length, get_or, drop, set, slice_index, bit_and, refl, sym, ap, subst, ◌∙◌, arith, get_or-set_same, get_or-set_other}
-use Rattle.std.specs.Prelude.{All, Contains}
+use Rattle.std.proofs.Common.{◌≡◌, inl, inr, ℕ, ◌+◌, ◌-◌, ◌*◌, ◌%◌, ◌^◌, ◌<◌, ◌≤◌, true, false, not, eqb, w64, List, ◌∷◌, length, get_or, drop, set, slice_index, bit_and, refl, sym, ap, ◌∙◌, arith, get_or-set_same, get_or-set_other}
 use Rattle.std.specs.Int.{bit_at, bit_not}
-use Rattle.std.proofs.lemmas.Bool.{and_from, and_parts, both_ways, cases_eq, cases_lt, false_from_ne_true, le-ltb}
+use Rattle.std.proofs.lemmas.Bool.{and_from, and_parts, both_ways, cases_eq, false_from_ne_true}
 use Rattle.std.proofs.lemmas.Bool.Decides.{nat_tests}
 use Rattle.std.proofs.lemmas.List.{drop_more}
 use Rattle.std.proofs.lemmas.List.Elements.{All-cons, All-same, All-weaker}
@@ -10,14 +9,13 @@ use Rattle.std.proofs.lemmas.Nat.Bits.{bit_at-lt, bit_at_not}
 use Rattle.std.proofs.Math.Nat.{mod-lt}
 use Rattle.std.proofs.lemmas.Nat.{pow_pos}
 use Rattle.cca_base.specs.Sets.{has}
-use Rattle.cca_base.proofs.SetLaws.{has-and, has-empty, has_above}
+use Rattle.cca_base.proofs.SetLaws.{has-and, has-empty}
 use Rattle.cca_base.specs.declared.cube.Pair.{Pair}
 use Rattle.clash_analysis.specs.declared.entry.Why.{Why}
 use Rattle.clash_analysis.specs.Trails.{AreApart}
 use Rattle.clash_analysis.proofs.UndoLaws.{narrowed_within}
-use Rattle.world_search.specs.Works.{HasMore, ShareSome}
 use Rattle.world_search.specs.Assumed.{AreHeld, IsHeld}
-use Rattle.world_search.proofs.ClauseLaws.{none_common, some_common, some_more}
+use Rattle.world_search.proofs.ClauseLaws.{none_common}
 use Rattle.world_search.proofs.PutLaws.{entry_of}
 use Rattle.world_search.proofs.WorkLaws.{one_has, one_none}
 

@@ -1,6 +1,5 @@
 -- What holds of a search's buffers once a clause is learned on a lower level.
-use Rattle.std.proofs.Common.{◌≡◌, ℕ, ◌+◌, ◌<◌, ◌≤◌, Bool, true, false, List, [], ◌∷◌, ◌++◌, length, take, slice_index, refl, sym, ap, subst, ◌∙◌, arith}
-use Rattle.std.proofs.lemmas.Bool.{both_ways}
+use Rattle.std.proofs.Common.{◌≡◌, ℕ, ◌+◌, ◌<◌, ◌≤◌, Bool, true, List, length, take, slice_index, refl, sym, ap, subst, ◌∙◌, arith}
 use Rattle.std.proofs.lemmas.List.{length-take-le, take-take, with_items_is}
 use Rattle.std.specs.Vec.{with_items}
 use Rattle.cca_base.specs.declared.cube.Pair.{Pair}
@@ -14,7 +13,7 @@ use Rattle.clash_analysis.specs.Laws.{Passes}
 use Rattle.clash_analysis.proofs.EndLaws.{marks_few, weight_learned}
 use Rattle.clash_analysis.proofs.RoomLaws.{sets_left, taken}
 use Rattle.world_search.specs.declared.work.Work.{Work}
-use Rattle.world_search.specs.Works.{IsFurther, IsReady, IsRight, IsRoomy, IsShaped, KeepsBelow, StandsAbove, weight_of}
+use Rattle.world_search.specs.Works.{IsFurther, IsReady, IsRight, IsRoomy, IsShaped, KeepsBelow, weight_of}
 
 -- with more subjects to blame it is a clash too
 pub clash_more : (want : List ℕ → Bool) (pairs : List Pair) (start : List ℕ) (trail : List Entry) (dom learn : List ℕ) (blamed more : ℕ → Bool) → ((v : ℕ) → blamed v ≡ true → more v ≡ true)

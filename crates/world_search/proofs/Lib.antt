@@ -6,3 +6,8 @@ pub mod FollowLaws
 pub mod FurtherLaws
 pub mod AssumeLaws
 pub mod StepLaws
+pub mod SettleLaws
+pub mod SizeLaws
+pub mod WorldLaws
+pub mod SeenLaws
+pub mod SpaceLaws

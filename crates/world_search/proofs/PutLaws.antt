@@ -1,19 +1,17 @@
 -- One entry more on a trail: the room for it, and what stands on it.
-use Rattle.std.proofs.Common.{◌≡◌, ◌≢◌, inl, inr, ℕ, suc, ◌+◌, ◌-◌, ◌<◌, ◌≤◌, Bool, true, false, List, [], ◌∷◌, ◌++◌, length, get_or, take, set, slice_index, bit_and, refl, sym, ap, subst, ◌∙◌, arith, get_or-set_same, get_or-set_other}
+use Rattle.std.proofs.Common.{◌≡◌, ◌≢◌, inl, inr, ℕ, ◌+◌, ◌<◌, ◌≤◌, List, [], ◌∷◌, length, get_or, take, set, slice_index, bit_and, refl, sym, ap, subst, ◌∙◌, arith, get_or-set_same, get_or-set_other}
 use Rattle.std.proofs.lemmas.Bool.{cases_eq}
-use Rattle.std.proofs.lemmas.List.{length-set, take_more_set, take-set}
+use Rattle.std.proofs.lemmas.List.{length-set, take_more_set}
 use Rattle.std.proofs.lemmas.List.Elements.{All-push}
-use Rattle.cca_base.specs.Sets.{has}
 use Rattle.cca_base.specs.declared.cube.Pair.{Pair}
 use Rattle.cca_base.specs.declared.limits.TheConstants.{MAX_CHOICES}
 use Rattle.clash_analysis.specs.declared.entry.Entry.{Entry}
 use Rattle.clash_analysis.specs.declared.entry.Why.{Why}
 use Rattle.clash_analysis.specs.declared.entry.Why.TheVariants.{Chosen}
-use Rattle.clash_analysis.specs.Trails.{IsEntry, IsTrail, IsWhy, narrowed}
+use Rattle.clash_analysis.specs.Trails.{IsEntry, IsTrail, IsWhy}
 use Rattle.clash_analysis.specs.Clashes.{AreInside, IsNoChoice}
 use Rattle.clash_analysis.specs.Levels.{AreLevels, IsDerived}
 use Rattle.clash_analysis.specs.Ends.{AreSets, count_all}
-use Rattle.clash_analysis.specs.Laws.{Passes}
 use Rattle.clash_analysis.proofs.TrailLaws.{pushed}
 use Rattle.clash_analysis.proofs.RoomLaws.{length_below, sets_narrowed, taken}
 use Rattle.world_search.specs.Works.{HasMore, ShareSome}

@@ -1,10 +1,9 @@
 -- Steps of a search, one after another.
-use Rattle.std.proofs.Common.{◌≡◌, ℕ, ◌+◌, ◌<◌, ◌≤◌, Bool, true, false, List, [], ◌∷◌, ◌++◌, length, take, drop, slice_index, refl, sym, ap, subst, ◌∙◌, arith}
+use Rattle.std.proofs.Common.{◌≡◌, ℕ, ◌≤◌, Bool, true, false, List, ◌++◌, length, take, drop, slice_index, sym, ap, subst, ◌∙◌, arith}
 use Rattle.std.proofs.lemmas.Bool.{false≢true}
 use Rattle.std.proofs.lemmas.List.{take-append-drop, take-take}
 use Rattle.cca_base.specs.Sets.{has}
 use Rattle.cca_base.specs.declared.cube.Pair.{Pair}
-use Rattle.clash_analysis.specs.declared.entry.Entry.{Entry}
 use Rattle.clash_analysis.specs.Trails.{AllWithin, AreEntries, left_by}
 use Rattle.clash_analysis.specs.Laws.{Passes}
 use Rattle.clash_analysis.proofs.TrailLaws.{entries_back, left_both}
@@ -13,7 +12,7 @@ use Rattle.world_search.specs.declared.choose.Step.{Step}
 use Rattle.world_search.specs.declared.choose.Step.TheVariants.{Found, Tried, Clash}
 use Rattle.world_search.specs.declared.words.WordClause.{WordClause}
 use Rattle.world_search.specs.declared.work.Work.{Work}
-use Rattle.world_search.specs.Choices.{AreOf, IsFoundFalse, IsOutcome, IsStep}
+use Rattle.world_search.specs.Choices.{IsFoundFalse, IsOutcome, IsStep}
 use Rattle.world_search.specs.Followed.{IsFollowed}
 use Rattle.world_search.specs.Words.{AreMetIn}
 use Rattle.world_search.specs.Works.{IsClashed, IsReady, IsRight, KeepsBelow, StandsAbove, weight_of}
@@ -27,6 +26,7 @@ module _ (clauses : List WordClause) where
   followed_step old new found ready f = record {
     ready = f.ready;
     start = f.moved.longer.start;
+    room = f.moved.longer.room;
     below = moved_below old new f.moved;
     weight = moved_weight old new ready f.ready f.moved;
     right = f.right;
@@ -36,6 +36,7 @@ module _ (clauses : List WordClause) where
   step_then one two three a b = record {
     ready = b.ready;
     start = b.start ∙ a.start;
+    room = b.room ∙ a.room;
     below = below_then one two three a.below b.below;
     weight = omega (arith, a.weight, b.weight);
     right = λ want pairs holds t. b.right want pairs holds (a.right want pairs holds t);
@@ -79,7 +80,7 @@ within_before old new pairs t u start zero below v a held =
     let back = drop old.long whole in
     let split : whole ≡ front ++ back = sym (take-append-drop old.long whole) ∙ ap (λ l. l ++ back) (take-take old.long new.long new.trail.items kept.0.room ∙ kept.1) in
     let leads : new.dom.items ≡ left_by (left_by old.start.items front) back =
-        u.leads ∙ ap (λ s. left_by s whole) start ∙ ap (left_by old.start.items) split ∙ left_both (Passes none) pairs old.start.items front back in
+    u.leads ∙ ap (λ s. left_by s whole) start ∙ ap (left_by old.start.items) split ∙ left_both (Passes none) pairs old.start.items front back in
     let entries = entries_back (Passes none) pairs old.start.items front back (subst (λ l. AreEntries (Passes none) pairs old.start.items l) split (subst (λ s. AreEntries (Passes none) pairs s whole) start u.entries)) in
     ap (λ d. has (slice_index d v) a) t.leads
     ∙ left_within (Passes none) pairs (left_by old.start.items front) back v a entries (ap (λ d. has (slice_index d v) a) (sym leads) ∙ held)

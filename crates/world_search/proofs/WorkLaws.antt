@@ -1,5 +1,5 @@
 -- What always holds of a search's buffers holds with one entry more.
-use Rattle.std.proofs.Common.{◌≡◌, ◌≢◌, inl, inr, ℕ, ◌+◌, ◌*◌, ◌%◌, ◌^◌, ◌<◌, ◌≤◌, Bool, eqb, true, false, List, [], ◌∷◌, ◌++◌, length, get_or, take, set, slice_index, bit_and, refl, sym, ap, subst, ◌∙◌, arith, get_or-set_same, get_or-set_other}
+use Rattle.std.proofs.Common.{◌≡◌, ◌≢◌, inl, inr, ℕ, ◌+◌, ◌*◌, ◌%◌, ◌^◌, ◌<◌, ◌≤◌, Bool, eqb, true, false, List, [], ◌∷◌, ◌++◌, length, take, set, slice_index, bit_and, sym, ap, subst, ◌∙◌, arith, get_or-set_same, get_or-set_other}
 use Rattle.std.proofs.lemmas.List.{length-append, length-set, length-take-le, take-take, take_more_set, with_items_is}
 use Rattle.std.specs.Vec.{with_items}
 use Rattle.std.proofs.lemmas.Bool.{cases_eq}
@@ -13,14 +13,13 @@ use Rattle.cca_base.specs.declared.cube.Pair.{Pair}
 use Rattle.cca_base.specs.declared.limits.TheConstants.{MAX_CHOICES}
 use Rattle.clash_analysis.specs.declared.entry.Entry.{Entry}
 use Rattle.clash_analysis.specs.declared.entry.Why.{Why}
-use Rattle.clash_analysis.specs.Trails.{IsTrail, IsWhy}
-use Rattle.clash_analysis.specs.Clashes.{AreInside}
+use Rattle.clash_analysis.specs.Trails.{IsWhy}
 use Rattle.clash_analysis.specs.Levels.{AreLevels}
-use Rattle.clash_analysis.specs.Ends.{AreSets, count_all}
+use Rattle.clash_analysis.specs.Ends.{AreSets}
 use Rattle.clash_analysis.specs.Laws.{Passes}
 use Rattle.world_search.specs.declared.work.Work.{Work}
-use Rattle.world_search.specs.Works.{HasMore, KeepsBelow, StandsAbove, weight_of, IsMoved, IsPut, IsReady, IsRight, IsRoomy, IsShaped, KeepsLevels, MayFollow, ShareSome}
-use Rattle.world_search.proofs.PutLaws.{entry_of, inside_put, levels_put, right_after, room_after, room_for, sets_after}
+use Rattle.world_search.specs.Works.{HasMore, KeepsBelow, StandsAbove, weight_of, IsMoved, IsPut, IsReady, IsRight, IsRoomy, IsShaped, ShareSome}
+use Rattle.world_search.proofs.PutLaws.{entry_of, inside_put, right_after, room_after, room_for, sets_after}
 
 module _ (old new : Work) (u kept : ℕ) (why : Why) (ready : IsReady old) (inside : u < length old.dom.items) (some : ShareSome (slice_index old.dom.items u) kept) (more : HasMore (slice_index old.dom.items u) kept) where
   pub room_here : old.long < length old.trail.items
@@ -129,9 +128,9 @@ moved_weight old new ready ready_new moved =
     let few : length front < T + 1 = omega (arith, length-take-le old.levels old.marks.items ready.levels.marks_room, marks_few old.marks.items old.levels old.long ready.levels.rising ready.levels.below, ready.levels.trail_room) in
     let high : new.long ≤ T = subst (λ m. new.long ≤ m) moved.longer.room ready_new.levels.trail_room in
     let same : weight_of new ≡ weight T (T + 1) (front ++ new.long ∷ []) =
-        ap (λ m. weight m (m + 1) (take new.levels new.marks.items ++ new.long ∷ [])) moved.longer.room
-        ∙ ap (λ l. weight T (T + 1) (take new.levels l ++ new.long ∷ [])) moved.levels.marks
-        ∙ ap (λ k. weight T (T + 1) (take k old.marks.items ++ new.long ∷ [])) moved.levels.levels in
+    ap (λ m. weight m (m + 1) (take new.levels new.marks.items ++ new.long ∷ [])) moved.longer.room
+    ∙ ap (λ l. weight T (T + 1) (take new.levels l ++ new.long ∷ [])) moved.levels.marks
+    ∙ ap (λ k. weight T (T + 1) (take k old.marks.items ++ new.long ∷ [])) moved.levels.levels in
     elim (cases_eq old.long new.long) [
       | inl equal ↦ let at : weight T (T + 1) (front ++ new.long ∷ []) ≡ weight_of old = ap (λ m. weight T (T + 1) (front ++ m ∷ [])) (sym equal) in omega (arith, same, at)
       | inr other ↦ omega (arith, same, weight_later T (T + 1) front [] [] old.long new.long (omega (arith, other, moved.longer.longer)) high few)

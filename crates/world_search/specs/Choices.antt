@@ -1,6 +1,5 @@
 -- What comes of a step of a search.
-use Rattle.std.specs.Prelude.{◌≡◌, ℕ, ◌<◌, ◌≤◌, Bool, true, false, List, length, slice_index, All}
-use Rattle.cca_base.specs.Sets.{has}
+use Rattle.std.specs.Prelude.{◌≡◌, ℕ, ◌<◌, ◌≤◌, Bool, true, List, length, All}
 use Rattle.cca_base.specs.declared.cube.Pair.{Pair}
 use Rattle.clash_analysis.specs.Trails.{AllWithin, AreApart, is_within}
 use Rattle.clash_analysis.specs.Learning.{IsLearned}
@@ -24,6 +23,7 @@ AllMetBy xs clauses = All (λ c. met xs c.literals.items ≡ true) clauses
 pub record IsStep (clauses : List WordClause) (old new : Work) : Type 0 where
   pub ready : IsReady new
   pub start : new.start.items ≡ old.start.items
+  pub room : length new.trail.items ≡ length old.trail.items
   pub below : KeepsBelow old new
   pub weight : weight_of new ≤ weight_of old
   pub right : (want : List ℕ → Bool) (pairs : List Pair) → AreMetIn clauses want → IsRight want pairs old → IsRight want pairs new

@@ -1,9 +1,8 @@
 -- What always holds of a search's buffers, and how they change.
-use Rattle.std.specs.Prelude.{◌≡◌, ◌≢◌, ℕ, ◌+◌, ◌<◌, ◌≤◌, ◌++◌, [], ◌∷◌, Bool, true, false, List, length, slice_index, slice_set, bit_and, take}
+use Rattle.std.specs.Prelude.{◌≡◌, ℕ, ◌+◌, ◌<◌, ◌≤◌, ◌++◌, [], ◌∷◌, Bool, true, false, List, length, slice_index, slice_set, bit_and, take}
 use Rattle.cca_base.specs.Sets.{has}
 use Rattle.cca_base.specs.declared.cube.Pair.{Pair}
 use Rattle.cca_base.specs.declared.limits.TheConstants.{MAX_CHOICES}
-use Rattle.clash_analysis.specs.declared.entry.Entry.{Entry}
 use Rattle.clash_analysis.specs.declared.entry.Why.{Why}
 use Rattle.clash_analysis.specs.declared.subjects.TheConstants.{SET_SUBJECTS}
 use Rattle.clash_analysis.specs.Trails.{IsTrail}

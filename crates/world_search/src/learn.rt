@@ -1,6 +1,6 @@
 //! What comes of a clash: a lower level on which a learned clause narrows a subject, or subjects to blame.
 
-ghost use Rattle.std.specs.Prelude.{◌≡◌, ℕ, Bool, ◌<◌, List, IsNone, IfSome};
+ghost use Rattle.std.specs.Prelude.{◌≡◌, ℕ, Bool, ◌<◌, List, length, IsNone, IfSome};
 ghost use Rattle.cca_base.specs.declared.cube.Pair.{Pair};
 ghost use Rattle.clash_analysis.specs.Clashes.{NoneHas};
 ghost use Rattle.clash_analysis.specs.Subjects.{is_in};
@@ -15,6 +15,7 @@ pub fn learn_further(work: &mut Work) -> Option<SubjectSet>
     requires clash { (want : List ℕ → Bool) × (pairs : List Pair) × IsClashed want pairs work.old }
     ensures shape { IsShaped work.new }
     ensures start { work.new.start.items ≡ work.old.start.items }
+    ensures room { length work.new.trail.items ≡ length work.old.trail.items }
     ensures ready { IsNone result → IsReady work.new }
     ensures clear { IsNone result → IsClear work.new }
     ensures below { IsNone result → KeepsBelow work.old work.new }

@@ -36,7 +36,12 @@ fn step(rules: &Rules, work: &mut Work, world: &[u8], trial: &mut [u8]) -> Step
 }
 
 /// Searches for a world of what is left. None comes where one is found; else no world has the pairs of the subjects that come.
-pub fn search_world(rules: &Rules, work: &mut Work, world: &[u8], trial: &mut [u8]) -> Option<SubjectSet>
+pub fn search_world(
+    rules: &Rules,
+    work: &mut Work,
+    world: &[u8],
+    trial: &mut [u8],
+) -> Option<SubjectSet>
     requires ready { IsReady work.old }
     requires inside { All (IsClauseInside (length work.old.dom.items)) rules.now.clauses.items }
     requires clear { IsClear work.old }
@@ -46,6 +51,7 @@ pub fn search_world(rules: &Rules, work: &mut Work, world: &[u8], trial: &mut [u
     requires right { (pairs : List Pair) × IsRight (λ _. false) pairs work.old }
     ensures shape { IsShaped work.new }
     ensures start { work.new.start.items ≡ work.old.start.items }
+    ensures room { length work.new.trail.items ≡ length work.old.trail.items }
     ensures long { length trial.new ≡ length trial.old }
     ensures left { IsNone result → AreOf work.old.dom.items trial.new }
     ensures met { IsNone result → AllMetBy trial.new rules.now.clauses.items }

@@ -82,12 +82,7 @@ pub fn visit_clause(literals: &[WordLiteral], work: &mut Work) -> bool
     let left = work.dom[literal.subject as usize];
     if left & !literal.values != 0 {
         let because = others(literals, place, work.dom.len());
-        narrow(
-            work,
-            literal.subject,
-            literal.values,
-            Why::Because(because),
-        );
+        narrow(work, literal.subject, literal.values, Why::Because(because));
     }
     false
 }

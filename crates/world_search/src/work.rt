@@ -80,6 +80,7 @@ pub fn try_value(work: &mut Work, subject: u16, value: u8)
     ensures ready { IsReady work.new }
     ensures start { work.new.start.items ≡ work.old.start.items }
     ensures learn { work.new.learn.items ≡ work.old.learn.items }
+    ensures room { length work.new.trail.items ≡ length work.old.trail.items }
     ensures below { KeepsBelow work.old work.new }
     ensures weight { weight_of work.new < weight_of work.old }
     ensures right { (want : List ℕ → Bool) (pairs : List Pair) → IsRight want pairs work.old → IsRight want pairs work.new }

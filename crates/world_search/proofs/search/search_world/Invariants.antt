@@ -11,6 +11,7 @@ invariant-rounds l = record {
   ready : IsReady l.work;
   clear : IsClear l.work;
   start : l.work.start.items ≡ l.fn.work.start.items;
+  room : length l.work.trail.items ≡ length l.fn.work.trail.items;
   below : KeepsBelow l.fn.work l.work;
   dom : length l.work.dom.items ≡ length l.fn.work.dom.items;
   long : length l.trial ≡ length l.fn.trial;

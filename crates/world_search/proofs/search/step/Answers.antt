@@ -1,7 +1,5 @@
-use Rattle.std.proofs.Common.{true, false, subst}
+use Rattle.std.proofs.Common.{subst}
 use Rattle.world_search.specs.Choices.{IsOutcome, IsStep}
-use Rattle.world_search.specs.Followed.{IsFollowed}
-use Rattle.world_search.specs.Words.{AreMetIn}
 use Rattle.world_search.proofs.StepLaws.{followed_step, outcome_then, step_then}
 use Rattle.world_search.proofs.search.step.Goals as goal
 

@@ -1,4 +1,4 @@
-use Rattle.std.proofs.Common.{◌≢◌, ◌<◌, length, get_or, slice_index, bit_and, refl, ap, subst, sym, ◌∙◌, arith}
+use Rattle.std.proofs.Common.{◌≢◌, get_or, slice_index, bit_and, refl, subst, arith}
 use Rattle.std.proofs.lemmas.List.{get_or_default}
 use Rattle.world_search.specs.declared.words.WordLiteral.{WordLiteral}
 use Rattle.world_search.proofs.ClauseLaws.{none_common, out_more}

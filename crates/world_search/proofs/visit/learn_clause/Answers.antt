@@ -1,5 +1,4 @@
-use Rattle.std.proofs.Common.{◌<◌, ◌∷◌, ◌++◌, [], length, get_or, take, set, slice_index, bit_or, bit_and, ap, subst, sym, ◌∙◌, arith, length-set}
-use Rattle.std.proofs.lemmas.List.{take_more}
+use Rattle.std.proofs.Common.{◌<◌, get_or, take, set, slice_index, bit_or, bit_and, subst, sym, ◌∙◌, length-set}
 use Rattle.clash_analysis.specs.Learning.{IsClauseOf}
 use Rattle.world_search.specs.declared.words.WordLiteral.{WordLiteral}
 use Rattle.world_search.specs.Words.{literal_of, literals_of}

@@ -1,4 +1,4 @@
-use Rattle.std.proofs.Common.{◌≡◌, ℕ, ◌<◌, take, length, slice_index}
+use Rattle.std.proofs.Common.{◌≡◌, take, length}
 use Rattle.clash_analysis.specs.Learning.{IsClauseOf}
 use Rattle.world_search.specs.Words.{literals_of}
 use Rattle.world_search.proofs.visit.learn_clause.Given as goal

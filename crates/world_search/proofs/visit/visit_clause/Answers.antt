@@ -1,8 +1,7 @@
-use Rattle.std.proofs.Common.{◌≡◌, ◌≢◌, ◌<◌, ℕ, ◌-◌, ◌^◌, Bool, List, length, get_or, slice_index, bit_and, refl, ap, subst, sym, ◌∙◌, arith, rules}
+use Rattle.std.proofs.Common.{◌≡◌, ◌≢◌, ◌<◌, ℕ, ◌-◌, length, get_or, slice_index, bit_and, refl, ap, subst, sym, ◌∙◌, arith}
 use Rattle.std.specs.Prelude.{All}
 use Rattle.std.proofs.lemmas.Bool.{false≢true}
 use Rattle.std.proofs.lemmas.List.{get_or_read}
-use Rattle.cca_base.specs.declared.cube.Pair.{Pair}
 use Rattle.clash_analysis.specs.Laws.{Passes}
 use Rattle.clash_analysis.specs.Subjects.{is_in}
 use Rattle.clash_analysis.specs.Trails.{AreApart}
@@ -48,7 +47,7 @@ returns-then-place-literals-clause-followed c =
       clear = λ e. absurd (false≢true (sym e));
       clash = λ found want holds all. subst (λ l. IsLearned (Passes want) l × AreApart old.dom.items l) (sym is)
           (clause_clash old.start.items old.dom.items c.learn_clause.new.learn words (subst (λ n. All (λ (w : WordLiteral). w.subject < n) words) shape.dom c.requires.inside)
-            (subst (λ s. IsClauseOf s (literals_of words) c.learn_clause.new.learn) c.deref-then-place-literals.ensures.value c.learn_clause.ensures.clause) out want holds all);
+          (subst (λ s. IsClauseOf s (literals_of words) c.learn_clause.new.learn) c.deref-then-place-literals.ensures.value c.learn_clause.ensures.clause) out want holds all);
     }
 
 pub returns-then-left-literal-ne0-clause-followed : goal.returns-then-left-literal-ne0-clause-followed

@@ -1,5 +1,4 @@
-use Rattle.std.proofs.Common.{length, set, ap, subst, sym}
-use Rattle.clash_analysis.specs.Levels.{AreLevels}
+use Rattle.std.proofs.Common.{length, ap}
 use Rattle.world_search.proofs.PutLaws.{entry_of, levels_put}
 use Rattle.world_search.proofs.WorkLaws.{ready_put, right_put, room_here}
 use Rattle.world_search.proofs.work.narrow.Goals as goal
@@ -13,7 +12,7 @@ returns-clause-ready c =
     let room = room_here old old c.args.subject c.args.kept c.args.why c.requires.ready c.requires.subject c.requires.some c.requires.more in
     ready_put old c.put.new.work c.args.subject c.args.kept c.args.why c.requires.ready c.requires.subject c.requires.some c.requires.more c.put.ensures.put (ap length c.put.ensures.levels.marks)
     (rw (c.put.ensures.levels.marks, c.put.ensures.levels.levels)
-      (levels_put old.trail.items old.long (entry_of old.dom.items c.args.subject c.args.kept c.args.why) room old.marks.items old.levels c.requires.ready.levels c.requires.why.plain c.requires.why.derived))
+    (levels_put old.trail.items old.long (entry_of old.dom.items c.args.subject c.args.kept c.args.why) room old.marks.items old.levels c.requires.ready.levels c.requires.why.plain c.requires.why.derived))
 
 pub returns-clause-right : goal.returns-clause-right
 returns-clause-right c = right_put c.args.work.now c.put.new.work c.args.subject c.args.kept c.args.why c.requires.ready c.requires.subject c.requires.some c.requires.more c.put.ensures.put

@@ -1,12 +1,9 @@
-use Rattle.std.proofs.Common.{◌≡◌, ◌<◌, ◌+◌, ◌*◌, ◌%◌, ◌^◌, ◌∷◌, [], length, set, take, slice_index, ap, subst, sym, ◌∙◌, arith}
+use Rattle.std.proofs.Common.{◌*◌, ◌%◌, ◌^◌, length, slice_index, ap, ◌∙◌, arith}
 use Rattle.std.proofs.lemmas.List.{length-set, take-set-le}
 use Rattle.clash_analysis.specs.declared.entry.Why.TheVariants.{Chosen}
-use Rattle.clash_analysis.specs.Levels.{AreLevels}
-use Rattle.world_search.specs.Works.{HasMore, IsPut, ShareSome}
-use Rattle.world_search.specs.declared.work.Work.{Work}
+use Rattle.world_search.specs.Works.{HasMore, ShareSome}
 use Rattle.world_search.proofs.PutLaws.{entry_of, levels_tried}
 use Rattle.world_search.proofs.WorkLaws.{mark_room, marks_tried, one_has, one_none, ready_put, right_put, room_here, weight_tried}
-use Rattle.world_search.proofs.work.try_value.Given as given
 use Rattle.world_search.proofs.work.try_value.Goals as goal
 
 pub put-requires-clause-room : goal.put-requires-clause-room
@@ -21,7 +18,7 @@ index_mut-requires c =
     let old = c.args.work.now in
     let value = c.args.value in
     let room = room_here old old c.args.subject (1 * 2 ^ value % 2 ^ 64) Chosen c.requires.ready c.requires.subject (value, c.requires.has, one_has value c.requires.small)
-        (c.requires.other.0, c.requires.other.2, one_none value c.requires.other.0 c.requires.small c.requires.other.1) in
+    (c.requires.other.0, c.requires.other.2, one_none value c.requires.other.0 c.requires.small c.requires.other.1) in
     omega (arith, mark_room old c.requires.ready room, ap length c.put.ensures.levels.marks)
 
 pub returns-clause-ready : goal.returns-clause-ready
