@@ -68,3 +68,7 @@ module _ (want : List ℕ → Bool) where
   -- nor with nothing left of a set
   pub none_empty : (base : List ℕ) (v : ℕ) → v < length base → slice_index base v ≡ 0 → AllWithin (Passes want) base → NonePasses want
   none_empty base v h empty all xs is = both_ways (has 0 (slice_index xs v)) (has-empty (slice_index xs v)) (ap (λ s. has s (slice_index xs v)) (sym empty) ∙ all xs is v h)
+
+-- a set with a value isn't empty
+pub some_ne : (sets : List ℕ) (v : ℕ) → (a : ℕ) × (has (slice_index sets v) a ≡ true) → slice_index sets v ≡ 0 → ⊥
+some_ne sets v one none = both_ways (has 0 one.0) (has-empty one.0) (ap (λ s. has s one.0) (sym none) ∙ one.1)

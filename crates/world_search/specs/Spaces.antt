@@ -8,6 +8,7 @@ use Rattle.clause_form.specs.declared.clause.Clauses.{Clauses}
 use Rattle.world_search.specs.declared.rules.Rules.{Rules}
 use Rattle.world_search.specs.declared.work.Work.{Work}
 use Rattle.world_search.specs.declared.space.Space.TheInside.{Inside}
+use Rattle.world_search.specs.Mended.{HasRoom}
 use Rattle.world_search.specs.Settled.{AreWithinSets}
 use Rattle.world_search.specs.Words.{IsClauseInside, MeanSame}
 use Rattle.world_search.specs.Works.{IsRoomy, IsShaped}
@@ -38,6 +39,7 @@ pub record IsSpace (s : Inside) : Type 0 where
   pub sizes : AreInSizes s.clauses.sizes s.base.items
   pub world : length s.world.items ≡ length s.clauses.sizes
   pub trial : length s.trial.items ≡ length s.clauses.sizes
+  pub mending : HasRoom (length s.clauses.sizes) s.mending
   pub stuck : s.stuck ≡ true → (xs : List ℕ) → IsWorld s.clauses.clauses s.base.items xs → ⊥
   pub roomy : s.stuck ≡ false → IsRoomy s.work
   pub begun : s.stuck ≡ false → IsBegun s.clauses.clauses s.base.items s.work.start.items

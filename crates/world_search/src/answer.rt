@@ -7,11 +7,13 @@ ghost use Rattle.clash_analysis.specs.Laws.{Passes};
 ghost use Rattle.clash_analysis.specs.Subjects.{is_in};
 ghost use Rattle.clash_analysis.specs.Trails.{AllWithin};
 ghost use Rattle.world_search.specs.Assumed.{AreAsked, IsLost};
+ghost use Rattle.world_search.specs.Mended.{HasRoom};
 ghost use Rattle.world_search.specs.Words.{IsClauseInside};
 ghost use Rattle.world_search.specs.Works.{IsReady, IsRight, IsRoomy, IsShaped};
 ghost use Rattle.world_search.specs.Worlds.{IsAnswerOn};
 
 use crate::assume::assume_all;
+use crate::mend::{Mending, mend};
 use crate::restart::restart_at;
 use crate::rules::Rules;
 use crate::search::search_world;
@@ -57,6 +59,7 @@ pub fn answer_on(
     work: &mut Work,
     world: &mut [u8],
     trial: &mut [u8],
+    mending: &mut Mending,
     pairs: &[Pair],
 ) -> Answer
     requires shape { IsShaped work.old }
@@ -64,14 +67,20 @@ pub fn answer_on(
     requires inside { All (IsClauseInside (length work.old.start.items)) rules.now.clauses.items }
     requires world { length world.old ≡ length work.old.start.items }
     requires trial { length trial.old ≡ length work.old.start.items }
+    requires mending { HasRoom (length work.old.start.items) mending.old }
     requires asked { AreAsked (length work.old.start.items) pairs.now }
     ensures shape { IsShaped work.new }
     ensures start { work.new.start.items ≡ work.old.start.items }
     ensures room { length work.new.trail.items ≡ length work.old.trail.items }
     ensures world { length world.new ≡ length world.old }
     ensures trial { length trial.new ≡ length trial.old }
+    ensures mending { HasRoom (length work.old.start.items) mending.new }
     ensures answer { IsAnswerOn rules.now.clauses.items work.old.start.items world.new pairs.now result }
 {
+    if mend(rules, &work.start, world, trial, mending, pairs) {
+        world.copy_from_slice(trial);
+        return Answer::Agrees;
+    }
     restart_at(work);
     if let Some(pair) = assume_all(work, pairs) {
         return Answer::Clash(blame_pair(work, pair));

@@ -26,7 +26,7 @@ pub enum Step {
 }
 
 /// The least value of the set.
-fn least(set: u64) -> u8
+pub fn least(set: u64) -> u8
     requires { set ≢ 0 }
     ensures small { result < MAX_CHOICES }
     ensures has { has set result ≡ true }
@@ -52,7 +52,7 @@ pub fn wish(dom: &[u64], world: &[u8], trial: &mut [u8])
 }
 
 /// The place of the first clause that is false of the values.
-fn broken(clauses: &[WordClause], trial: &[u8]) -> Option<usize>
+pub fn broken(clauses: &[WordClause], trial: &[u8]) -> Option<usize>
     requires { All (IsClauseInside (length trial.now)) clauses.now }
     ensures none { IsNone result → AllMetBy trial.now clauses.now }
     ensures inside { IfSome result (λ k. k < length clauses.now) }

@@ -5,6 +5,7 @@ mod answer;
 mod assume;
 mod choose;
 mod learn;
+mod mend;
 mod propagate;
 mod restart;
 mod room;

@@ -15,6 +15,8 @@ pub struct Rules {
     pub clauses: Vec<WordClause>,
     /// For each subject the places of the clauses that name it, as an index for speed.
     pub places: Vec<Vec<usize>>,
+    /// How many subjects, from the first, are tried before all others.
+    pub preferred: usize,
 }
 
 fn add_place(
@@ -47,7 +49,12 @@ fn places_of(
 }
 
 /// The clauses with words for sets, and their index. The error is out of memory.
-pub fn rules_of(alloc: Global, clauses: &[Clause], subjects: usize) -> Result<Rules, AllocError>
+pub fn rules_of(
+    alloc: Global,
+    clauses: &[Clause],
+    subjects: usize,
+    preferred: usize,
+) -> Result<Rules, AllocError>
     requires { AllBelow subjects clauses.now }
     ensures inside { IfOk result (λ r. All (IsClauseInside subjects) r.clauses.items) }
     ensures same { IfOk result (λ r. AllZip (λ c w. MeanSame c.literals w) clauses.now r.clauses.items) }
@@ -57,5 +64,6 @@ pub fn rules_of(alloc: Global, clauses: &[Clause], subjects: usize) -> Result<Ru
     Ok(Rules {
         clauses: words,
         places,
+        preferred,
     })
 }

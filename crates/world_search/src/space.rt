@@ -9,6 +9,7 @@ ghost use Rattle.world_search.specs.Spaces.{AreInSizes};
 ghost use Rattle.world_search.specs.Worlds.{IsAnswer};
 
 use crate::answer::{Answer, answer_on};
+use crate::mend::Mending;
 use crate::restart::begin_with;
 use crate::room::{room_for, work_of};
 use crate::rules::{Rules, rules_of};
@@ -32,6 +33,7 @@ pub struct Space {
     /// The world that was found last, or any values.
     world: Vec<u8>,
     trial: Vec<u8>,
+    mending: Mending,
     /// Whether it is known that there is no world.
     stuck: bool,
 }
@@ -49,8 +51,9 @@ impl Model for Space {
 }
 
 impl Space {
-    /// A workspace for the clauses, where each subject may be any of its values. The error is out of memory.
-    pub fn of(alloc: Global, clauses: Clauses) -> Result<Space, AllocError>
+    /// A workspace for the clauses, where each subject may be any of its values. The first subjects, so many of them, are tried before all
+    /// others. The error is out of memory.
+    pub fn of(alloc: Global, clauses: Clauses, preferred: usize) -> Result<Space, AllocError>
         requires few { length clauses.sizes ≤ SET_SUBJECTS }
         requires below { AreClauses clauses }
         ensures clauses { IfOk result (λ s. s.clauses ≡ clauses) }
@@ -58,11 +61,16 @@ impl Space {
         ensures base { IfOk result (λ s. (v a : ℕ) → has (slice_index s.base v) a ≡ nat_lt a (slice_index clauses.sizes v)) }
     {
         let room = room_for(&clauses.sizes);
-        let rules = rules_of(alloc, clauses.clauses.as_slice(), room.subjects)?;
+        let rules = rules_of(alloc, clauses.clauses.as_slice(), room.subjects, preferred)?;
         let base = whole_sets(alloc, &clauses.sizes)?;
         let mut work = work_of(alloc, &room)?;
         let world = vec![in alloc; 0; room.subjects]?;
         let trial = vec![in alloc; 0; room.subjects]?;
+        let mending = Mending {
+            fixed: vec![in alloc; false; room.subjects]?,
+            queue: vec![in alloc; 0; room.subjects]?,
+            end: 0,
+        };
         let stuck = begin_with(&rules, &mut work, &base);
         Ok(Space {
             clauses,
@@ -71,6 +79,7 @@ impl Space {
             work,
             world,
             trial,
+            mending,
             stuck,
         })
     }
@@ -101,6 +110,7 @@ impl Space {
             &mut self.work,
             &mut self.world,
             &mut self.trial,
+            &mut self.mending,
             pairs,
         )
     }

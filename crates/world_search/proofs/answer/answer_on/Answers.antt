@@ -25,6 +25,12 @@ returns-in-Some-search_world-clause-answer c want holds all =
     c.in-Some-search_world.ensures.blamed want c.args.pairs.now holds (subst (AllWithin (Passes want)) (sym (c.assume_all.ensures.moved.longer.start ∙ c.restart_at.ensures.start)) all)
     (c.assume_all.ensures.right want (c.restart_at.ensures.right want c.args.pairs.now))
 
+pub returns-then-mend-clause-answer : goal.returns-then-mend-clause-answer
+returns-then-mend-clause-answer c =
+    let fit = c.mend.ensures.fit c.if-mend.true in
+    subst (λ w. AreOf c.args.work.now.start.items w × AllMetBy w c.args.rules.now.clauses.items × HasAll c.args.pairs.now w) (sym c.copy_from_slice.ensures.after)
+    (subst (λ s. AreOf s c.mend.new.trial) c.deref.ensures.value fit.left, fit.met, fit.pairs_held)
+
 pub returns-clause-answer : goal.returns-clause-answer
 returns-clause-answer c =
     let old = c.args.work.now in
@@ -37,7 +43,7 @@ returns-clause-answer c =
     (within_before begun asked pairs t (c.assume_all.ensures.right none t) c.assume_all.ensures.moved.longer.start c.restart_at.ensures.levels (moved_below begun asked c.assume_all.ensures.moved) v a is) in
     let same : length asked.dom.items ≡ length old.start.items = dom_same begun asked c.restart_at.ensures.ready c.assume_all.ensures.ready c.assume_all.ensures.moved.longer.start ∙ ap length c.restart_at.ensures.dom in
     let left = c.in_default-search_world.ensures.left refl in
-    subst (λ w. AreOf old.start.items w × AllMetBy w c.args.rules.now.clauses.items × HasAll pairs w) (sym c.copy_from_slice.ensures.after) (
+    subst (λ w. AreOf old.start.items w × AllMetBy w c.args.rules.now.clauses.items × HasAll pairs w) (sym c.copy_from_slice-2.ensures.after) (
       λ v h. fewer v (slice_index c.search_world.new.trial v) (left v (subst (λ n. v < n) (sym same) h)),
       c.in_default-search_world.ensures.met refl,
       λ p among.

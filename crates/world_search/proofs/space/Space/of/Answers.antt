@@ -45,6 +45,10 @@ invariant_of-result c =
       sizes = low;
       world = sym c.in_ok-world.world.ok.0 ∙ c.in_ok-world.ensures.len ∙ c.room_for-room.ensures.subjects;
       trial = sym c.in_ok-trial.trial.ok.0 ∙ c.in_ok-trial.ensures.len ∙ c.room_for-room.ensures.subjects;
+      mending = record {
+        marks = sym c.in_ok-vec.field-0.ok.0 ∙ c.in_ok-vec.ensures.len ∙ c.room_for-room.ensures.subjects;
+        room = sym c.in_ok-vec-2.field-0.ok.0 ∙ c.in_ok-vec-2.ensures.len ∙ c.room_for-room.ensures.subjects;
+      };
       stuck = λ is. stuck_space clauses words same c.deref.result.now base start c.deref.ensures.value small (after.stuck is);
       roomy = after.roomy;
       begun = λ is. begun_space clauses words same c.deref.result.now base start c.deref.ensures.value small (after.within is) (after.all is);

@@ -47,7 +47,14 @@ invariant_of-self c =
       sizes = sizes;
       world = inv.world;
       trial = inv.trial;
+      mending = inv.mending;
       stuck = λ is. stuck_space s.clauses.clauses s.rules.clauses.items inv.built.same c.deref.result.now (with_items s.base c.put_words.new.words).items c.begin_with-self-inside.new.work.start.items c.deref.ensures.value small (after.stuck is);
       roomy = after.roomy;
       begun = λ is. begun (after.within is) (after.all is);
     }
+
+pub put_words-requires-clause-small : goal.put_words-requires-clause-small
+put_words-requires-clause-small c =
+    let s = c.self.inside in
+    let same : c.args.self.now.clauses.sizes ≡ s.clauses.sizes = ap (λ (x : Setting). x.clauses.sizes) (sym c.self.view_is) in
+    small_in_sizes s.clauses.sizes c.args.sets.now c.self.invariant.built.few (subst (λ n. AreInSizes n c.args.sets.now) same c.requires.sizes)
