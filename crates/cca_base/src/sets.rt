@@ -68,6 +68,13 @@ impl ValueSet {
         ValueSet { bits: ones as u64 }
     }
 
+    /// The set as a word, whose bits say which numbers are in it.
+    pub fn bits(self) -> u64
+        ensures { result ≡ self }
+    {
+        self.bits
+    }
+
     /// Whether nothing is in the set.
     pub fn is_empty(self) -> bool
         ensures { result ≡ (self == 0) }
