@@ -9,5 +9,4 @@ pub mod StepLaws
 pub mod SettleLaws
 pub mod SizeLaws
 pub mod WorldLaws
-pub mod SeenLaws
 pub mod SpaceLaws

@@ -1,13 +1,13 @@
 -- The room that subjects of given sizes need.
-use Rattle.std.proofs.Common.{◌≡◌, inl, inr, ℕ, zero, suc, ◌+◌, ◌-◌, ◌<◌, ◌≤◌, Bool, true, false, cond, List, [], ◌∷◌, length, slice_index, arith}
+use Rattle.std.proofs.Common.{◌≡◌, inl, inr, ℕ, zero, suc, ◌+◌, ◌-◌, ◌<◌, ◌≤◌, Bool, true, false, cond, List, [], ◌∷◌, length, slice_index, replicate, sym, ap, ◌∙◌, arith}
 use Rattle.std.specs.Prelude.{sum_by}
-use Rattle.std.proofs.lemmas.Bool.{cases_lt, false_from_ne_true}
-use Rattle.std.specs.Prelude.{All}
-use Rattle.std.proofs.lemmas.List.{get_or_past}
+use Rattle.std.proofs.lemmas.Bool.{both_ways, cases_lt, false_from_ne_true}
+use Rattle.std.proofs.lemmas.List.{get_or_past, get_or-replicate, length-replicate}
 use Rattle.std.proofs.lemmas.List.Sums.{sum_by-cons}
 use Rattle.cca_base.specs.Sets.{has}
-use Rattle.cca_base.specs.declared.limits.TheConstants.{MAX_CHOICES}
+use Rattle.cca_base.proofs.SetLaws.{has-empty}
 use Rattle.clash_analysis.specs.Ends.{count_all, count_in}
+use Rattle.world_search.specs.Spaces.{AreInSizes}
 
 one_at_most : (b : Bool) → cond b 1 0 ≤ 1
 one_at_most true = omega arith
@@ -34,9 +34,11 @@ room_below width (n ∷ sizes) [] long low = absurd (omega (arith, long))
 room_below width (n ∷ sizes) (s ∷ sets) long low =
     omega (arith, sum_by-cons (λ (n : ℕ). n - 1) n sizes, count_below width s n (low 0), room_below width sizes sets (omega (arith, long)) (λ v a. low (suc v) a))
 
--- values of subjects are small
-pub small_in_sizes : (sizes sets : List ℕ) → All (λ n. n ≤ MAX_CHOICES) sizes → ((v a : ℕ) → has (slice_index sets v) a ≡ true → a < slice_index sizes v) → (v a : ℕ) → has (slice_index sets v) a ≡ true → a < MAX_CHOICES
-small_in_sizes sizes sets few low v a is = elim (cases_lt v (length sizes)) [
-  | inl less ↦ omega (arith, low v a is, few v 0 less)
-  | inr past ↦ let none : slice_index sizes v ≡ 0 = get_or_past sizes v 0 past in absurd (omega (arith, low v a is, none))
-]
+-- sets with nothing in them
+pub none_in_sizes : (n : ℕ) (sizes sets : List ℕ) → sets ≡ replicate n 0 → AreInSizes sizes sets
+none_in_sizes n sizes sets same v a is = absurd (both_ways (has 0 a) (has-empty a) (ap (λ s. has s a) (sym (ap (λ l. slice_index l v) same ∙ empty)) ∙ is)) where
+  empty : slice_index (replicate n 0) v ≡ 0
+  empty = elim (cases_lt v n) [
+    | inl less ↦ get_or-replicate n v 0 0 less
+    | inr past ↦ get_or_past (replicate n 0) v 0 (omega (arith, length-replicate {A = ℕ} n 0, past))
+  ]

@@ -16,7 +16,7 @@ use Rattle.world_search.specs.declared.answer.Answer.{Answer}
 use Rattle.world_search.specs.declared.answer.Answer.TheVariants.{Agrees, Clash}
 
 -- a value of its own set for each subject, with which every clause is true
-pub record IsWorld (clauses : List Clause) (base xs : List ℕ) : Type 0 where
+pub record IsSolution (clauses : List Clause) (base xs : List ℕ) : Type 0 where
   pub full : length xs ≡ length base
   pub within : (v : ℕ) → v < length base → has (slice_index base v) (slice_index xs v) ≡ true
   pub met : All (λ clause. meets xs clause ≡ true) clauses
@@ -27,8 +27,8 @@ HasAll pairs xs = (p : Pair) → Contains pairs p → slice_index xs p.item ≡ 
 
 -- the world at hand has all pairs; or no world has those that are of the set's subjects
 abbrev pub IsAnswer : List Clause → List ℕ → List ℕ → List Pair → Answer → Type 0
-IsAnswer clauses base world pairs Agrees = IsWorld clauses base world × HasAll pairs world
-IsAnswer clauses base world pairs (Clash set) = (xs : List ℕ) → IsWorld clauses base xs → HasPairs pairs (is_in set) xs → ⊥
+IsAnswer clauses base world pairs Agrees = IsSolution clauses base world × HasAll pairs world
+IsAnswer clauses base world pairs (Clash set) = (xs : List ℕ) → IsSolution clauses base xs → HasPairs pairs (is_in set) xs → ⊥
 
 -- the world at hand is of these sets, with all clauses of words true and all pairs; or no list that passes a test in whose worlds the clauses are true, and which is within the sets, has the pairs of the set's subjects
 abbrev pub IsAnswerOn : List WordClause → List ℕ → List ℕ → List Pair → Answer → Type 0

@@ -1,33 +1,20 @@
 //! Sets of values as words, for each subject.
 
-ghost use Rattle.std.specs.Prelude.{◌≡◌, ℕ, ◌<◌, true, length, nat_lt, slice_index, IfOk};
-ghost use Rattle.cca_base.specs.Sets.{has};
-ghost use Rattle.cca_base.specs.declared.limits.TheConstants.{MAX_CHOICES};
+ghost use Rattle.std.specs.Prelude.{◌≡◌, false, length};
 
-use crate::words::word_of;
 use cca_base::ValueSet;
-use clause_form::Sizes;
-use std::alloc::{AllocError, Global};
 
-/// Writes the sets as words.
-pub fn put_words(sets: &[ValueSet], words: &mut [u64])
+/// Writes the sets as words. False comes where these are what they were.
+pub fn put_words(sets: &[ValueSet], words: &mut [u64]) -> bool
     requires full { length sets.now ≡ length words.old }
-    requires small { (v a : ℕ) → has (slice_index sets.now v) a ≡ true → a < MAX_CHOICES }
-    ensures { words.new ≡ sets.now }
+    ensures value { words.new ≡ sets.now }
+    ensures same { result ≡ false → words.new ≡ words.old }
 {
+    let mut are_others = false;
     for v in 0..sets.len() {
-        words[v] = word_of(sets[v]);
+        let word = sets[v].bits();
+        are_others |= words[v] != word;
+        words[v] = word;
     }
-}
-
-/// All values of each subject. The error is out of memory.
-pub fn whole_sets(alloc: Global, sizes: &Sizes) -> Result<Vec<u64>, AllocError>
-    ensures full { IfOk result (λ r. length r.items ≡ length sizes.now) }
-    ensures values { IfOk result (λ r. (v a : ℕ) → has (slice_index r.items v) a ≡ nat_lt a (slice_index sizes.now v)) }
-{
-    let mut all = Vec::with_capacity(alloc, sizes.len())?;
-    for v in 0..sizes.len() {
-        all.push(word_of(ValueSet::full(sizes.get(v))))?;
-    }
-    Ok(all)
+    are_others
 }

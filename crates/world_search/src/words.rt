@@ -1,13 +1,12 @@
 //! Clauses whose sets of values are words of bits.
 
-ghost use Rattle.std.specs.Prelude.{◌≡◌, ℕ, ◌<◌, ◌≤◌, false, length, All, IfOk};
+ghost use Rattle.std.specs.Prelude.{◌≡◌, length, All, IfOk};
 ghost use Rattle.std.specs.List.{AllZip};
 ghost use Rattle.cca_base.specs.Sets.{has};
-ghost use Rattle.cca_base.specs.declared.limits.TheConstants.{MAX_CHOICES};
 ghost use Rattle.clause_form.specs.Clauses.{AllBelow, AreBelow};
-ghost use Rattle.world_search.specs.Words.{AreInside, IsClauseInside, IsWordOf, MeanSame, met};
+ghost use Rattle.world_search.specs.Words.{AreInside, IsClauseInside, MeanSame, met};
 
-use cca_base::{MAX_CHOICES, ValueSet};
+use cca_base::MAX_CHOICES;
 use clause_form::{Clause, Literal};
 use std::alloc::{AllocError, Global};
 
@@ -22,19 +21,6 @@ pub struct WordLiteral {
 #[derive(Drop)]
 pub struct WordClause {
     pub literals: Vec<WordLiteral>,
-}
-
-/// The set as a word.
-pub fn word_of(set: ValueSet) -> u64
-    ensures { IsWordOf set result }
-{
-    let mut word = 0u64;
-    for value in 0..MAX_CHOICES as u8 {
-        if set.has(value) {
-            word |= 1 << value;
-        }
-    }
-    word
 }
 
 /// Whether the value is in the word's set.
@@ -68,7 +54,7 @@ fn words_of(alloc: Global, literals: &[Literal], subjects: usize) -> Result<Word
     for literal in literals {
         words.push(WordLiteral {
             subject: literal.subject,
-            values: word_of(literal.values),
+            values: literal.values.bits(),
         })?;
     }
     Ok(WordClause { literals: words })
