@@ -8,9 +8,10 @@ use Rattle.cca_base.specs.declared.cube.Pair.{Pair}
 use Rattle.cca_base.specs.Cube.{IsRising}
 use Rattle.cca_base.specs.Sets.{has}
 use Rattle.clause_form.specs.declared.clause.Clause.{Clause}
-use Rattle.consistency.specs.declared.subjects.SubjectSet.{SubjectSet}
-use Rattle.consistency.specs.Search.{IsSolution, AllHave, IsBackbone, IsVaried, AreVaried}
-use Rattle.consistency.specs.Subjects.{is_in}
+use Rattle.clash_analysis.specs.declared.subjects.SubjectSet.{SubjectSet}
+use Rattle.world_search.specs.Worlds.{IsSolution}
+use Rattle.consistency.specs.Search.{AllHave, IsBackbone, IsVaried, AreVaried}
+use Rattle.clash_analysis.specs.Subjects.{is_in}
 
 -- what differs from a solution at further subjects shows that these vary
 pub more_varied : (clauses : List Clause) (base : List ℕ) (old new : SubjectSet) (xs ys : List ℕ) → IsSolution clauses base xs → IsSolution clauses base ys → AreVaried clauses base old

@@ -23,7 +23,8 @@ use Rattle.clause_form.specs.Clauses.{AreValues, meets, all_met}
 use Rattle.clause_form.specs.Formulas.{AreClausesOf, is_denied}
 use Rattle.clause_form.proofs.ModelSizes.{both_values, state_values, counts_few, subjects_counted}
 use Rattle.consistency.specs.Base.{allows, ArePairs, IsBase}
-use Rattle.consistency.specs.Search.{IsSolution, AreMet}
+use Rattle.world_search.specs.Assumed.{AreAsked}
+use Rattle.world_search.specs.Worlds.{IsSolution}
 use Rattle.consistency.specs.Found.{FitsSeen, FitsAndDenies}
 
 sizes_few : (m : PlantModel) (sizes : List ℕ) → sizes ≡ mode_counts m ++ value_counts m → WellFormed m → All (λ n. n ≤ MAX_CHOICES) sizes
@@ -42,6 +43,15 @@ mode_pairs m sizes modes s good h =
     let most : slice_index sizes p.item ≤ MAX_CHOICES = sizes_few m sizes s good p.item 0 (omega (arith, here)) in
     (here, omega (arith, k, most, count)))
     modes h
+
+zero_plus : (n : ℕ) → 0 + n ≡ n
+zero_plus n = omega arith
+
+-- so a question may have them
+pub asked_modes : (m : PlantModel) (sizes : List ℕ) (modes : List Pair) → sizes ≡ mode_counts m ++ value_counts m → WellFormed m → All (λ p. HasMode m p.item p.value) modes → AreAsked (length sizes) modes
+asked_modes m sizes modes s good h =
+    All-weaker (λ (p : Pair). (0 + p.item < length sizes) × (p.value < MAX_CHOICES)) (λ (p : Pair). (p.item < length sizes) × (p.value < MAX_CHOICES)) (λ p k. (subst (λ (n : ℕ). n < length sizes) (zero_plus p.item) k.0, k.1)) modes
+    (mode_pairs m sizes modes s good h)
 
 -- what is seen is of subjects behind the components
 pub seen_pairs : (m : PlantModel) (sizes : List ℕ) (components : ℕ) (seen : List Pair) → sizes ≡ mode_counts m ++ value_counts m → WellFormed m → components ≡ length m.components
@@ -77,7 +87,7 @@ allowed_pairs xs first pairs d h =
     (λ p k e. sym (eqb-true p.value (slice_index xs d) (true_or (first + p.item == d) (p.value == slice_index xs d) k (eq-eqb (first + p.item) d e))))
     pairs (AllPass-from_list_all (λ p. not (first + p.item == d) || p.value == slice_index xs d) pairs h)
 
-pub pairs_allowed : (xs : List ℕ) (first : ℕ) (pairs : List Pair) (d : ℕ) → All (λ p. first + p.item ≡ d → slice_index xs d ≡ p.value) pairs → allows first pairs d (slice_index xs d) ≡ true
+pairs_allowed : (xs : List ℕ) (first : ℕ) (pairs : List Pair) (d : ℕ) → All (λ p. first + p.item ≡ d → slice_index xs d ≡ p.value) pairs → allows first pairs d (slice_index xs d) ≡ true
 pairs_allowed xs first pairs d h =
     list_all-from_AllPass (λ p. not (first + p.item == d) || p.value == slice_index xs d) pairs
     (All-weaker (λ p. first + p.item ≡ d → slice_index xs d ≡ p.value) (λ p. (not (first + p.item == d) || p.value == slice_index xs d) ≡ true)
@@ -211,37 +221,26 @@ module _ (m : PlantModel) (modes seen : List Pair) (denied : Option Formula) (c 
   all_values state world = subst (λ sizes. AreValues sizes xs) (sym of.sizes) (both_values (mode_counts m) (value_counts m) s w (state_values m s state) (world_values m s w world))
 
   -- values with which the rules are true meet the clauses
-  pub world_met : IsState m s → IsWorld m s w → is_denied s w denied ≡ true → AreMet c.clauses (length base) xs
+  world_met : IsState m s → IsWorld m s w → is_denied s w denied ≡ true → All (λ clause. meets xs clause ≡ true) c.clauses
   world_met state world denies =
-      let values = all_values state world in
-      record {
-        full = values.full ∙ sym b.full;
-        small = λ d k.
-            (let k' : d < length c.sizes = subst (λ j. d < j) b.full k in
-            let most = b.few d 0 k' in
-            let less = values.values d k' in
-            omega (arith, most, less));
-        met = AllPass-from_list_all (meets xs) c.clauses
-            (asked (state_values m s state) (world_values m s w world) ∙ and_from _ _ (list_all-from_AllPass (truth s w) m.rules world.rules) denies);
-      }
+      AllPass-from_list_all (meets xs) c.clauses
+      (asked (state_values m s state) (world_values m s w world) ∙ and_from _ _ (list_all-from_AllPass (truth s w) m.rules world.rules) denies)
 
   -- a value that all pairs allow is in the set
-  pub allowed_in : IsState m s → IsWorld m s w → (d : ℕ) → d < length base → allows 0 modes d (slice_index xs d) ≡ true → allows (length m.components) seen d (slice_index xs d) ≡ true → has (slice_index base d) (slice_index xs d) ≡ true
+  allowed_in : IsState m s → IsWorld m s w → (d : ℕ) → d < length base → allows 0 modes d (slice_index xs d) ≡ true → allows (length m.components) seen d (slice_index xs d) ≡ true → has (slice_index base d) (slice_index xs d) ≡ true
   allowed_in state world d k by_modes by_seen =
       let k' : d < length c.sizes = subst (λ j. d < j) b.full k in
       b.values d (slice_index xs d) k' ∙ and_from _ _ (and_from _ _ (lt-ltb (slice_index xs d) (slice_index c.sizes d) ((all_values state world).values d k')) by_modes) by_seen
 
-  pub seen_allowed : Extends w seen → (d : ℕ) → allows (length m.components) seen d (slice_index xs d) ≡ true
+  seen_allowed : Extends w seen → (d : ℕ) → allows (length m.components) seen d (slice_index xs d) ≡ true
   seen_allowed h d = pairs_allowed xs (length m.components) seen d (kept_seen h d)
 
   pub fits_solution : FitsAndDenies m modes seen denied s w → IsSolution c.clauses base xs
-  fits_solution h =
-      let met = world_met h.fits.state h.fits.world h.denies in
-      record {
-        full = met.full;
-        within = λ d k. allowed_in h.fits.state h.fits.world d k (pairs_allowed xs 0 modes d (kept_modes h.fits.extends d)) (seen_allowed h.fits.agrees d);
-        met = met.met;
-      }
+  fits_solution h = record {
+    full = (all_values h.fits.state h.fits.world).full ∙ sym b.full;
+    within = λ d k. allowed_in h.fits.state h.fits.world d k (pairs_allowed xs 0 modes d (kept_modes h.fits.extends d)) (seen_allowed h.fits.agrees d);
+    met = world_met h.fits.state h.fits.world h.denies;
+  }
 
 -- a solution's parts are a state and a world that fit
 pub parts_fit : (m : PlantModel) (modes seen : List Pair) (c : Clauses) (base : List ℕ) → AreClausesOf m None None c → IsBase c.sizes (length m.components) modes seen base

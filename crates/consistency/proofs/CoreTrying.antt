@@ -8,9 +8,9 @@ use Rattle.cca_base.specs.declared.cube.Pair.{Pair}
 use Rattle.cca_base.specs.PlantModel.{PlantModel}
 use Rattle.cca_base.specs.Model.{HasMode}
 use Rattle.cca_base.specs.Shown.{Clash}
-use Rattle.consistency.specs.declared.subjects.SubjectSet.{SubjectSet}
+use Rattle.clash_analysis.specs.declared.subjects.SubjectSet.{SubjectSet}
 use Rattle.consistency.specs.Cores.{IsCore, pairs_in}
-use Rattle.consistency.specs.Subjects.{is_in}
+use Rattle.clash_analysis.specs.Subjects.{is_in}
 use Rattle.consistency.proofs.MinimalConflict.{more_clash}
 use Rattle.cca_base.proofs.Trying.{IsTrying, next, trying_dropped, trying_kept}
 

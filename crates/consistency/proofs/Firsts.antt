@@ -9,7 +9,8 @@ use Rattle.cca_base.specs.State.{HasValue}
 use Rattle.clause_form.specs.declared.clause.Clauses.{Clauses}
 use Rattle.clause_form.specs.Formulas.{AreClausesOf}
 use Rattle.consistency.specs.Base.{IsBase}
-use Rattle.consistency.specs.Search.{IsSolution, IsFirst}
+use Rattle.world_search.specs.Worlds.{IsSolution}
+use Rattle.consistency.specs.Search.{IsFirst}
 use Rattle.consistency.specs.Found.{FitsAndDenies, IsFirstOf}
 use Rattle.clause_form.proofs.ModelSizes.{subjects_counted}
 use Rattle.consistency.proofs.Bridge.{solution_fits, fits_solution}

@@ -16,7 +16,8 @@ use Rattle.clause_form.specs.declared.clause.Clauses.{Clauses}
 use Rattle.clause_form.specs.Formulas.{AreClausesOf}
 use Rattle.consistency.specs.Base.{IsBase}
 use Rattle.consistency.specs.Forced.{AreForced}
-use Rattle.consistency.specs.Search.{IsSolution, AllHave, IsBackbone}
+use Rattle.world_search.specs.Worlds.{IsSolution}
+use Rattle.consistency.specs.Search.{AllHave, IsBackbone}
 use Rattle.clause_form.proofs.ModelSizes.{subjects_counted}
 use Rattle.consistency.proofs.Bridge.{parts_fit, fits_solution, at_value}
 use Rattle.cca_base.proofs.StatePairs.{extends_own, pairs_have_modes}

@@ -11,10 +11,10 @@ use Rattle.cca_base.specs.Cube.{IsCube, IsPart, Lacks}
 use Rattle.cca_base.specs.Repairs.{pairs_of}
 use Rattle.cca_base.specs.Shown.{Clash}
 use Rattle.cca_base.proofs.CubeLaws.{IsCube-push, both_cube}
-use Rattle.consistency.specs.declared.subjects.SubjectSet.{SubjectSet}
+use Rattle.clash_analysis.specs.declared.subjects.SubjectSet.{SubjectSet}
 use Rattle.consistency.specs.Conflict.{without, IsMinimalClash}
 use Rattle.consistency.specs.Cores.{IsCore, pairs_in}
-use Rattle.consistency.specs.Subjects.{is_in}
+use Rattle.clash_analysis.specs.Subjects.{is_in}
 use Rattle.consistency.proofs.MinimalConflict.{more_clash}
 use Rattle.cca_base.proofs.Trying.{lacks_at, without_one}
 

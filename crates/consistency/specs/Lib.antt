@@ -1,9 +1,6 @@
-pub mod Subjects
 pub mod Search
-pub mod Path
-pub mod Bounds
-pub mod Problem
-pub mod Space
+pub mod Lowest
+pub mod Spaces
 pub mod Found
 pub mod Base
 pub mod Conflict

@@ -1,13 +1,10 @@
 //! What each subject may be, where components have given modes and variables given values.
 
 ghost use Rattle.std.specs.Prelude.{◌≡◌, ◌&&◌, ◌++◌, ℕ, ◌<◌, ◌≤◌, nat_lt, length, slice_index, All};
-ghost use Rattle.cca_base.specs.Prelude.{has, mode_counts, value_counts, HasMode, HasValue};
+ghost use Rattle.cca_base.specs.Prelude.{has, mode_counts, value_counts, HasMode, HasValue, WellFormed};
 ghost use Rattle.cca_base.specs.declared.limits.TheConstants.{MAX_CHOICES};
-ghost use Rattle.clause_form.specs.Clauses.{AreClauses};
-ghost use Rattle.consistency.specs.Problem.{IsProblem, clauses_in};
 ghost use Rattle.consistency.specs.Base.{allows, ArePairs, IsBase};
 
-use crate::problem::Problem;
 use cca_base::{Model, Pair, ValueSet};
 use clause_form::Sizes;
 
@@ -51,19 +48,18 @@ fn base_of(sizes: &Sizes, components: usize, modes: &[Pair], seen: &[Pair], base
 /// Writes the values that each subject of the model may have, where components have these modes and variables these values.
 pub fn model_base(
     model: &Model,
-    problem: &Problem,
+    sizes: &Sizes,
     modes: &[Pair],
     seen: &[Pair],
     base: &mut [ValueSet],
 )
-    requires sizes { problem.now.sizes ≡ mode_counts model.now ++ value_counts model.now }
-    requires clauses { AreClauses (clauses_in problem.now) }
-    requires full { length base.old ≡ length problem.now.sizes }
+    requires sizes { sizes.now ≡ mode_counts model.now ++ value_counts model.now }
+    requires full { length base.old ≡ length sizes.now }
     requires modes { All (λ p. HasMode model.now p.item p.value) modes.now }
     requires seen { All (λ p. HasValue model.now p.item p.value) seen.now }
-    ensures base { IsBase problem.now.sizes (length model.now.components) modes.now seen.now base.new }
-    ensures proper { IsProblem problem.now.clauses base.new }
+    ensures base { IsBase sizes.now (length model.now.components) modes.now seen.now base.new }
+    ensures well_formed { WellFormed model.now }
 {
     let components = model.components().len();
-    base_of(&problem.sizes, components, modes, seen, base);
+    base_of(sizes, components, modes, seen, base);
 }

@@ -1,63 +1,43 @@
 //! The pairs of a state that are to blame that no world of it agrees with what is seen, by deletion: each pair is tried
-//! once, in component order. A search with the pairs as assumptions names those that had to do with a clash, its core, so
-//! that only pairs of cores cost a search.
+//! once, in component order. A question names the components that had to do with a clash, its core, so that only pairs of
+//! cores cost a question.
 
 ghost use Rattle.std.specs.Prelude.{◌≡◌, [], ◌++◌, ◌↔◌, length, All, IfOk, IfSome, IsNone};
 ghost use Rattle.cca_base.specs.Prelude.{pairs_of, CanShow, HasMode, HasValue, IsConflict, IsCube, IsState, KeepsOfClash};
 ghost use Rattle.consistency.specs.Cores.{IsCore, IsShowable};
-ghost use Rattle.consistency.specs.Space.{HasRoom};
+ghost use Rattle.consistency.specs.Spaces.{IsWorldSpace};
 
-use crate::base::model_base;
-use crate::bounds::bounds;
-use crate::guess::is_guessed;
+use crate::asking::ask;
 use crate::pairs::{all_pairs, joined};
 use crate::rules::Rules;
-use crate::search::solve;
-use crate::space::Space;
-use crate::subjects::{SubjectSet, has_subject};
+use crate::world_space::WorldSpace;
 use crate::worlds::Worlds;
 use cca_base::{Cube, Model, Pair, Seen, State};
+use clash_analysis::{SubjectSet, has_subject};
 use std::alloc::{AllocError, Global};
+use world_search::Answer;
 
-/// The subjects that are to blame that no state which extends the modes has a world that agrees with what is seen. None
+/// The components that are to blame that no state which extends the modes has a world that agrees with what is seen. None
 /// comes where some state has one.
-fn core_of(
-    rules: &Rules,
-    modes: &Cube,
-    seen: &Seen,
-    space: &mut Space,
-) -> Result<Option<SubjectSet>, AllocError>
+fn core_of(rules: &Rules, modes: &Cube, seen: &Seen, space: &mut WorldSpace) -> Option<SubjectSet>
     requires modes { All (λ p. HasMode rules.now.model.now p.item p.value) modes.now }
     requires seen { All (λ p. HasValue rules.now.model.now p.item p.value) seen.now.pairs }
-    requires room { HasRoom (length rules.now.worlds.now.sizes) space.old }
-    ensures some { IfOk result (λ o.
-        IfSome o (IsCore rules.now.model.now seen.now.pairs modes.now)) }
-    ensures none { IfOk result (λ o.
-        IsNone o → IsShowable rules.now.model.now seen.now.pairs modes.now) }
-    ensures room { HasRoom (length rules.now.worlds.now.sizes) space.new }
+    requires space { IsWorldSpace rules.now.worlds.now space.old }
+    ensures some { IfSome result (IsCore rules.now.model.now seen.now.pairs modes.now) }
+    ensures none { IsNone result → IsShowable rules.now.model.now seen.now.pairs modes.now }
+    ensures space { IsWorldSpace rules.now.worlds.now space.new }
 {
     let worlds = rules.worlds;
-    let problem = &worlds.rules;
-    let pairs = modes.as_slice();
-    model_base(
+    match ask(
         rules.model,
-        problem,
-        pairs,
+        &worlds.problem,
+        modes.as_slice(),
         seen.pairs.as_slice(),
-        &mut space.base,
-    );
-    bounds(problem, &space.base, &mut space.sets);
-    if is_guessed(
-        problem,
-        &space.base,
-        &mut space.sets,
-        &[],
-        &mut space.values,
+        space,
     ) {
-        return Ok(None);
+        Answer::Agrees => None,
+        Answer::Clash(blamed) => Some(blamed),
     }
-    space.make_domains(rules.alloc)?;
-    Ok(solve(problem, &space.base, &mut space.domains, &mut space.values))
 }
 
 /// The same of the modes that were kept with those that are still to be tried.
@@ -66,21 +46,21 @@ pub fn core_left(
     kept: &Cube,
     behind: &[Pair],
     seen: &Seen,
-    space: &mut Space,
+    space: &mut WorldSpace,
 ) -> Result<Option<SubjectSet>, AllocError>
     requires cube { IsCube (kept.now ++ behind.now) }
     requires modes { All (λ p. HasMode rules.now.model.now p.item p.value)
         (kept.now ++ behind.now) }
     requires seen { All (λ p. HasValue rules.now.model.now p.item p.value) seen.now.pairs }
-    requires room { HasRoom (length rules.now.worlds.now.sizes) space.old }
+    requires space { IsWorldSpace rules.now.worlds.now space.old }
     ensures some { IfOk result (λ o.
         IfSome o (IsCore rules.now.model.now seen.now.pairs (kept.now ++ behind.now))) }
     ensures none { IfOk result (λ o.
         IsNone o → IsShowable rules.now.model.now seen.now.pairs (kept.now ++ behind.now)) }
-    ensures room { HasRoom (length rules.now.worlds.now.sizes) space.new }
+    ensures space { IsWorldSpace rules.now.worlds.now space.new }
 {
     let others = joined(rules.alloc, kept, behind)?;
-    core_of(rules, &others, seen, space)
+    Ok(core_of(rules, &others, seen, space))
 }
 
 /// The pairs of a state, with subjects among them that are to blame that no world of it agrees with what is seen.
@@ -95,20 +75,20 @@ pub fn blame_of(
     rules: &Rules,
     state: &State,
     seen: &Seen,
-    space: &mut Space,
+    space: &mut WorldSpace,
 ) -> Result<Option<Blamed>, AllocError>
     requires state { IsState rules.now.model.now state.now.modes }
     requires seen { All (λ p. HasValue rules.now.model.now p.item p.value) seen.now.pairs }
-    requires room { HasRoom (length rules.now.worlds.now.sizes) space.old }
+    requires space { IsWorldSpace rules.now.worlds.now space.old }
     ensures pairs { IfOk result (λ o. IfSome o (λ b. b.pairs ≡ pairs_of state.now.modes)) }
     ensures core { IfOk result (λ o. IfSome o (λ b.
         IsCore rules.now.model.now seen.now.pairs b.pairs b.core)) }
     ensures none { IfOk result (λ o.
         IsNone o ↔ CanShow rules.now.model.now state.now.modes seen.now.pairs) }
-    ensures room { HasRoom (length rules.now.worlds.now.sizes) space.new }
+    ensures space { IsWorldSpace rules.now.worlds.now space.new }
 {
     let pairs = all_pairs(rules.alloc, rules.model, state)?;
-    match core_of(rules, &pairs, seen, space)? {
+    match core_of(rules, &pairs, seen, space) {
         Some(core) => Ok(Some(Blamed { pairs, core })),
         None => Ok(None),
     }
@@ -121,12 +101,12 @@ fn kept_of(
     pairs: &Cube,
     seen: &Seen,
     core: SubjectSet,
-    space: &mut Space,
+    space: &mut WorldSpace,
 ) -> Result<Cube, AllocError>
     requires pairs { All (λ p. HasMode rules.now.model.now p.item p.value) pairs.now }
     requires seen { All (λ p. HasValue rules.now.model.now p.item p.value) seen.now.pairs }
     requires core { IsCore rules.now.model.now seen.now.pairs pairs.now core }
-    requires room { HasRoom (length rules.now.worlds.now.sizes) space.old }
+    requires space { IsWorldSpace rules.now.worlds.now space.old }
     ensures { IfOk result (KeepsOfClash rules.now.model.now seen.now.pairs [] pairs.now) }
 {
     let mut kept = Cube::new(rules.alloc);
@@ -164,7 +144,7 @@ pub fn conflict(
         model,
         worlds: &worlds,
     };
-    let mut space = Space::of(alloc, model)?;
+    let mut space = worlds.space(alloc)?;
     match blame_of(&rules, state, seen, &mut space)? {
         Some(blamed) => {
             let kept = kept_of(&rules, &blamed.pairs, seen, blamed.core, &mut space)?;

@@ -3,12 +3,11 @@
 ghost use Rattle.std.specs.Prelude.{◌≡◌, ◌++◌, length, IfOk, OnOk, IsTrue, None, Some};
 ghost use Rattle.cca_base.specs.Prelude.{is_within};
 ghost use Rattle.clause_form.specs.Formulas.{AreClausesOf};
-ghost use Rattle.consistency.specs.Problem.{clauses_in};
 
-use crate::problem::{Problem, problem_of};
 use cca_base::{Formula, List, Model};
 use clause_form::{Clause, Clauses, denied_clauses};
 use std::alloc::{AllocError, Global};
+use world_search::Problem;
 
 /// Puts a copy of the rules' clauses behind the others.
 fn add_copies(alloc: Global, rules: &[Clause], clauses: &mut List<Clause>) -> Result<(), AllocError>
@@ -28,12 +27,12 @@ pub fn denied_problem(
     rules: &Problem,
     formula: &Formula,
 ) -> Result<Problem, AllocError>
-    requires rules { AreClausesOf model.now None None (clauses_in rules.now) }
+    requires rules { AreClausesOf model.now None None rules.now }
     requires formula { IsTrue (is_within (length model.now.components) (length model.now.variables)
         formula.now) }
-    ensures { IfOk result (λ p. AreClausesOf model.now None (Some formula.now) (clauses_in p)) }
+    ensures { IfOk result (λ p. AreClausesOf model.now None (Some formula.now) p) }
 {
     let Clauses { sizes, mut clauses } = denied_clauses(alloc, model, formula)?;
-    add_copies(alloc, rules.clauses.as_slice(), &mut clauses)?;
-    problem_of(alloc, Clauses { sizes, clauses })
+    add_copies(alloc, rules.clauses().clauses.as_slice(), &mut clauses)?;
+    Problem::of(alloc, Clauses { sizes, clauses }, model.components().len())
 }

@@ -2,35 +2,26 @@
 //! that no world fits it. A caller gets None exactly where there is none.
 #![tactic(auto)]
 
+mod asking;
 mod backbone;
 mod base;
-mod bounds;
 mod calls;
+mod clash;
 mod conflicts;
 mod denied;
-mod domain;
+mod first;
 mod follows;
+mod forced_values;
 mod found;
-mod guess;
 mod laws;
-mod least;
 mod minimal;
 mod mirror;
 mod observed;
-mod other;
 mod pairs;
-mod problem;
-mod propagate;
 mod refuted;
-mod retract;
 mod rules;
-mod search;
-mod solution;
-mod space;
 mod standing;
-mod subjects;
-mod turn;
-mod visit;
+mod world_space;
 mod worlds;
 
 pub use calls::{find_counter, find_world, forced};
@@ -42,4 +33,5 @@ pub use observed::union;
 pub use pairs::all_pairs;
 pub use rules::{Rules, rules_of};
 pub use standing::stand_in;
+pub use world_space::WorldSpace;
 pub use worlds::Worlds;

@@ -5,15 +5,15 @@ ghost use Rattle.std.specs.Prelude.{◌≡◌, ◌↔◌, ℕ, List, length, All
 ghost use Rattle.cca_base.specs.Prelude.{pairs_of, CanShow, Clash, HasMode, HasValue, IsCube, IsPart, IsState};
 ghost use Rattle.consistency.specs.Conflict.{IsMinimalClash};
 ghost use Rattle.consistency.specs.Cores.{pairs_in};
-ghost use Rattle.consistency.specs.Space.{HasRoom};
+ghost use Rattle.consistency.specs.Spaces.{IsWorldSpace};
 ghost use Rattle.consistency.specs.Worlds.{AreWorldsOf};
 
 use crate::conflicts::{blame_of, core_left};
 use crate::rules::Rules;
-use crate::space::Space;
-use crate::subjects::{SubjectSet, has_subject};
+use crate::world_space::WorldSpace;
 use crate::worlds::Worlds;
 use cca_base::{Cube, List, Model, Pair, Seen, State};
+use clash_analysis::{SubjectSet, has_subject};
 use std::alloc::{AllocError, Global};
 
 /// The pairs that are of these subjects.
@@ -29,18 +29,32 @@ fn pairs_in(alloc: Global, subjects: &SubjectSet, pairs: &[Pair]) -> Result<List
     Ok(among)
 }
 
+/// Those of the pairs that are of these subjects, as a cube.
+pub fn cube_in(alloc: Global, subjects: &SubjectSet, pairs: &[Pair]) -> Result<Cube, AllocError>
+    requires { IsCube pairs.now }
+    ensures { IfOk result (λ c. c ≡ pairs_in subjects.now pairs.now) }
+{
+    let mut among = Cube::new(alloc);
+    for pair in pairs {
+        if has_subject(subjects, pair.item) {
+            among.push(*pair)?;
+        }
+    }
+    Ok(among)
+}
+
 /// A minimal part of the pairs that clashes.
 fn minimal_part(
     rules: &Rules,
     pairs: List<Pair>,
     seen: &Seen,
-    space: &mut Space,
+    space: &mut WorldSpace,
 ) -> Result<Cube, AllocError>
     requires cube { IsCube pairs }
     requires modes { All (λ p. HasMode rules.now.model.now p.item p.value) pairs }
     requires seen { All (λ p. HasValue rules.now.model.now p.item p.value) seen.now.pairs }
     requires clash { Clash rules.now.model.now seen.now.pairs pairs }
-    requires room { HasRoom (length rules.now.worlds.now.sizes) space.old }
+    requires space { IsWorldSpace rules.now.worlds.now space.old }
     ensures { IfOk result (λ c. (s : List ℕ) → IsPart pairs (pairs_of s) →
         IsMinimalClash rules.now.model.now s seen.now.pairs c) }
 {
@@ -79,7 +93,7 @@ impl Worlds {
             model,
             worlds: self,
         };
-        let mut space = Space::of(alloc, model)?;
+        let mut space = self.space(alloc)?;
         let Some(blamed) = blame_of(&rules, state, seen, &mut space)? else {
             return Ok(None);
         };

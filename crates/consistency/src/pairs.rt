@@ -1,6 +1,7 @@
 //! The pairs of a state, and cubes put one behind the other.
 
-ghost use Rattle.std.specs.Prelude.{◌≡◌, ◌++◌, IfOk};
+ghost use Rattle.std.specs.Prelude.{◌≡◌, ◌++◌, ◌≤◌, length, take, IfOk};
+ghost use Rattle.cca_base.specs.declared.limits.TheConstants.{MAX_COMPONENTS};
 ghost use Rattle.cca_base.specs.Prelude.{pairs_of, IsCube, IsState};
 
 use cca_base::{Cube, Model, Pair, State};
@@ -29,4 +30,19 @@ pub fn joined(alloc: Global, front: &Cube, behind: &[Pair]) -> Result<Cube, Allo
         both.push(*pair)?;
     }
     Ok(both)
+}
+
+/// Writes each component with its mode, as the first pairs.
+pub fn put_pairs(modes: &[u8], pairs: &mut [Pair])
+    requires few { length modes.now ≤ MAX_COMPONENTS }
+    requires room { length modes.now ≤ length pairs.old }
+    ensures pairs { take (length modes.now) pairs.new ≡ pairs_of modes.now }
+    ensures long { length pairs.new ≡ length pairs.old }
+{
+    for item in 0..modes.len() {
+        pairs[item] = Pair {
+            item: item as u16,
+            value: modes[item],
+        };
+    }
 }

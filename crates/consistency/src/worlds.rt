@@ -5,34 +5,32 @@ ghost use Rattle.cca_base.specs.Prelude.{is_within, mode_counts, value_counts, F
 ghost use Rattle.cca_base.specs.declared.formula.Formula.{Formula};
 ghost use Rattle.clause_form.specs.Clauses.{AreClauses};
 ghost use Rattle.clause_form.specs.Formulas.{AreClausesOf};
-ghost use Rattle.consistency.specs.Problem.{clauses_in};
-ghost use Rattle.consistency.specs.Space.{HasRoom};
+ghost use Rattle.consistency.specs.Spaces.{IsWorldSpace};
 ghost use Rattle.consistency.specs.Found.{FitsSeen, Counters, FitsAndDenies, IsFirstFound};
 
-use crate::base::model_base;
+use crate::asking::see;
 use crate::denied::denied_problem;
+use crate::first::first_world;
 use crate::found::{Found, split};
-use crate::problem::{Problem, problem_of};
 use crate::rules::Rules;
-use crate::search::solve;
-use crate::space::Space;
+use crate::world_space::WorldSpace;
 use cca_base::{Cube, Formula, Model, Pair, Seen};
 use clause_form::clauses_of;
 use std::alloc::{AllocError, Global};
+use world_search::Problem;
 
 /// The clauses of a model's rules, for all questions of its worlds.
-#[derive(Debug, Drop)]
+#[derive(Drop)]
 pub struct Worlds {
-    pub(crate) rules: Problem,
+    pub(crate) problem: Problem,
 }
 
 impl std::marker::Model for Worlds {
     ghost use Rattle.clause_form.specs.declared.clause.Clauses.{Clauses};
-    ghost use Rattle.consistency.specs.Problem.{clauses_in};
 
     ghost Value = { Clauses };
 
-    ghost view = { λ w. clauses_in w.rules };
+    ghost view = { λ w. w.problem };
 }
 
 /// The first state and world that fit and have the denied formula false, if there is one.
@@ -42,23 +40,20 @@ fn first_found(
     problem: &Problem,
     modes: &[Pair],
     seen: &[Pair],
-    space: &mut Space,
 ) -> Result<Option<Found>, AllocError>
-    requires sizes { problem.now.sizes ≡ mode_counts model.now ++ value_counts model.now }
-    requires proper { AreClauses (clauses_in problem.now) }
+    requires of { (denied : Option Formula) × AreClausesOf model.now None denied problem.now }
     requires modes { All (λ p. HasMode model.now p.item p.value) modes.now }
     requires seen { All (λ p. HasValue model.now p.item p.value) seen.now }
-    requires room { HasRoom (length problem.now.sizes) space.old }
     ensures { (denied : Option Formula) →
-        AreClausesOf model.now None denied (clauses_in problem.now) →
+        AreClausesOf model.now None denied problem.now →
         IfOk result (IsFirstFound (FitsAndDenies model.now modes.now seen.now denied)) }
 {
+    let mut space = WorldSpace::of(alloc, problem)?;
+    see(model, problem, modes, seen, &mut space);
     let components = model.components().len();
-    model_base(model, problem, modes, seen, &mut space.base);
-    space.make_domains(alloc)?;
-    match solve(problem, &space.base, &mut space.domains, &mut space.values) {
-        None => Ok(Some(split(alloc, components, &space.values)?)),
-        Some(_because) => Ok(None),
+    match first_world(alloc, problem, &mut space.search)? {
+        Some(values) => Ok(Some(split(alloc, components, values.as_slice())?)),
+        None => Ok(None),
     }
 }
 
@@ -73,16 +68,8 @@ pub fn counter(rules: &Rules, modes: &Cube, formula: &Formula) -> Result<Option<
         IsNone o → Follows rules.now.model.now modes.now formula.now) }
 {
     let worlds = rules.worlds;
-    let problem = denied_problem(rules.alloc, rules.model, &worlds.rules, formula)?;
-    let mut space = Space::of(rules.alloc, rules.model)?;
-    first_found(
-        rules.alloc,
-        rules.model,
-        &problem,
-        modes.as_slice(),
-        &[],
-        &mut space,
-    )
+    let problem = denied_problem(rules.alloc, rules.model, &worlds.problem, formula)?;
+    first_found(rules.alloc, rules.model, &problem, modes.as_slice(), &[])
 }
 
 impl Worlds {
@@ -93,8 +80,8 @@ impl Worlds {
         ensures { IfOk result (AreWorldsOf model.now) }
     {
         let clauses = clauses_of(alloc, model, None, None)?;
-        let rules = problem_of(alloc, clauses)?;
-        Ok(Worlds { rules })
+        let problem = Problem::of(alloc, clauses, model.components().len())?;
+        Ok(Worlds { problem })
     }
 
     /// The first state in mode order that extends the modes and has a world that agrees with what is seen, with its
@@ -111,14 +98,12 @@ impl Worlds {
         requires seen { All (λ p. HasValue model.now p.item p.value) seen.now.pairs }
         ensures { IfOk result (IsFirstFound (FitsSeen model.now modes.now seen.now.pairs)) }
     {
-        let mut space = Space::of(alloc, model)?;
         first_found(
             alloc,
             model,
-            &self.rules,
+            &self.problem,
             modes.as_slice(),
             seen.pairs.as_slice(),
-            &mut space,
         )
     }
 }

@@ -1,12 +1,13 @@
-use Rattle.std.proofs.Common.{length}
+use Rattle.std.proofs.Common.{◌≡◌}
+use Rattle.world_search.specs.Spaces.{IsSpace, base_in}
 use Rattle.consistency.specs.Search.{AreVaried}
-use Rattle.consistency.specs.Space.{HasSpare}
 use Rattle.consistency.proofs.BackboneLaws.{IsBackboneTo}
 use Rattle.consistency.proofs.backbone.backbone.Given as goal
 
 abbrev pub invariant-loop-item : goal.invariant-loop-item
 invariant-loop-item l = record {
-  done : IsBackboneTo l.problem.clauses l.base l.components l.vars l.item l.pairs;
-  room : HasSpare (length l.base) l.spare;
-  varied : AreVaried l.problem.clauses l.base l.varied;
+  space : IsSpace l.problem l.space;
+  base : base_in l.space ≡ base_in l.fn.space;
+  done : IsBackboneTo l.problem.clauses (base_in l.fn.space) l.components l.vars l.item l.pairs;
+  varied : AreVaried l.problem.clauses (base_in l.fn.space) l.varied;
 }

@@ -1,5 +1,5 @@
 use Rattle.std.proofs.Common.{◌≡◌, ◌≢◌, ◌⊎◌, ℕ, true, slice_index}
-use Rattle.consistency.specs.Subjects.{is_in}
+use Rattle.clash_analysis.specs.Subjects.{is_in}
 use Rattle.consistency.proofs.backbone.with_differing.Given as goal
 
 abbrev pub invariant-loop-at : goal.invariant-loop-at

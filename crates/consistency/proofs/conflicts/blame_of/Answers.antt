@@ -12,10 +12,10 @@ core_of-requires-clause-modes c = rw c.in_ok-pairs.ensures (pairs_have_modes c.a
 pub returns-in-Some-clause-none : goal.returns-in-Some-clause-none
 returns-in-Some-clause-none c =
     let m = c.args.rules.now.model.now in
-    let core = rw c.in_ok-pairs.ensures at (rw c.in-Some.is at c.in_ok-core.ensures.some) in
+    let core = rw c.in_ok-pairs.ensures at (rw c.in-Some.is at c.core_of.ensures.some) in
     (λ e. absurd (both_ways true e refl), λ h. absurd (own_clash m c.args.state.now.modes c.args.seen.now.pairs c.requires.state (core_clash m c.args.seen.now.pairs (pairs_of c.args.state.now.modes) c.in-Some.core core) h))
 
 pub returns-in-None-clause-none : goal.returns-in-None-clause-none
 returns-in-None-clause-none c =
-    let shows = rw c.in_ok-pairs.ensures at (c.in_ok-core.ensures.none (ap is_some c.in-None.is)) in
+    let shows = rw c.in_ok-pairs.ensures at (c.core_of.ensures.none (ap is_some c.in-None.is)) in
     (λ e. own_shows c.args.rules.now.model.now c.args.state.now.modes c.args.seen.now.pairs c.requires.state shows, λ h. refl)

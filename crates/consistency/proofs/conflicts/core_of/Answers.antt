@@ -1,39 +1,23 @@
-use Rattle.std.proofs.Common.{◌≡◌, ◌∙◌, List, ℕ, sym, ap, subst, None, arith}
+use Rattle.std.proofs.Common.{List, None, refl, sym, subst}
 use Rattle.cca_base.specs.declared.cube.Pair.{Pair}
 use Rattle.clause_form.specs.Formulas.{AreClausesOf}
-use Rattle.consistency.specs.Base.{IsBase}
-use Rattle.consistency.specs.Problem.{clauses_in}
-use Rattle.consistency.specs.Search.{IsSolution, IsFirstOrClash}
-use Rattle.consistency.proofs.CoreOfClash.{blamed_core, none_shows, solution_shows}
-use Rattle.consistency.proofs.SearchFrom.{written}
+use Rattle.world_search.specs.declared.answer.Answer.TheVariants.{Agrees, Clash}
+use Rattle.consistency.specs.Cores.{IsFitting}
 use Rattle.consistency.proofs.conflicts.core_of.Goals as goal
 
-base_of : (sizes : List ℕ) (n : ℕ) (modes given seen shown : List Pair) (base : List ℕ) → given ≡ modes → shown ≡ seen → IsBase sizes n given shown base → IsBase sizes n modes seen base
-base_of sizes n modes given seen shown base same also is = subst (λ ps. IsBase sizes n ps seen base) same (subst (λ ps. IsBase sizes n given ps base) also is)
+pub returns-in-Agrees-clause-none : goal.returns-in-Agrees-clause-none
+returns-in-Agrees-clause-none c _ =
+    let m = c.args.rules.now.model.now in
+    let of = subst (AreClausesOf m None None) (sym c.worlds.view_is) c.args.rules.now.of in
+    let found = subst (λ (ps : List Pair). IsFitting m ps c.args.seen.now.pairs None Agrees) c.as_slice.ensures.pairs
+    (subst (λ (ps : List Pair). IsFitting m c.as_slice.result.now ps None Agrees) c.as_slice-2.ensures (c.in-Agrees.ensures.answer None of)) in
+    let fits = found.2.fits in
+    (found.0, fits.state, fits.extends, (found.1, fits.world, fits.agrees))
 
-pub returns-then-is_guessed-clause-none : goal.returns-then-is_guessed-clause-none
-returns-then-is_guessed-clause-none c e =
-    let rules = c.worlds.inside.rules in
-    let fresh : List ℕ = c.model_base.new.base in
-    let base = base_of _ _ _ _ _ _ _ c.as_slice-pairs.ensures.pairs c.as_slice.ensures c.model_base.ensures.base in
-    let asked : c.deref-2.result.now ≡ fresh = c.deref-2.ensures.value ∙ written _ fresh _ (omega (arith, c.deref_mut.ensures.len)) in
-    solution_shows c.args.rules.now.model.now c.args.modes.now c.args.seen.now.pairs (clauses_in rules) fresh (subst (AreClausesOf c.args.rules.now.model.now None None) (sym c.worlds.view_is) c.args.rules.now.of) base c.requires.modes c.requires.seen
-    c.is_guessed.new.values (subst (λ (b : List ℕ). IsSolution rules.clauses b c.is_guessed.new.values) asked (c.is_guessed.ensures c.if-is_guessed.true))
-
-pub returns-clause-some : goal.returns-clause-some
-returns-clause-some c =
-    let rules = c.worlds.inside.rules in
-    let fresh : List ℕ = c.model_base.new.base in
-    let base = base_of _ _ _ _ _ _ _ c.as_slice-pairs.ensures.pairs c.as_slice.ensures c.model_base.ensures.base in
-    let asked : c.deref-3.result.now ≡ fresh = c.deref-3.ensures.value ∙ (ap (λ v. v.items) c.in_ok-make_domains.ensures.base ∙ written _ fresh _ (omega (arith, c.deref_mut.ensures.len))) in
-    blamed_core c.args.rules.now.model.now c.args.modes.now c.args.seen.now.pairs (clauses_in rules) fresh (subst (AreClausesOf c.args.rules.now.model.now None None) (sym c.worlds.view_is) c.args.rules.now.of) base c.requires.modes c.requires.seen
-    c.solve.new.values c.solve.result (subst (λ (b : List ℕ). IsFirstOrClash rules.clauses b c.solve.new.values c.solve.result) asked c.solve.ensures)
-
-pub returns-clause-none : goal.returns-clause-none
-returns-clause-none c =
-    let rules = c.worlds.inside.rules in
-    let fresh : List ℕ = c.model_base.new.base in
-    let base = base_of _ _ _ _ _ _ _ c.as_slice-pairs.ensures.pairs c.as_slice.ensures c.model_base.ensures.base in
-    let asked : c.deref-3.result.now ≡ fresh = c.deref-3.ensures.value ∙ (ap (λ v. v.items) c.in_ok-make_domains.ensures.base ∙ written _ fresh _ (omega (arith, c.deref_mut.ensures.len))) in
-    none_shows c.args.rules.now.model.now c.args.modes.now c.args.seen.now.pairs (clauses_in rules) fresh (subst (AreClausesOf c.args.rules.now.model.now None None) (sym c.worlds.view_is) c.args.rules.now.of) base c.requires.modes c.requires.seen
-    c.solve.new.values c.solve.result (subst (λ (b : List ℕ). IsFirstOrClash rules.clauses b c.solve.new.values c.solve.result) asked c.solve.ensures)
+pub returns-in-Clash-clause-some : goal.returns-in-Clash-clause-some
+returns-in-Clash-clause-some c s state extends (w, world, agrees) =
+    let m = c.args.rules.now.model.now in
+    let of = subst (AreClausesOf m None None) (sym c.worlds.view_is) c.args.rules.now.of in
+    let none = subst (λ (ps : List Pair). IsFitting m ps c.args.seen.now.pairs None (Clash c.in-Clash.blamed)) c.as_slice.ensures.pairs
+    (subst (λ (ps : List Pair). IsFitting m c.as_slice.result.now ps None (Clash c.in-Clash.blamed)) c.as_slice-2.ensures (c.in-Clash.ensures.answer None of)) in
+    none s w (record { fits = record { state = state; extends = extends; world = world; agrees = agrees }; denies = refl })

@@ -4,7 +4,7 @@ use Rattle.cca_base.specs.declared.cube.Pair.{Pair}
 use Rattle.cca_base.specs.Cube.{IsCube}
 use Rattle.cca_base.specs.Model.{HasMode}
 use Rattle.consistency.specs.Cores.{IsCore, IsShowable}
-use Rattle.consistency.specs.Space.{HasRoom}
+use Rattle.consistency.specs.Spaces.{IsWorldSpace}
 use Rattle.cca_base.proofs.Trying.{trying_others, trying_lacks}
 use Rattle.consistency.proofs.CoreTrying.{outside_dropped, inside_dropped, inside_kept}
 use Rattle.consistency.proofs.Fitting.{showable_fits, read_here, rest_of}
@@ -59,7 +59,7 @@ loop-at-preserved c =
           let core = subst (λ o. IfSome o (IsCore m seen (kept ++ take (length w.as_slice.result.now - (at + 1)) (drop (at + 1) w.as_slice.result.now)))) w.in-Some.is w.in_ok-smaller.ensures.some in
           rw (w.kept-is, w.core-is) (record {
             trying = inside_dropped m seen pairs kept at c.loop-at.core p c.loop-at.invariant.trying within here w.in-Some.smaller (subst (λ ps. IsCore m seen (kept ++ ps) w.in-Some.smaller) rest core);
-            room = subst (HasRoom (length c.args.rules.now.worlds.now.sizes)) (sym w.space-is) w.in_ok-smaller.ensures.room;
+            space = subst (IsWorldSpace c.args.rules.now.worlds.now) (sym w.space-is) w.in_ok-smaller.ensures.space;
           })
       | then-has_subject+in_ok-smaller+in-None+in_ok-push-in-None w ↦
           let rest = rest_of pairs w.as_slice.result.now (at + 1) w.as_slice.ensures.pairs in
@@ -67,11 +67,11 @@ loop-at-preserved c =
           rw (w.kept-is, w.core-is, w.in_ok-push-in-None.ensures.ok) (record {
             trying = inside_kept m seen pairs kept at c.loop-at.core p c.loop-at.invariant.trying within here mode
                 (showable_fits m (kept ++ drop (at + 1) pairs) seen (subst (λ ps. IsShowable m seen (kept ++ ps)) rest (w.in_ok-smaller.ensures.none (ap is_some w.in-None.is))));
-            room = subst (HasRoom (length c.args.rules.now.worlds.now.sizes)) (sym w.space-is) w.in_ok-smaller.ensures.room;
+            space = subst (IsWorldSpace c.args.rules.now.worlds.now) (sym w.space-is) w.in_ok-smaller.ensures.space;
           })
       | else-has_subject w ↦
           rw (w.kept-is, w.core-is) (record {
             trying = outside_dropped m seen pairs kept at c.loop-at.core p c.loop-at.invariant.trying within here (sym c.has_subject.ensures ∙ w.if-has_subject.false);
-            room = subst (HasRoom (length c.args.rules.now.worlds.now.sizes)) (sym w.space-is) c.loop-at.invariant.room;
+            space = subst (IsWorldSpace c.args.rules.now.worlds.now) (sym w.space-is) c.loop-at.invariant.space;
           })
     ]

@@ -7,7 +7,7 @@ use Rattle.cca_base.specs.Model.{HasMode}
 use Rattle.std.proofs.lemmas.List.Elements.{All-contains}
 use Rattle.list_laws.proofs.Members.{all_from}
 use Rattle.consistency.specs.Cores.{IsCore, IsShowable, pairs_in}
-use Rattle.consistency.specs.Subjects.{is_in}
+use Rattle.clash_analysis.specs.Subjects.{is_in}
 use Rattle.consistency.proofs.Fitting.{showable_fits}
 use Rattle.consistency.proofs.Shrinking.{IsShrinking, none_kept, others_cube, others_among, last_lacks, left_out, one_kept, none_left}
 use Rattle.consistency.proofs.minimal.minimal_part.Goals as goal
@@ -15,7 +15,7 @@ use Rattle.consistency.proofs.minimal.minimal_part.Goals as goal
 pub leaving-init : goal.leaving-init
 leaving-init c = rw c.new-kept.ensures (record {
   shrinking = none_kept c.args.rules.now.model.now c.args.seen.now.pairs c.args.pairs c.requires.cube c.requires.clash;
-  room = c.requires.room;
+  space = c.requires.space;
 })
 
 pub core_left-requires-clause-cube : goal.core_left-requires-clause-cube
@@ -54,7 +54,7 @@ leaving-preserved-in-Some-2 c =
     let left : c.in_ok-left-in-Some-2.left ≡ pairs_in c.in-Some-2.core c.pop.new.self = c.in_ok-left-in-Some-2.ensures ∙ ap (pairs_in c.in-Some-2.core) c.as_slice-in-Some-2.ensures in
     record {
       shrinking = subst (IsShrinking m seen c.args.pairs kept) (sym left) (left_out m seen c.args.pairs kept c.pop.new.self c.in-Some.pair h c.in-Some-2.core core);
-      room = c.in_ok-core.ensures.room;
+      space = c.in_ok-core.ensures.space;
     }
 
 pub leaving-preserved : goal.leaving-preserved
@@ -67,7 +67,7 @@ leaving-preserved c =
     record {
       shrinking = subst (λ ps. IsShrinking m seen c.args.pairs ps c.pop.new.self) (sym c.in_ok-push-in-None.ensures.ok)
           (one_kept m seen c.args.pairs kept c.pop.new.self c.in-Some.pair h (showable_fits m (kept ++ c.pop.new.self) seen shows));
-      room = c.in_ok-core.ensures.room;
+      space = c.in_ok-core.ensures.space;
     }
 
 pub returns : goal.returns

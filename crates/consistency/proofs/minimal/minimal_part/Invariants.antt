@@ -1,12 +1,12 @@
 use Rattle.std.proofs.Common.{length}
-use Rattle.consistency.specs.Space.{HasRoom}
+use Rattle.consistency.specs.Spaces.{IsWorldSpace}
 use Rattle.consistency.proofs.Shrinking.{IsShrinking}
 use Rattle.consistency.proofs.minimal.minimal_part.Given as goal
 
 abbrev pub invariant-leaving : goal.invariant-leaving
 invariant-leaving l = record {
   shrinking : IsShrinking l.rules.model.now l.seen.pairs l.fn.pairs l.kept l.left;
-  room : HasRoom (length l.rules.worlds.now.sizes) l.space;
+  space : IsWorldSpace l.rules.worlds.now l.space;
 }
 
 abbrev pub decreases-leaving : goal.decreases-leaving

@@ -8,7 +8,7 @@ use Rattle.cca_base.specs.Model.{HasMode}
 use Rattle.cca_base.specs.Repairs.{pairs_of}
 use Rattle.cca_base.specs.Shown.{Clash}
 use Rattle.consistency.specs.Cores.{IsCore, pairs_in}
-use Rattle.consistency.specs.Subjects.{is_in}
+use Rattle.clash_analysis.specs.Subjects.{is_in}
 use Rattle.cca_base.proofs.StatePairs.{pairs_have_modes}
 use Rattle.consistency.proofs.worlds.Worlds.minimal_clash.Goals as goal
 

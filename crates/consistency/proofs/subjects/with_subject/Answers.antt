@@ -1,6 +1,0 @@
-use Rattle.std.proofs.Common.{arith}
-use Rattle.consistency.proofs.SubjectSetLaws.{with_in}
-use Rattle.consistency.proofs.subjects.with_subject.Goals as goal
-
-pub returns : goal.returns
-returns c = with_in c.args.set.now.words c.args.n (omega arith)

@@ -1,0 +1,51 @@
+//! Why no world of a state agrees with what is seen, as the estimates ask it: in memory that is made once for many questions.
+
+ghost use Rattle.std.specs.Prelude.{◌≡◌, ◌↔◌, All, IfOk, IfSome, IsNone};
+ghost use Rattle.cca_base.specs.Prelude.{CanShow, HasValue, IsState};
+ghost use Rattle.consistency.specs.Cores.{IsClashOf};
+ghost use Rattle.consistency.specs.Spaces.{IsWorldSpace};
+ghost use Rattle.consistency.specs.Worlds.{AreWorldsOf};
+
+use crate::asking::ask_state;
+use crate::minimal::cube_in;
+use crate::world_space::WorldSpace;
+use crate::worlds::Worlds;
+use cca_base::{Cube, Model, Seen, State};
+use std::alloc::{AllocError, Global};
+use world_search::Answer;
+
+impl Worlds {
+    /// Memory for questions of these worlds. The error is out of memory.
+    pub fn space(&self, alloc: Global) -> Result<WorldSpace, AllocError>
+        ensures { IfOk result (IsWorldSpace self.now) }
+    {
+        WorldSpace::of(alloc, &self.problem)
+    }
+
+    /// Why no world of the state agrees with what is seen: a part of its pairs that no state with such a world extends. None comes exactly where the
+    /// state has a world that agrees. The error is out of memory.
+    pub fn clash(
+        &self,
+        alloc: Global,
+        model: &Model,
+        state: &State,
+        seen: &Seen,
+        space: &mut WorldSpace,
+    ) -> Result<Option<Cube>, AllocError>
+        requires of { AreWorldsOf model.now self.now }
+        requires state { IsState model.now state.now.modes }
+        requires seen { All (λ p. HasValue model.now p.item p.value) seen.now.pairs }
+        requires space { IsWorldSpace self.now space.old }
+        ensures some { IfOk result (λ o. IfSome o (IsClashOf model.now state.now.modes seen.now.pairs)) }
+        ensures none { IfOk result (λ o. IsNone o ↔ CanShow model.now state.now.modes seen.now.pairs) }
+        ensures space { IsWorldSpace self.now space.new }
+    {
+        match ask_state(model, &self.problem, state, seen.pairs.as_slice(), space) {
+            Answer::Agrees => Ok(None),
+            Answer::Clash(blamed) => {
+                let pairs = &space.pairs.as_slice()[..state.modes.len()];
+                Ok(Some(cube_in(alloc, &blamed, pairs)?))
+            }
+        }
+    }
+}
