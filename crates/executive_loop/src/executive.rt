@@ -12,7 +12,7 @@ ghost use Rattle.executive_loop.specs.Parts.{IsExecutive, SeenAfter};
 use crate::events::change;
 use crate::tick::make_tick;
 use cca_base::{Compiled, Event, Goal, Seen, State, TickReport, VarSet};
-use consistency::{Mirror, Worlds};
+use consistency::{Mirror, WorldSpace, Worlds};
 use policy_tables::Tables;
 use std::alloc::{AllocError, Global};
 use std::marker::Model;
@@ -26,6 +26,8 @@ pub struct Executive {
     compiled: Rc<Compiled>,
     /// The clauses of the model's rules, made once for all ticks.
     worlds: Worlds,
+    /// Memory in which their worlds are sought, made once for all ticks.
+    space: WorldSpace,
     /// What the mirrored variables showed last, asked for again only after the plant has moved or others are mirrored.
     mirror: Mirror,
     standing: Standing,
@@ -36,6 +38,7 @@ pub struct Executive {
 impl Model for Executive {
     ghost use Rattle.std.specs.Option.{option_map};
     ghost use Rattle.consistency.specs.Observed.{IsMirror};
+    ghost use Rattle.consistency.specs.Spaces.{IsWorldSpace};
     ghost use Rattle.consistency.specs.Worlds.{AreWorldsOf};
     ghost use Rattle.executive_loop.specs.Parts.{ExecutiveParts, IsExecutive};
 
@@ -52,7 +55,7 @@ impl Model for Executive {
       tables = e.tables;
     } };
 
-    ghost invariant = { λ e. (AreWorldsOf e.compiled.value.model e.worlds × IsMirror e.compiled.value.model e.mirror) × IsExecutive (record {
+    ghost invariant = { λ e. (AreWorldsOf e.compiled.value.model e.worlds × IsWorldSpace e.worlds e.space × IsMirror e.compiled.value.model e.mirror) × IsExecutive (record {
       compiled = e.compiled.value;
       state = e.standing;
       last_seen = e.last_seen.pairs;
@@ -72,6 +75,7 @@ impl Executive {
             }) }
     {
         let worlds = Worlds::of(alloc, compiled.model())?;
+        let space = worlds.space(alloc)?;
         let mirror = Mirror::new();
         let standing = Standing::start(alloc, compiled.model(), 0)?;
         let compiled = Rc::new(alloc, compiled)?;
@@ -79,6 +83,7 @@ impl Executive {
             alloc,
             compiled,
             worlds,
+            space,
             mirror,
             standing,
             tables: None,
@@ -110,6 +115,7 @@ impl Executive {
                 self.alloc,
                 &self.compiled,
                 &self.worlds,
+                &mut self.space,
                 &mut self.mirror,
                 &mut self.standing,
                 &mut self.tables,

@@ -4,6 +4,7 @@ ghost use Rattle.std.specs.Prelude.{◌≡◌, ◌<◌, ◌+◌, ◌^◌, [], tr
 ghost use Rattle.std.specs.Option.{option_map};
 ghost use Rattle.cca_base.specs.Prelude.{IsState, Nominal, Promising, TickShows};
 ghost use Rattle.consistency.specs.Observed.{IsMirror};
+ghost use Rattle.consistency.specs.Spaces.{IsWorldSpace};
 ghost use Rattle.consistency.specs.Worlds.{AreWorldsOf};
 ghost use Rattle.trace_laws.specs.Fits.{Fits};
 ghost use Rattle.trace_laws.specs.Tables.{TablesShown};
@@ -14,7 +15,7 @@ ghost use Rattle.executive_loop.specs.Parts.{SeenAt};
 use crate::answer::reply_in;
 use crate::observed::observe;
 use cca_base::{Compiled, Seen, Shown, State, TickReport};
-use consistency::{Mirror, Worlds};
+use consistency::{Mirror, WorldSpace, Worlds};
 use mode_estimator::{Estimate, estimate_by};
 use policy_tables::Tables;
 use std::alloc::{AllocError, Global};
@@ -64,12 +65,14 @@ pub(crate) fn make_tick(
     alloc: Global,
     compiled: &Rc<Compiled>,
     worlds: &Worlds,
+    space: &mut WorldSpace,
     mirror: &mut Mirror,
     standing: &mut Standing,
     tables: &mut Option<Tables>,
     last_seen: &mut Seen,
 ) -> Result<TickReport, AllocError>
     requires worlds { AreWorldsOf compiled.now.value.model worlds.now }
+    requires space { IsWorldSpace worlds.now space.old }
     requires mirror { IsMirror compiled.now.value.model mirror.old }
     requires fits { Fits compiled.now.value standing.old }
     requires tables { IfSome tables.old (AreTablesOf compiled.now.value) }
@@ -83,6 +86,7 @@ pub(crate) fn make_tick(
     ensures covers { IfOk result (λ report.
         AreCoveringShown tables.new standing.new.estimate report.shown) }
     ensures tables { OnOk result (IfSome tables.new (AreTablesOf compiled.now.value)) }
+    ensures space { IsWorldSpace worlds.now space.new }
     ensures mirror { IsMirror compiled.now.value.model mirror.new }
     ensures seen { IfOk result (λ report.
         SeenAt compiled.now.value.model standing.old report.shown last_seen.new.pairs) }
@@ -107,6 +111,7 @@ pub(crate) fn make_tick(
         &standing.estimate,
         standing.command,
         &seen,
+        space,
     )? {
         Estimate::Found { state, cost } => {
             answer(alloc, compiled, standing, tables, state, cost)?

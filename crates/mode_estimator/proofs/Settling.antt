@@ -9,7 +9,7 @@ use Rattle.cca_base.specs.declared.choice.Choice.{Choice}
 use Rattle.cca_base.specs.Choices.{AreRows}
 use Rattle.cca_base.specs.Repairs.{pairs_of}
 use Rattle.cca_base.proofs.Members.{stands_in}
-use Rattle.consistency.specs.Conflict.{IsMinimalClash}
+use Rattle.consistency.specs.Cores.{IsClashOf}
 use Rattle.cost_search.specs.declared.costed.Costed.{Costed}
 use Rattle.cost_search.specs.declared.part.Part.{Part}
 use Rattle.cost_search.specs.Search.{IsPicked, IsUncut}
@@ -131,14 +131,14 @@ judged_again m rows seen limit p Was Is Settled f h = h
 judged_again m rows seen limit p Was Is (Splits at) f h = h
 judged_again m rows seen limit p Was Is First f h = (h.0, f h.1)
 
--- a state holds its conflict
-pub holds_clash : (m : PlantModel) (s : List ℕ) (seen cube : List Pair) → IsMinimalClash m s seen cube → Extends s cube
+-- a state holds a clash of it
+pub holds_clash : (m : PlantModel) (s : List ℕ) (seen cube : List Pair) → IsClashOf m s seen cube → Extends s cube
 holds_clash m s seen cube h = All-weaker (Contains (pairs_of s)) (λ p. slice_get s p.item ≡ Some p.value) (λ p among. stands_in s p among) cube h.part
 
 pub cut_holds : (s : List ℕ) (cuts : List (List Pair)) (cube : List Pair) → Extends s cube → IsUncut (cuts ++ cube ∷ []) s → ⊥
 cut_holds s cuts cube held uncut = uncut_at (cuts ++ cube ∷ []) cube s uncut (Contains-push cuts cube) held
 
--- with the conflict each cut is a clash
-pub grown_clashes : (m : PlantModel) (s : List ℕ) (seen : List Pair) (cuts : List (List Pair)) (cube : List Pair) → AreClashes m seen cuts → IsMinimalClash m s seen cube
+-- with one more clash each cut is a clash
+pub grown_clashes : (m : PlantModel) (s : List ℕ) (seen : List Pair) (cuts : List (List Pair)) (cube : List Pair) → AreClashes m seen cuts → IsClashOf m s seen cube
     → AreClashes m seen (cuts ++ cube ∷ [])
 grown_clashes m s seen cuts cube each found = All-push (Clash m seen) cuts cube each found.clash

@@ -1,8 +1,9 @@
 //! The estimate of a tick. The nominal state is the only one that costs nothing, so it is asked for first; where it doesn't
-//! explain what is seen, its conflict is the first cut.
+//! explain what is seen, a clash of it is the first cut.
 
 ghost use Rattle.std.specs.Prelude.{IfOk, All};
 ghost use Rattle.cca_base.specs.Prelude.{HasValue, IsState};
+ghost use Rattle.consistency.specs.Spaces.{IsWorldSpace};
 ghost use Rattle.consistency.specs.Worlds.{AreWorldsOf};
 ghost use Rattle.mode_estimator.specs.Estimated.{IsEstimate};
 
@@ -10,12 +11,12 @@ use crate::answer::Estimate;
 use crate::first::first_shown;
 use crate::query::Query;
 use cca_base::{Compiled, List, Seen, State};
-use consistency::{Rules, Worlds};
+use consistency::{Rules, WorldSpace, Worlds};
 use std::alloc::{AllocError, Global};
 use successors::{choices, obey};
 
 /// The state of least cost that has a world agreeing with what is seen, the first in mode order among equals, by the
-/// clauses of the model's rules, which are made once for many ticks. The error is out of memory.
+/// clauses of the model's rules and in memory for their worlds, both made once for many ticks. The error is out of memory.
 pub fn estimate_by(
     alloc: Global,
     compiled: &Compiled,
@@ -23,16 +24,19 @@ pub fn estimate_by(
     state: &State,
     command: Option<u16>,
     seen: &Seen,
+    space: &mut WorldSpace,
 ) -> Result<Estimate, AllocError>
     requires worlds { AreWorldsOf compiled.now.model worlds.now }
     requires state { IsState compiled.now.model state.now.modes }
     requires seen { All (λ p. HasValue compiled.now.model p.item p.value) seen.now.pairs }
-    ensures { IfOk result (IsEstimate compiled.now.model state.now.modes command seen.now.pairs) }
+    requires space { IsWorldSpace worlds.now space.old }
+    ensures estimate { IfOk result (IsEstimate compiled.now.model state.now.modes command seen.now.pairs) }
+    ensures space { IsWorldSpace worlds.now space.new }
 {
     let model = compiled.model();
     let mut nominal = state.copy(alloc)?;
     obey(compiled, &mut nominal, command);
-    let Some(conflict) = worlds.minimal_clash(alloc, model, &nominal, seen)? else {
+    let Some(clash) = worlds.clash(alloc, model, &nominal, seen, space)? else {
         return Ok(Estimate::Found {
             state: nominal,
             cost: 0,
@@ -40,7 +44,7 @@ pub fn estimate_by(
     };
     let rows = choices(alloc, compiled, state, command)?;
     let mut cuts = List::new(alloc);
-    cuts.push(conflict)?;
+    cuts.push(clash)?;
     let rules = Rules {
         alloc,
         model,
@@ -50,7 +54,7 @@ pub fn estimate_by(
         rules: &rules,
         seen,
     };
-    first_shown(&query, rows, cuts)
+    first_shown(&query, rows, cuts, space)
 }
 
 /// The same for one tick alone.
@@ -66,5 +70,6 @@ pub fn estimate(
     ensures { IfOk result (IsEstimate compiled.now.model state.now.modes command seen.now.pairs) }
 {
     let worlds = Worlds::of(alloc, compiled.model())?;
-    estimate_by(alloc, compiled, &worlds, state, command, seen)
+    let mut space = worlds.space(alloc)?;
+    estimate_by(alloc, compiled, &worlds, state, command, seen, &mut space)
 }

@@ -3,12 +3,14 @@
 
 ghost use Rattle.std.specs.Prelude.{◌≡◌, ◌<◌, length, All, IfOk, IfSome, IsNone, filter, nat_eq, nat_lt, slice_index, slice_set};
 ghost use Rattle.cca_base.specs.Prelude.{AreRows};
+ghost use Rattle.consistency.specs.Spaces.{IsWorldSpace};
 ghost use Rattle.mode_estimator.specs.First.{AreClashes, AreStates, IsLeastShown};
 ghost use Rattle.mode_estimator.specs.LeastModes.{IsLower, NoneLower, IsLowestAt, IsFirstOfCost, fixed_at};
 
 use crate::find::find;
 use crate::query::Query;
 use cca_base::{Choice, Cube, List, State};
+use consistency::WorldSpace;
 use cost_search::Costed;
 use std::alloc::{AllocError, Global};
 
@@ -47,6 +49,7 @@ fn lower_state(
     state: &State,
     cost: u64,
     c: usize,
+    space: &mut WorldSpace,
 ) -> Result<Option<State>, AllocError>
     requires rows { AreRows (slice_set rows.old c row.now) }
     requires states { AreStates query.now.rules.now.model.now (slice_set rows.old c row.now) }
@@ -54,6 +57,7 @@ fn lower_state(
     requires least { IsLeastShown query.now.rules.now.model.now (slice_set rows.old c row.now)
         query.now.seen.now.pairs state.now.modes cost }
     requires within { c < length rows.old }
+    requires space { IsWorldSpace query.now.rules.now.worlds.now space.old }
     ensures some { IfOk result (λ o. IfSome o (λ t.
         IsLower query.now.rules.now.model.now (slice_set rows.old c row.now) query.now.seen.now.pairs cost c
         state.now.modes t.modes)) }
@@ -62,13 +66,14 @@ fn lower_state(
         state.now.modes) }
     ensures rows { slice_set rows.new c row.now ≡ slice_set rows.old c row.now }
     ensures cuts { AreClashes query.now.rules.now.model.now query.now.seen.now.pairs cuts.new }
+    ensures space { IsWorldSpace query.now.rules.now.worlds.now space.new }
 {
     let lower = modes_below(query.rules.alloc, row, *state.modes.get(c))?;
     if lower.len() == 0 {
         return Ok(None);
     }
     rows.set(c, lower);
-    match find(query, rows.as_slice(), cuts, cost, cost + 1)? {
+    match find(query, rows.as_slice(), cuts, cost, cost + 1, space)? {
         None => Ok(None),
         Some(costed) => Ok(Some(costed.state)),
     }
@@ -82,6 +87,7 @@ fn lower_at(
     state: State,
     cost: u64,
     c: usize,
+    space: &mut WorldSpace,
 ) -> Result<State, AllocError>
     requires rows { AreRows rows.old }
     requires states { AreStates query.now.rules.now.model.now rows.old }
@@ -89,15 +95,17 @@ fn lower_at(
     requires least { IsLeastShown query.now.rules.now.model.now rows.old query.now.seen.now.pairs state.modes
         cost }
     requires within { c < length rows.old }
+    requires space { IsWorldSpace query.now.rules.now.worlds.now space.old }
     ensures lowest { IfOk result (λ s.
         IsLowestAt query.now.rules.now.model.now rows.old query.now.seen.now.pairs cost c s.modes) }
     ensures rows { IfOk result (λ s. rows.new ≡ fixed_at rows.old c (slice_index s.modes c)) }
     ensures cuts { AreClashes query.now.rules.now.model.now query.now.seen.now.pairs cuts.new }
+    ensures space { IsWorldSpace query.now.rules.now.worlds.now space.new }
 {
     let row = rows.get(c).copy(query.rules.alloc)?;
     let choices = row.as_slice();
     let mut state = state;
-    while let Some(lower) = lower_state(query, rows, choices, cuts, &state, cost, c)? {
+    while let Some(lower) = lower_state(query, rows, choices, cuts, &state, cost, c, space)? {
         state = lower;
     }
     let kept = modes_at(query.rules.alloc, choices, *state.modes.get(c))?;
@@ -112,20 +120,23 @@ pub(crate) fn lower(
     mut rows: List<List<Choice>>,
     cuts: &mut List<Cube>,
     least: Costed,
+    space: &mut WorldSpace,
 ) -> Result<Costed, AllocError>
     requires rows { AreRows rows }
     requires states { AreStates query.now.rules.now.model.now rows }
     requires cuts { AreClashes query.now.rules.now.model.now query.now.seen.now.pairs cuts.old }
     requires least { IsLeastShown query.now.rules.now.model.now rows query.now.seen.now.pairs
         least.state.modes least.cost }
+    requires space { IsWorldSpace query.now.rules.now.worlds.now space.old }
     ensures first { IfOk result (λ x.
         IsFirstOfCost query.now.rules.now.model.now rows query.now.seen.now.pairs x.cost x.state.modes) }
     ensures cost { IfOk result (λ x. x.cost ≡ least.cost) }
+    ensures space { IsWorldSpace query.now.rules.now.worlds.now space.new }
 {
     let cost = least.cost;
     let mut state = least.state;
     for c in 0..rows.len() {
-        state = lower_at(query, &mut rows, cuts, state, cost, c)?;
+        state = lower_at(query, &mut rows, cuts, state, cost, c, space)?;
     }
     Ok(Costed { state, cost })
 }

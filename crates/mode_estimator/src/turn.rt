@@ -1,8 +1,9 @@
 //! One turn of the search: a part is settled by its bound, or split where its first state holds a cut, or its first state is
-//! asked for; a conflict of it is the next cut.
+//! asked for; a clash of it is the next cut.
 
 ghost use Rattle.std.specs.Prelude.{◌<◌, All, IfOk, OnOk};
 ghost use Rattle.cca_base.specs.Prelude.{AreRows, CanShow};
+ghost use Rattle.consistency.specs.Spaces.{IsWorldSpace};
 ghost use Rattle.cost_search.specs.Search.{IsUncut};
 ghost use Rattle.cost_search.specs.SearchParts.{IsPart};
 ghost use Rattle.mode_estimator.specs.First.{AreClashes, AreStates};
@@ -10,6 +11,7 @@ ghost use Rattle.mode_estimator.specs.Turns.{IsJudged, IsTurned};
 
 use crate::query::Query;
 use cca_base::{Choice, Cube, List, State};
+use consistency::WorldSpace;
 use cost_search::{Costed, Part, part_bound, push_halves};
 use std::alloc::AllocError;
 
@@ -62,21 +64,24 @@ fn judge_by_cuts(
 }
 
 /// What becomes of a part; its first state is next if it shows what is seen, and is then the best so far. A first state that
-/// holds no cut is asked for: it shows what is seen, or its conflict is a cut, which says what becomes of the part.
+/// holds no cut is asked for: it shows what is seen, or a clash of it is a cut, which says what becomes of the part.
 fn judge(
     query: &Query,
     rows: &[List<Choice>],
     part: &Part,
     cuts: &mut List<Cube>,
     limit: u64,
+    space: &mut WorldSpace,
 ) -> Result<PartVerdict, AllocError>
     requires rows { AreRows rows.now }
     requires states { AreStates query.now.rules.now.model.now rows.now }
     requires part { IsPart rows.now part.now }
     requires cuts { AreClashes query.now.rules.now.model.now query.now.seen.now.pairs cuts.old }
+    requires space { IsWorldSpace query.now.rules.now.worlds.now space.old }
     ensures judged { IfOk result (IsJudged query.now.rules.now.model.now rows.now query.now.seen.now.pairs
         limit part.now (CanShow query.now.rules.now.model.now part.now.modes query.now.seen.now.pairs)) }
     ensures cuts { AreClashes query.now.rules.now.model.now query.now.seen.now.pairs cuts.new }
+    ensures space { IsWorldSpace query.now.rules.now.worlds.now space.new }
 {
     match judge_by_cuts(query, rows, part, cuts.as_slice(), limit)? {
         PartVerdict::Settled => return Ok(PartVerdict::Settled),
@@ -89,7 +94,7 @@ fn judge(
     let rules = query.rules;
     let Some(cube) = rules
         .worlds
-        .minimal_clash(rules.alloc, rules.model, &state, query.seen)?
+        .clash(rules.alloc, rules.model, &state, query.seen, space)?
     else {
         return Ok(PartVerdict::First);
     };
@@ -105,17 +110,20 @@ pub(crate) fn turn(
     part: Part,
     cuts: &mut List<Cube>,
     best: &mut Best,
+    space: &mut WorldSpace,
 ) -> Result<(), AllocError>
     requires rows { AreRows rows.now }
     requires states { AreStates query.now.rules.now.model.now rows.now }
     requires parts { All (IsPart rows.now) parts.old }
     requires part { IsPart rows.now part }
     requires cuts { AreClashes query.now.rules.now.model.now query.now.seen.now.pairs cuts.old }
+    requires space { IsWorldSpace query.now.rules.now.worlds.now space.old }
     ensures turned { OnOk result (IsTurned query.now.rules.now.model.now rows.now query.now.seen.now.pairs
         part parts.old parts.new best.old best.new) }
     ensures cuts { AreClashes query.now.rules.now.model.now query.now.seen.now.pairs cuts.new }
+    ensures space { IsWorldSpace query.now.rules.now.worlds.now space.new }
 {
-    match judge(query, rows, &part, cuts, best.limit)? {
+    match judge(query, rows, &part, cuts, best.limit, space)? {
         PartVerdict::Settled => Ok(()),
         PartVerdict::Splits(at) => push_halves(query.rules.alloc, rows, parts, part, at),
         PartVerdict::First => {

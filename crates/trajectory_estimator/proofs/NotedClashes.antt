@@ -14,7 +14,7 @@ use Rattle.cca_base.specs.Repairs.{pairs_of}
 use Rattle.cca_base.specs.Shown.{CanShow, Clash}
 use Rattle.cca_base.specs.State.{Extends}
 use Rattle.cca_base.proofs.Members.{stands_in}
-use Rattle.consistency.specs.Conflict.{IsMinimalClash}
+use Rattle.consistency.specs.Cores.{IsClashOf}
 use Rattle.trajectory_estimator.specs.Asked.{Asked, AreValues, entry_of}
 use Rattle.trajectory_estimator.specs.Boxes.{IsBox}
 use Rattle.trajectory_estimator.specs.Reasons.{AreNoted, CanShowAt, IsClashAt, NoCube, NoneStands, state_at}
@@ -42,11 +42,11 @@ noted_more m (x ∷ records) (cubes ∷ clashes) (suc at) r more (first, rest) h
 
 -- what a record's state is asked
 module _ (q : Asked) (states : List (List ℕ)) (at : ℕ) (m : PlantModel) (s : List ℕ) (x : Entry) (model : m ≡ q.model) (state : s ≡ state_at states at) (here : slice_get q.records at ≡ Some x) where
-  minimal_clashes : (cube : List Pair) → IsMinimalClash m s x.seen cube → IsClashAt q states at cube
-  minimal_clashes cube minimal = record {
+  clashes_there : (cube : List Pair) → IsClashOf m s x.seen cube → IsClashAt q states at cube
+  clashes_there cube found = record {
     held = all_from (λ p. slice_get (state_at states at) p.item ≡ Some p.value) cube (λ p among.
-        ap (λ l. slice_get l p.item) (sym state) ∙ stands_in s p (All-contains (Contains (pairs_of s)) cube p minimal.part among));
-    clash = λ r there. subst (λ (z : Entry). Clash q.model z.seen cube) (same_Some x r (sym here ∙ there)) (subst (λ (n : PlantModel). Clash n x.seen cube) model minimal.clash);
+        ap (λ l. slice_get l p.item) (sym state) ∙ stands_in s p (All-contains (Contains (pairs_of s)) cube p found.part among));
+    clash = λ r there. subst (λ (z : Entry). Clash q.model z.seen cube) (same_Some x r (sym here ∙ there)) (subst (λ (n : PlantModel). Clash n x.seen cube) model found.clash);
   }
 
   can_show : CanShow m s x.seen → CanShowAt q states at
@@ -70,9 +70,9 @@ module _ (q : Asked) (b : WindowBox) (at : ℕ) (is : IsBox q b) (within : at < 
     same : s ≡ state_at b.states at
     same = let long = is.least.long in state ∙ get_or_default b.states at e [] (omega (arith, long, within))
 
-    pub some_clash : IfOk r (λ o. IfSome o (IsMinimalClash m s its_entry.seen)) → IfOk r (λ o. IfSome o (IsClashAt q b.states at))
-    some_clash = IfOk-weaker r (λ o. IfSome o (IsMinimalClash m s its_entry.seen)) (λ o. IfSome o (IsClashAt q b.states at))
-        (λ o some. IfSome_then o some (λ cube minimal. minimal_clashes q b.states at m s its_entry model same here cube minimal))
+    pub some_clash : IfOk r (λ o. IfSome o (IsClashOf m s its_entry.seen)) → IfOk r (λ o. IfSome o (IsClashAt q b.states at))
+    some_clash = IfOk-weaker r (λ o. IfSome o (IsClashOf m s its_entry.seen)) (λ o. IfSome o (IsClashAt q b.states at))
+        (λ o some. IfSome_then o some (λ cube found. clashes_there q b.states at m s its_entry model same here cube found))
 
     pub no_clash : IfOk r (λ o. (IsNone o → CanShow m s its_entry.seen) × (CanShow m s its_entry.seen → IsNone o)) → IfOk r (λ o. IsNone o → CanShowAt q b.states at)
     no_clash = IfOk-weaker r (λ o. (IsNone o → CanShow m s its_entry.seen) × (CanShow m s its_entry.seen → IsNone o)) (λ o. IsNone o → CanShowAt q b.states at)

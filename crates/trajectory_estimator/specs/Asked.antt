@@ -4,13 +4,15 @@ use Rattle.cca_base.specs.PlantModel.{PlantModel}
 use Rattle.cca_base.specs.State.{HasValue}
 use Rattle.cca_base.specs.declared.model.Move.{Move}
 use Rattle.cca_base.specs.declared.state.State.{State}
+use Rattle.clause_form.specs.declared.clause.Clauses.{Clauses}
 use Rattle.trajectory_estimator.specs.declared.record.Record.{Record}
 use Rattle.trajectory_estimator.specs.declared.trajectory.Trajectory.{Trajectory}
 use Rattle.window_laws.specs.Trajectories.{Entry, Best, NoTrajectory}
 
--- a model, the state before a window, and what is known of each of its ticks
+-- a model, the clauses of its rules, the state before a window, and what is known of each of its ticks
 pub record Asked : Type 0 where
   pub model : PlantModel
+  pub worlds : Clauses
   pub anchor : List ℕ
   pub records : List Entry
 

@@ -11,9 +11,9 @@ use Rattle.trajectory_estimator.specs.declared.record.TheConstants.{MAX_WINDOW}
 use Rattle.window_laws.specs.Ticks.{KeepsBest, TrackerState}
 
 -- an accepted model with its clauses and what its failures cost, a state of it, and a few records with values of it
-pub record IsQuery (b : CompiledModel) (worlds : Clauses) (changes : List (List (List (Option ℕ)))) (q : Asked) : Type 0 where
+pub record IsQuery (b : CompiledModel) (changes : List (List (List (Option ℕ)))) (q : Asked) : Type 0 where
   pub compiled : IsCompiled b
-  pub clauses : AreWorldsOf b.model worlds
+  pub clauses : AreWorldsOf b.model q.worlds
   pub costs : AreChangesOf b.model changes
   pub anchor : IsState b.model q.anchor
   pub few : length q.records ≤ MAX_WINDOW

@@ -3,6 +3,7 @@
 
 ghost use Rattle.std.specs.Prelude.{◌≡◌, ◌≤◌, All, IfOk, length, map};
 ghost use Rattle.cca_base.specs.Prelude.{IsState};
+ghost use Rattle.consistency.specs.Spaces.{IsWorldSpace};
 ghost use Rattle.trajectory_estimator.specs.Asked.{AreValues, IsBestOf, entry_of, modes_of};
 ghost use Rattle.trajectory_estimator.specs.Reasons.{AreNoted};
 ghost use Rattle.trajectory_estimator.specs.Splits.{IsBestBox};
@@ -17,7 +18,7 @@ use crate::split::push_pieces;
 use crate::trajectory::Trajectory;
 use crate::window_box::WindowBox;
 use cca_base::{Compiled, Cube, List, State};
-use consistency::Worlds;
+use consistency::{WorldSpace, Worlds};
 use std::alloc::{AllocError, Global};
 
 /// No clash is noted at any record.
@@ -32,14 +33,16 @@ fn no_clashes(alloc: Global, query: &Query) -> Result<Vec<List<Cube>>, AllocErro
 }
 
 /// The box whose first states are the best trajectory. None comes exactly where there is no trajectory.
-fn best_box(query: &Query) -> Result<Option<WindowBox>, AllocError>
-    ensures { IfOk result (IsBestBox query.now) }
+fn best_box(query: &Query, space: &mut WorldSpace) -> Result<Option<WindowBox>, AllocError>
+    requires space { IsWorldSpace query.now.worlds space.old }
+    ensures best { IfOk result (IsBestBox query.now) }
+    ensures space { IsWorldSpace query.now.worlds space.new }
 {
     let alloc = query.alloc();
     let mut clashes = no_clashes(alloc, query)?;
     let mut boxes = first_boxes(query)?;
     while let Some(first) = boxes.pop() {
-        match reason_against(query, &first, &mut clashes)? {
+        match reason_against(query, &first, &mut clashes, space)? {
             None => return Ok(Some(first)),
             Some(reason) => push_pieces(query, &mut boxes, &first, reason.as_slice())?,
         }
@@ -63,10 +66,15 @@ fn trajectory_of(alloc: Global, whole: &WindowBox) -> Result<Trajectory, AllocEr
 }
 
 /// The same as `best_trajectory`, with what is made once for many windows.
-pub(crate) fn best_of(query: &Query) -> Result<Option<Trajectory>, AllocError>
-    ensures { IfOk result (IsBestOf query.now.model query.now.anchor query.now.records) }
+pub(crate) fn best_of(
+    query: &Query,
+    space: &mut WorldSpace,
+) -> Result<Option<Trajectory>, AllocError>
+    requires space { IsWorldSpace query.now.worlds space.old }
+    ensures best { IfOk result (IsBestOf query.now.model query.now.anchor query.now.records) }
+    ensures space { IsWorldSpace query.now.worlds space.new }
 {
-    match best_box(query)? {
+    match best_box(query, space)? {
         Some(best) => Ok(Some(trajectory_of(query.alloc(), &best)?)),
         None => Ok(None),
     }
@@ -86,6 +94,7 @@ pub fn best_trajectory(
     ensures { IfOk result (IsBestOf compiled.now.model anchor.now.modes (map entry_of records.now)) }
 {
     let worlds = Worlds::of(alloc, compiled.model())?;
+    let mut space = worlds.space(alloc)?;
     let changes = Changes::of(alloc, compiled.model())?;
     let query = Query::new(
         alloc,
@@ -95,5 +104,5 @@ pub fn best_trajectory(
         anchor,
         records.as_slice(),
     );
-    best_of(&query)
+    best_of(&query, &mut space)
 }

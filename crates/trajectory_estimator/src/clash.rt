@@ -2,6 +2,7 @@
 
 ghost use Rattle.std.specs.Prelude.{◌≡◌, ◌++◌, ◌<◌, Contains, IfOk, IfSome, IsNone, OnOk, length, map, true};
 ghost use Rattle.cca_base.specs.Prelude.{Extends};
+ghost use Rattle.consistency.specs.Spaces.{IsWorldSpace};
 ghost use Rattle.trajectory_estimator.specs.Boxes.{IsBox, IsReason};
 ghost use Rattle.trajectory_estimator.specs.Reasons.{AreNoted, AtEach, CanShowAt, IsClashAt, NoCube, NoneStands, pair_limit};
 
@@ -9,6 +10,7 @@ use crate::limit::Limit;
 use crate::query::Query;
 use crate::window_box::WindowBox;
 use cca_base::{Cube, List, Pair};
+use consistency::WorldSpace;
 use std::alloc::{AllocError, Global};
 
 /// Puts a limit for each pair behind the others: its mode has to stand behind the record, or may not. The error is out of
@@ -79,38 +81,48 @@ pub(crate) fn noted_clash(
     Ok(None)
 }
 
-/// A minimal clash of the record's state with what was seen. None comes exactly where the state can show that. The error is
+/// A clash of the record's state with what was seen. None comes exactly where the state can show that. The error is
 /// out of memory.
-fn clash_at(query: &Query, whole: &WindowBox, at: usize) -> Result<Option<Cube>, AllocError>
+fn clash_at(
+    query: &Query,
+    whole: &WindowBox,
+    at: usize,
+    space: &mut WorldSpace,
+) -> Result<Option<Cube>, AllocError>
     requires whole { IsBox query.now whole.now }
     requires at { at < length query.now.records }
+    requires space { IsWorldSpace query.now.worlds space.old }
     ensures some { IfOk result (λ o. IfSome o (IsClashAt query.now whole.now.states at)) }
     ensures none { IfOk result (λ o. IsNone o → CanShowAt query.now whole.now.states at) }
+    ensures space { IsWorldSpace query.now.worlds space.new }
 {
     let state = whole.states.get(at).state();
     let seen = &query.records()[at].seen;
     query
         .worlds()
-        .minimal_clash(query.alloc(), query.model(), state, seen)
+        .clash(query.alloc(), query.model(), state, seen, space)
 }
 
-/// The pairs of a minimal clash of the first record whose state has one; the clash is noted. None comes exactly where each state can
+/// The pairs of a clash of the first record whose state has one; the clash is noted. None comes exactly where each state can
 /// show what was seen. The error is out of memory.
 pub(crate) fn fresh_clash(
     alloc: Global,
     query: &Query,
     whole: &WindowBox,
     clashes: &mut Vec<List<Cube>>,
+    space: &mut WorldSpace,
 ) -> Result<Option<List<Limit>>, AllocError>
     requires whole { IsBox query.now whole.now }
     requires clashes { AreNoted query.now clashes.old.items }
+    requires space { IsWorldSpace query.now.worlds space.old }
     ensures some { IfOk result (λ o. IfSome o (IsReason query.now whole.now)) }
     ensures none { IfOk result (λ o.
         IsNone o → AtEach query.now (CanShowAt query.now whole.now.states)) }
     ensures clashes { AreNoted query.now clashes.new.items }
+    ensures space { IsWorldSpace query.now.worlds space.new }
 {
     for at in 0..query.records().len() {
-        if let Some(cube) = clash_at(query, whole, at)? {
+        if let Some(cube) = clash_at(query, whole, at, space)? {
             let limits = clash_reason(alloc, at, &cube)?;
             clashes[at].push(cube)?;
             return Ok(Some(limits));

@@ -14,7 +14,7 @@ use cca_base::{Compiled, Model, State};
 use consistency::Worlds;
 use std::alloc::Global;
 
-/// What is asked of a window. A contract sees its model, the state before it, and what is known of each tick.
+/// What is asked of a window. A contract sees its model with the clauses of its rules, the state before it, and what is known of each tick.
 #[derive(Drop)]
 pub struct Query<'a> {
     alloc: Global,
@@ -38,12 +38,14 @@ impl<'a> std::marker::Model for Query<'a> {
 
     ghost view = { λ q. record {
       model = q.compiled.now.model;
+      worlds = q.worlds.now;
       anchor = q.anchor.now.modes;
       records = map entry_of q.records.now;
     } };
 
-    ghost invariant = { λ q. IsQuery q.compiled.now q.worlds.now q.changes.now (record {
+    ghost invariant = { λ q. IsQuery q.compiled.now q.changes.now (record {
       model = q.compiled.now.model;
+      worlds = q.worlds.now;
       anchor = q.anchor.now.modes;
       records = map entry_of q.records.now;
     }) × (q.model.now ≡ q.compiled.now.model) };
@@ -66,6 +68,7 @@ impl<'a> Query<'a> {
         requires values { All (AreValues compiled.now.model) (map entry_of records.now) }
         ensures { result ≡ record {
           model = compiled.now.model;
+          worlds = worlds.now;
           anchor = anchor.now.modes;
           records = map entry_of records.now;
         } }
@@ -105,7 +108,8 @@ impl<'a> Query<'a> {
 
     /// The clauses of its rules.
     pub fn worlds(&self) -> &'a Worlds
-        ensures { AreWorldsOf self.now.model result.now }
+        ensures value { result.now ≡ self.now.worlds }
+        ensures of { AreWorldsOf self.now.model result.now }
     {
         self.worlds
     }

@@ -2,7 +2,10 @@
 
 ghost use Rattle.std.specs.Prelude.{◌≡◌, ◌<◌, ◌≤◌, false, ◌+◌, ◌-◌, ◌^◌, IfOk, OnErr, OnOk, drop, length, map};
 ghost use Rattle.cca_base.specs.Prelude.{start_modes, IsCompiled, IsState};
+ghost use Rattle.consistency.specs.Spaces.{IsWorldSpace};
+ghost use Rattle.consistency.specs.Worlds.{AreWorldsOf};
 ghost use Rattle.trajectory_estimator.specs.Asked.{AreValues, IsBestOf, entry_of, modes_of};
+ghost use Rattle.trajectory_estimator.specs.Changes.{AreChangesOf};
 ghost use Rattle.trajectory_estimator.specs.Tracked.{TicksBy, tracked_start};
 ghost use Rattle.trajectory_estimator.specs.NextWindows.{IsNextWindow, IsWindowIn};
 ghost use Rattle.window_laws.specs.Ticks.{IsRevised, going, next_anchor};
@@ -16,7 +19,7 @@ use crate::revised::{copy_states, revised};
 use crate::trajectory::Trajectory;
 use crate::window::Window;
 use cca_base::{Compiled, List, State};
-use consistency::Worlds;
+use consistency::{WorldSpace, Worlds};
 use std::alloc::{AllocError, Global};
 use std::marker::Model;
 use successors::Plant;
@@ -28,6 +31,8 @@ pub struct Tracker {
     alloc: Global,
     compiled: Compiled,
     worlds: Worlds,
+    /// Memory in which their worlds are sought, made once for all windows.
+    space: WorldSpace,
     changes: Changes,
     anchor: State,
     records: List<Record>,
@@ -38,6 +43,7 @@ pub struct Tracker {
 
 impl Model for Tracker {
     ghost use Rattle.cca_base.specs.Prelude.{model_codes};
+    ghost use Rattle.consistency.specs.Spaces.{IsWorldSpace};
     ghost use Rattle.trajectory_estimator.specs.Queries.{IsTracker};
     ghost use Rattle.trajectory_estimator.specs.Tracked.{Tracked, stands};
 
@@ -51,7 +57,7 @@ impl Model for Tracker {
     } };
 
     ghost invariant = { λ t. IsTracker t.compiled t.worlds t.changes
-        (stands t.anchor t.records t.last t.ticks t.holding) };
+        (stands t.anchor t.records t.last t.ticks t.holding) × IsWorldSpace t.worlds t.space };
 }
 
 /// The state in which each component starts. The error is out of memory.
@@ -63,6 +69,28 @@ fn start_state(alloc: Global, compiled: &Compiled) -> Result<State, AllocError>
     plant.state().copy(alloc)
 }
 
+/// The best trajectory of the window. None comes exactly where there is none. The error is out of memory.
+fn best_in(
+    alloc: Global,
+    compiled: &Compiled,
+    worlds: &Worlds,
+    changes: &Changes,
+    space: &mut WorldSpace,
+    window: &NextWindow,
+) -> Result<Option<Trajectory>, AllocError>
+    requires worlds { AreWorldsOf compiled.now.model worlds.now }
+    requires changes { AreChangesOf compiled.now.model changes.now }
+    requires space { IsWorldSpace worlds.now space.old }
+    requires window { IsWindowIn compiled.now.model window.now }
+    ensures best { IfOk result (IsBestOf compiled.now.model window.now.anchor.modes
+        (map entry_of window.now.records)) }
+    ensures space { IsWorldSpace worlds.now space.new }
+{
+    let (anchor, records) = (&window.anchor, window.records.as_slice());
+    let query = Query::new(alloc, compiled, worlds, changes, anchor, records);
+    best_of(&query, space)
+}
+
 impl Tracker {
     /// A tracker in the start modes, with no record. The error is out of memory, and the model is gone then.
     pub fn open(alloc: Global, compiled: Compiled) -> Result<Tracker, AllocError>
@@ -70,12 +98,14 @@ impl Tracker {
     {
         let model = compiled.model();
         let worlds = Worlds::of(alloc, model)?;
+        let space = worlds.space(alloc)?;
         let changes = Changes::of(alloc, model)?;
         let anchor = start_state(alloc, &compiled)?;
         Ok(Tracker {
             alloc,
             compiled,
             worlds,
+            space,
             changes,
             anchor,
             records: List::new(alloc),
@@ -121,24 +151,6 @@ impl Tracker {
         })
     }
 
-    /// The best trajectory of the window. None comes exactly where there is none. The error is out of memory.
-    fn best_in(&self, window: &NextWindow) -> Result<Option<Trajectory>, AllocError>
-        requires { IsWindowIn self.now.compiled.model window.now }
-        ensures { IfOk result (IsBestOf self.now.compiled.model window.now.anchor.modes
-            (map entry_of window.now.records)) }
-    {
-        let (anchor, records) = (&window.anchor, window.records.as_slice());
-        let query = Query::new(
-            self.alloc,
-            &self.compiled,
-            &self.worlds,
-            &self.changes,
-            anchor,
-            records,
-        );
-        best_of(&query)
-    }
-
     /// The number of the first tick at which the states of the next window are others than the last ones. None comes exactly where there
     /// is no such tick.
     fn revised_by(&self, gone: usize, states: &[State]) -> Option<u64>
@@ -167,7 +179,15 @@ impl Tracker {
             return Ok(Window::Holding);
         }
         let next = self.next_window(entry)?;
-        let Some(path) = self.best_in(&next)? else {
+        let best = best_in(
+            self.alloc,
+            &self.compiled,
+            &self.worlds,
+            &self.changes,
+            &mut self.space,
+            &next,
+        )?;
+        let Some(path) = best else {
             self.ticks += 1;
             self.holding = true;
             return Ok(Window::Unexplained);

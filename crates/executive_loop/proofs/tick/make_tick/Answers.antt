@@ -14,7 +14,7 @@ returns-clause-shows c =
     let seen : List Pair = c.in_ok-seen.seen.pairs in
     let observed : Observed b.model x seen = subst (λ (z : CompiledModel). Observed z.model x seen) c.deref.ensures c.in_ok-seen.ensures.seen in
     let estimate : IsEstimate b.model x.estimate x.command seen c.in_ok-state.field-0 =
-    subst (λ (z : CompiledModel). IsEstimate z.model x.estimate x.command seen c.in_ok-state.field-0) c.deref-2.ensures (rw (← c.standing.view_is) c.in_ok-state.ensures) in
+    subst (λ (z : CompiledModel). IsEstimate z.model x.estimate x.command seen c.in_ok-state.field-0) c.deref-2.ensures (rw (← c.standing.view_is) c.in_ok-state.ensures.estimate) in
     let going : x.holding ≡ false = rw (← c.standing.view_is) c.if-standing.false in
     elim c.match-branch-3.branch [
       | in-Found+in_ok-shown-in-Found w ↦

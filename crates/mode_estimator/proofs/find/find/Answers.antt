@@ -1,8 +1,18 @@
-use Rattle.std.proofs.Common.{List, subst}
+use Rattle.std.proofs.Common.{List, All, subst}
+use Rattle.list_laws.proofs.TestedLists.{All-before, All-last}
 use Rattle.cost_search.specs.declared.part.Part.{Part}
+use Rattle.cost_search.specs.SearchParts.{IsPart}
 use Rattle.mode_estimator.specs.Turns.{IsSearched}
 use Rattle.mode_estimator.proofs.Settling.{floor_found, last_found}
 use Rattle.mode_estimator.proofs.find.find.Goals as goal
+
+pub turn-requires-clause-parts : goal.turn-requires-clause-parts
+turn-requires-clause-parts c =
+    All-before (IsPart c.args.rows.now) c.pop.new.self c.in-Some.part (subst (All (IsPart c.args.rows.now)) c.in-Some.ensures c.loop-part.invariant.searched.each)
+
+pub turn-requires-clause-part : goal.turn-requires-clause-part
+turn-requires-clause-part c =
+    All-last (IsPart c.args.rows.now) c.pop.new.self c.in-Some.part (subst (All (IsPart c.args.rows.now)) c.in-Some.ensures c.loop-part.invariant.searched.each)
 
 pub returns-then-best-floor-clause-some : goal.returns-then-best-floor-clause-some
 returns-then-best-floor-clause-some c =

@@ -19,6 +19,7 @@ loop-c-preserved c =
           (fixed_more c.args.rows c.loop-c.c c.loop-c.state.modes c.loop-c.rows c.in_ok-state.state.modes c.args.least.cost f within low.shows.chosen);
       lowered = lowered_more c.args.query.now.rules.now.model.now c.args.rows c.args.query.now.seen.now.pairs c.args.least.cost c.loop-c.c c.loop-c.state.modes c.loop-c.rows c.in_ok-state.state.modes within f c.loop-c.invariant.lowered low;
       cuts = c.in_ok-state.ensures.cuts;
+      space = c.in_ok-state.ensures.space;
     }
 
 pub returns-clause-first : goal.returns-clause-first

@@ -10,7 +10,7 @@ pub invariant_of-self-in-Tick : goal.invariant_of-self-in-Tick
 invariant_of-self-in-Tick c =
     let b : CompiledModel = c.self.inside.compiled.value in
     let before = c.self.invariant.1 in (
-      (c.self.invariant.0.0, c.in_ok-report.ensures.mirror),
+      (c.self.invariant.0.0, c.in_ok-report.ensures.space, c.in_ok-report.ensures.mirror),
       record {
         compiled = before.compiled;
         fits = stays_fitting b before.compiled (Promising b) c.self.inside.standing c.make_tick.new.standing event.Tick (Some c.in_ok-report.report) before.fits tt

@@ -8,8 +8,10 @@ use Rattle.trajectory_estimator.proofs.tracker.Tracker.open.Goals as goal
 
 pub invariant_of-result : goal.invariant_of-result
 invariant_of-result c =
-    let b = c.args.compiled in
-    rw (c.in_ok-anchor.ensures.value, c.new.ensures, c.new-2.ensures) (started b c.in_ok-worlds.worlds c.in_ok-changes.changes 0 c.model-model.ensures.compiled
-    (subst (λ (m : PlantModel). AreWorldsOf m c.in_ok-worlds.worlds) c.model-model.ensures.value c.in_ok-worlds.ensures)
-    (subst (λ (m : PlantModel). AreChangesOf m c.in_ok-changes.changes) c.model-model.ensures.value c.in_ok-changes.ensures)
-    (subst (IsState b.model) c.in_ok-anchor.ensures.value c.in_ok-anchor.ensures.state))
+    let b = c.args.compiled in (
+      rw (c.in_ok-anchor.ensures.value, c.new.ensures, c.new-2.ensures) (started b c.in_ok-worlds.worlds c.in_ok-changes.changes 0 c.model-model.ensures.compiled
+          (subst (λ (m : PlantModel). AreWorldsOf m c.in_ok-worlds.worlds) c.model-model.ensures.value c.in_ok-worlds.ensures)
+          (subst (λ (m : PlantModel). AreChangesOf m c.in_ok-changes.changes) c.model-model.ensures.value c.in_ok-changes.ensures)
+          (subst (IsState b.model) c.in_ok-anchor.ensures.value c.in_ok-anchor.ensures.state)),
+      c.in_ok-space.ensures,
+    )
