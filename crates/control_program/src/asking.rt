@@ -2,13 +2,14 @@
 
 ghost use Rattle.std.specs.Prelude.{◌≡◌, ◌++◌, ◌↔◌, All, IsTrue, IfOk};
 ghost use Rattle.cca_base.specs.Prelude.{pairs_of, Holds, IsState};
+ghost use Rattle.consistency.specs.Spaces.{IsWorldSpace};
 ghost use Rattle.control_program.specs.Formulas.{IsWithin};
 ghost use Rattle.control_program.specs.Turned.{Chooses, Reaches};
 ghost use Rattle.control_program.specs.Places.{choice_of};
 
 use crate::nodes::{Mark, Node};
 use cca_base::{Cube, Formula, List, Pair, State};
-use consistency::{Rules, stand_in};
+use consistency::{Rules, WorldSpace, stand_in};
 use std::alloc::AllocError;
 
 /// An estimate of a model's state, and the nodes of a program.
@@ -32,16 +33,22 @@ pub(crate) struct Course {
 }
 
 /// Whether the formula is true in every world of the estimate. The error is out of memory.
-pub(crate) fn holds(asking: &Asking, formula: &Formula) -> Result<bool, AllocError>
-    requires { IsWithin asking.now.rules.now.model.now formula.now }
-    ensures { IfOk result (λ b.
+pub(crate) fn holds(
+    asking: &Asking,
+    formula: &Formula,
+    space: &mut WorldSpace,
+) -> Result<bool, AllocError>
+    requires formula { IsWithin asking.now.rules.now.model.now formula.now }
+    requires space { IsWorldSpace asking.now.rules.now.worlds.now space.old }
+    ensures holds { IfOk result (λ b.
         IsTrue b ↔ Holds asking.now.rules.now.model.now asking.now.estimate.now.modes formula.now) }
+    ensures space { IsWorldSpace asking.now.rules.now.worlds.now space.new }
 {
     let rules = asking.rules;
     let _moves = rules.model.moves();
     rules
         .worlds
-        .follows(rules.alloc, rules.model, asking.modes, formula)
+        .follows_by(rules.alloc, rules.model, asking.modes, formula, space)
 }
 
 /// Puts pairs behind those that are asked. The error is out of memory.
@@ -75,14 +82,17 @@ pub(crate) fn takes_first(
     asking: &Asking,
     mark: Mark,
     formula: &Formula,
+    space: &mut WorldSpace,
 ) -> Result<bool, AllocError>
-    requires { IsWithin asking.now.rules.now.model.now formula.now }
-    ensures { IfOk result (λ first. Chooses asking.now.rules.now.model.now asking.now.estimate.now.modes
+    requires formula { IsWithin asking.now.rules.now.model.now formula.now }
+    requires space { IsWorldSpace asking.now.rules.now.worlds.now space.old }
+    ensures chooses { IfOk result (λ first. Chooses asking.now.rules.now.model.now asking.now.estimate.now.modes
         (choice_of mark) formula.now first) }
+    ensures space { IsWorldSpace asking.now.rules.now.worlds.now space.new }
 {
     match mark {
         Mark::First => Ok(true),
         Mark::Second => Ok(false),
-        _ => holds(asking, formula),
+        _ => holds(asking, formula, space),
     }
 }

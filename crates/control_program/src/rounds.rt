@@ -1,6 +1,7 @@
 //! Which part of a choice is taken, and what follows the end of a round.
 
 ghost use Rattle.std.specs.Prelude.{IfOk};
+ghost use Rattle.consistency.specs.Spaces.{IsWorldSpace};
 ghost use Rattle.control_program.specs.Places.{IsOfKind, marked};
 ghost use Rattle.control_program.specs.Courses.{StandsIn, TakesIn, RoundAt, EndsRound};
 ghost use Rattle.control_program.specs.declared.nodes.Kind.{Kind};
@@ -9,6 +10,7 @@ use crate::asking::{Asking, takes_first};
 use crate::marks::clear;
 use crate::nodes::{Mark, Node, node_at, rounds_of};
 use cca_base::{Formula, List};
+use consistency::WorldSpace;
 use std::alloc::AllocError;
 
 /// Marks which part a choice takes. The answer is the place of that part; the error is out of memory.
@@ -17,13 +19,16 @@ pub(crate) fn choose(
     marks: &mut List<Mark>,
     at: usize,
     formula: &Formula,
+    space: &mut WorldSpace,
 ) -> Result<usize, AllocError>
     requires stands { StandsIn asking.now marks.old at }
     requires kind { IsOfKind asking.now.nodes.now at (Kind.Choose formula.now) }
-    ensures { IfOk result (λ part. TakesIn asking.now at marks.old part marks.new) }
+    requires space { IsWorldSpace asking.now.rules.now.worlds.now space.old }
+    ensures takes { IfOk result (λ part. TakesIn asking.now at marks.old part marks.new) }
+    ensures space { IsWorldSpace asking.now.rules.now.worlds.now space.new }
 {
     let next = at + 1;
-    if takes_first(asking, *marks.get(at), formula)? {
+    if takes_first(asking, *marks.get(at), formula, space)? {
         marks.set(at, Mark::First);
         return Ok(next);
     }

@@ -88,7 +88,8 @@ impl Runner {
             modes: &modes,
             nodes: self.nodes.as_slice(),
         };
-        let ended = turn_at(&asking, &mut course, 0)?;
+        let mut space = worlds.space(self.alloc)?;
+        let ended = turn_at(&asking, &mut course, 0, &mut space)?;
         let goal = firsts(self.alloc, course.asked.as_slice())?;
         self.marks = course.marks;
         self.ended = ended;

@@ -1,36 +1,45 @@
 //! One turn of a program's marks, part by part, from the first. It tests only what the turn reaches.
 
 ghost use Rattle.std.specs.Prelude.{IfOk};
+ghost use Rattle.consistency.specs.Spaces.{IsWorldSpace};
 ghost use Rattle.control_program.specs.Courses.{StandsIn, StandIn, TaskIn, TurnsIn, WorksIn, TurnIn};
 
 use crate::asking::{Asking, Course, holds, reaches};
 use crate::nodes::{Kind, Mark, Task, is_ended, node_at};
 use crate::rounds::{choose, end_round};
+use consistency::WorldSpace;
 use std::alloc::AllocError;
 
 /// The turn of the part at a place. The answer is whether it has ended; the error is out of memory.
 #[cycle(turning)]
-pub(crate) fn turn_at(asking: &Asking, course: &mut Course, at: usize) -> Result<bool, AllocError>
-    requires { StandsIn asking.now course.old.marks at }
-    ensures { IfOk result (λ ended. TurnsIn asking.now at course.old ended course.new) }
+pub(crate) fn turn_at(
+    asking: &Asking,
+    course: &mut Course,
+    at: usize,
+    space: &mut WorldSpace,
+) -> Result<bool, AllocError>
+    requires stands { StandsIn asking.now course.old.marks at }
+    requires space { IsWorldSpace asking.now.rules.now.worlds.now space.old }
+    ensures turns { IfOk result (λ ended. TurnsIn asking.now at course.old ended course.new) }
+    ensures space { IsWorldSpace asking.now.rules.now.worlds.now space.new }
 {
     match &node_at(asking.nodes, at).kind {
         Kind::Once(task) => {
             if is_ended(*course.marks.get(at)) {
                 return Ok(true);
             }
-            if !work(asking, course, at, task)? {
+            if !work(asking, course, at, task, space)? {
                 return Ok(false);
             }
             course.marks.set(at, Mark::Ended);
             Ok(true)
         }
         Kind::Choose(formula) => {
-            let part = choose(asking, &mut course.marks, at, formula)?;
-            turn_at(asking, course, part)
+            let part = choose(asking, &mut course.marks, at, formula, space)?;
+            turn_at(asking, course, part, space)
         }
         Kind::Repeat(number) => {
-            if !turn_at(asking, course, at + 1)? {
+            if !turn_at(asking, course, at + 1, space)? {
                 return Ok(false);
             }
             Ok(end_round(asking.nodes, &mut course.marks, at, *number))
@@ -40,14 +49,29 @@ pub(crate) fn turn_at(asking: &Asking, course: &mut Course, at: usize) -> Result
 
 /// The turn of a task that has not ended. The answer is whether it has now; its own mark is not written.
 #[cycle(turning)]
-fn work(asking: &Asking, course: &mut Course, at: usize, task: &Task) -> Result<bool, AllocError>
-    requires { TaskIn asking.now course.old.marks at task.now }
-    ensures { IfOk result (λ ended. WorksIn asking.now at task.now course.old ended course.new) }
+fn work(
+    asking: &Asking,
+    course: &mut Course,
+    at: usize,
+    task: &Task,
+    space: &mut WorldSpace,
+) -> Result<bool, AllocError>
+    requires task { TaskIn asking.now course.old.marks at task.now }
+    requires space { IsWorldSpace asking.now.rules.now.worlds.now space.old }
+    ensures works { IfOk result (λ ended. WorksIn asking.now at task.now course.old ended course.new) }
+    ensures space { IsWorldSpace asking.now.rules.now.worlds.now space.new }
 {
     match task {
         Task::Reach(pairs) => reaches(asking, &mut course.asked, pairs),
-        Task::Await(formula) => holds(asking, formula),
-        Task::Parts(in_order, count) => turn_parts(asking, course, at + 1, *in_order, *count),
+        Task::Await(formula) => holds(asking, formula, space),
+        Task::Parts(in_order, count) => turn_parts(
+            asking,
+            course,
+            at + 1,
+            *in_order,
+            *count,
+            space,
+        ),
     }
 }
 
@@ -60,16 +84,19 @@ fn turn_parts(
     at: usize,
     in_order: bool,
     count: usize,
+    space: &mut WorldSpace,
 ) -> Result<bool, AllocError>
-    requires { StandIn asking.now course.old.marks at count }
-    ensures { IfOk result (λ ended.
+    requires stand { StandIn asking.now course.old.marks at count }
+    requires space { IsWorldSpace asking.now.rules.now.worlds.now space.old }
+    ensures turn { IfOk result (λ ended.
         TurnIn asking.now in_order at count course.old ended course.new) }
+    ensures space { IsWorldSpace asking.now.rules.now.worlds.now space.new }
 {
     let mut place = at;
     let mut all_ended = true;
     for _ in 0..count {
         let end = place + node_at(asking.nodes, place).size;
-        let ended = turn_at(asking, course, place)?;
+        let ended = turn_at(asking, course, place, space)?;
         if in_order & !ended {
             return Ok(false);
         }

@@ -7,22 +7,22 @@ use Rattle.cca_base.proofs.StatePairs.{pairs_have_modes}
 use Rattle.cca_base.proofs.HeldFormulas.{follows_holds, holds_follows}
 use Rattle.control_program.proofs.asking.holds.Goals as goal
 
-pub follows-requires-clause-modes : goal.follows-requires-clause-modes
-follows-requires-clause-modes c =
+pub follows_by-requires-clause-modes : goal.follows_by-requires-clause-modes
+follows_by-requires-clause-modes c =
     let a = c.args.asking.now in
     subst (All (λ (p : Pair). HasMode a.rules.now.model.now p.item p.value)) (sym a.pairs) (pairs_have_modes a.rules.now.model.now a.estimate.now.modes a.state)
 
-pub follows-requires-clause-formula : goal.follows-requires-clause-formula
-follows-requires-clause-formula c = c.requires
+pub follows_by-requires-clause-formula : goal.follows_by-requires-clause-formula
+follows_by-requires-clause-formula c = c.requires.formula
 
-pub returns : goal.returns
-returns c =
+pub returns-clause-holds : goal.returns-clause-holds
+returns-clause-holds c =
     let a = c.args.asking.now in
     let m = a.rules.now.model.now in
     let s = a.estimate.now.modes in
     let f = c.args.formula.now in
-    IfOk-weaker c.follows.result (λ (b : Bool). IsTrue b ↔ Follows m a.modes.now f) (λ (b : Bool). IsTrue b ↔ Holds m s f)
+    IfOk-weaker c.follows_by.result (λ (b : Bool). IsTrue b ↔ Follows m a.modes.now f) (λ (b : Bool). IsTrue b ↔ Holds m s f)
     (λ b h. (
       (λ t. follows_holds m s f a.state (subst (λ (l : List Pair). Follows m l f) a.pairs (h.0 t))),
       (λ holds. h.1 (subst (λ (l : List Pair). Follows m l f) (sym a.pairs) (holds_follows m s f a.state holds))),
-    )) c.follows.ensures
+    )) c.follows_by.ensures.follows

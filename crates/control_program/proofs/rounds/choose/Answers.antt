@@ -11,15 +11,15 @@ overflow_add-next c =
 pub get-requires : goal.get-requires
 get-requires c = in_marks c.args.asking.now.nodes.now c.args.marks.now c.args.at (lies c.requires.stands)
 
-pub takes_first-requires : goal.takes_first-requires
-takes_first-requires c = choose_formula c.args.asking.now c.args.marks.now c.args.at c.requires.stands c.args.formula.now c.requires.kind c.get.result.now c.get.ensures.value
+pub takes_first-requires-clause-formula : goal.takes_first-requires-clause-formula
+takes_first-requires-clause-formula c = choose_formula c.args.asking.now c.args.marks.now c.args.at c.requires.stands c.args.formula.now c.requires.kind c.get.result.now c.get.ensures.value
 
 pub set-requires : goal.set-requires
 set-requires c = in_marks c.args.asking.now.nodes.now c.args.marks.now c.args.at (lies c.requires.stands)
 
-pub returns-then-branch : goal.returns-then-branch
-returns-then-branch c = λ s.
-    takes_one c.args.asking.now c.args.marks.now c.args.at s c.args.formula.now c.requires.kind c.get.result.now c.get.ensures.value c.in_ok-takes_first.field-0 c.in_ok-takes_first.ensures c.if-branch.true c.set.new.self c.set.ensures
+pub returns-then-branch-clause-takes : goal.returns-then-branch-clause-takes
+returns-then-branch-clause-takes c = λ s.
+    takes_one c.args.asking.now c.args.marks.now c.args.at s c.args.formula.now c.requires.kind c.get.result.now c.get.ensures.value c.in_ok-takes_first.field-0 c.in_ok-takes_first.ensures.chooses c.if-branch.true c.set.new.self c.set.ensures
 
 pub set-requires-2 : goal.set-requires-2
 set-requires-2 c = in_marks c.args.asking.now.nodes.now c.args.marks.now c.args.at (lies c.requires.stands)
@@ -33,6 +33,6 @@ overflow_add-result c =
     let inside = passed_ends c.args.asking.now c.args.marks.now c.args.at c.requires.stands c.args.formula.now c.requires.kind c.get.result.now c.get.ensures.value c.node_at.result.now c.node_at.ensures in
     search rules
 
-pub returns : goal.returns
-returns c = λ s.
-    takes_two c.args.asking.now c.args.marks.now c.args.at s c.args.formula.now c.requires.kind c.get.result.now c.get.ensures.value c.in_ok-takes_first.field-0 c.in_ok-takes_first.ensures c.if-branch.false c.node_at.result.now c.node_at.ensures c.set-2.new.self c.set-2.ensures
+pub returns-clause-takes : goal.returns-clause-takes
+returns-clause-takes c = λ s.
+    takes_two c.args.asking.now c.args.marks.now c.args.at s c.args.formula.now c.requires.kind c.get.result.now c.get.ensures.value c.in_ok-takes_first.field-0 c.in_ok-takes_first.ensures.chooses c.if-branch.false c.node_at.result.now c.node_at.ensures c.set-2.new.self c.set-2.ensures

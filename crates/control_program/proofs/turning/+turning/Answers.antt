@@ -10,34 +10,34 @@ use Rattle.control_program.proofs.TaskTurns.{task_in, task_had_ended, task_waits
 use Rattle.control_program.proofs.turning.+turning.Goals as goal
 
 pub turn_at-node_at-requires : goal.turn_at-node_at-requires
-turn_at-node_at-requires t c = in_nodes c.args.asking.now.nodes.now c.args.course.now.marks c.args.at (lies c.requires)
+turn_at-node_at-requires t c = in_nodes c.args.asking.now.nodes.now c.args.course.now.marks c.args.at (lies c.requires.stands)
 
 pub turn_at-get-requires : goal.turn_at-get-requires
-turn_at-get-requires t c = in_marks c.args.asking.now.nodes.now c.args.course.now.marks c.args.at (lies c.requires)
+turn_at-get-requires t c = in_marks c.args.asking.now.nodes.now c.args.course.now.marks c.args.at (lies c.requires.stands)
 
-pub turn_at-returns-then-is_ended : goal.turn_at-returns-then-is_ended
-turn_at-returns-then-is_ended t c = λ s.
+pub turn_at-returns-then-is_ended-clause-turns : goal.turn_at-returns-then-is_ended-clause-turns
+turn_at-returns-then-is_ended-clause-turns t c = λ s.
     task_had_ended c.args.asking.now c.args.course.now.marks c.args.at s c.in-Once.task c.node_at.result.now c.node_at.ensures c.in-Once.is c.args.course.now.asked c.get.result.now c.get.ensures.value
     (sym c.is_ended.ensures ∙ c.if-is_ended.true)
 
 pub turn_at-work-requires : goal.turn_at-work-requires
 turn_at-work-requires t c = (
   omega (arith, c.decreases),
-  task_in c.args.asking.now c.args.course.now.marks c.args.at c.requires c.in-Once.task c.node_at.result.now c.node_at.ensures c.in-Once.is c.get.result.now c.get.ensures.value (sym c.is_ended.ensures ∙ c.if-is_ended.false),
+  (task_in c.args.asking.now c.args.course.now.marks c.args.at c.requires.stands c.in-Once.task c.node_at.result.now c.node_at.ensures c.in-Once.is c.get.result.now c.get.ensures.value (sym c.is_ended.ensures ∙ c.if-is_ended.false), c.requires.space),
 )
 
-pub turn_at-returns-then-not-branch : goal.turn_at-returns-then-not-branch
-turn_at-returns-then-not-branch t c = λ s.
-    task_waits c.args.asking.now c.args.at c.args.course.now c.work.new.course s c.in-Once.task c.node_at.result.now c.node_at.ensures c.in-Once.is c.get.result.now c.get.ensures.value (sym c.is_ended.ensures ∙ c.if-is_ended.false) c.in_ok-work-in-Once.field-0 c.in_ok-work-in-Once.ensures c.if-not-branch.true
+pub turn_at-returns-then-not-branch-clause-turns : goal.turn_at-returns-then-not-branch-clause-turns
+turn_at-returns-then-not-branch-clause-turns t c = λ s.
+    task_waits c.args.asking.now c.args.at c.args.course.now c.work.new.course s c.in-Once.task c.node_at.result.now c.node_at.ensures c.in-Once.is c.get.result.now c.get.ensures.value (sym c.is_ended.ensures ∙ c.if-is_ended.false) c.in_ok-work-in-Once.field-0 c.in_ok-work-in-Once.ensures.works c.if-not-branch.true
 
 pub turn_at-set-requires : goal.turn_at-set-requires
 turn_at-set-requires t c =
     in_marks c.args.asking.now.nodes.now c.work.new.course.marks c.args.at
-    (task_lies c.args.asking.now c.args.at c.args.course.now c.work.new.course c.requires c.in-Once.task c.node_at.result.now c.node_at.ensures c.in-Once.is c.get.result.now c.get.ensures.value (sym c.is_ended.ensures ∙ c.if-is_ended.false) c.in_ok-work-in-Once.field-0 c.in_ok-work-in-Once.ensures)
+    (task_lies c.args.asking.now c.args.at c.args.course.now c.work.new.course c.requires.stands c.in-Once.task c.node_at.result.now c.node_at.ensures c.in-Once.is c.get.result.now c.get.ensures.value (sym c.is_ended.ensures ∙ c.if-is_ended.false) c.in_ok-work-in-Once.field-0 c.in_ok-work-in-Once.ensures.works)
 
-pub turn_at-returns-else-not-branch : goal.turn_at-returns-else-not-branch
-turn_at-returns-else-not-branch t c = λ s.
-    task_is_done c.args.asking.now c.args.at c.args.course.now c.work.new.course s c.in-Once.task c.node_at.result.now c.node_at.ensures c.in-Once.is c.get.result.now c.get.ensures.value (sym c.is_ended.ensures ∙ c.if-is_ended.false) c.in_ok-work-in-Once.field-0 c.in_ok-work-in-Once.ensures c.if-not-branch.false
+pub turn_at-returns-else-not-branch-clause-turns : goal.turn_at-returns-else-not-branch-clause-turns
+turn_at-returns-else-not-branch-clause-turns t c = λ s.
+    task_is_done c.args.asking.now c.args.at c.args.course.now c.work.new.course s c.in-Once.task c.node_at.result.now c.node_at.ensures c.in-Once.is c.get.result.now c.get.ensures.value (sym c.is_ended.ensures ∙ c.if-is_ended.false) c.in_ok-work-in-Once.field-0 c.in_ok-work-in-Once.ensures.works c.if-not-branch.false
     c.set.new.self c.set.ensures
 
 pub turn_at-choose-requires-clause-kind : goal.turn_at-choose-requires-clause-kind
@@ -46,95 +46,101 @@ turn_at-choose-requires-clause-kind t c =
 
 pub turn_at-turn_at-requires : goal.turn_at-turn_at-requires
 turn_at-turn_at-requires t c = (
-  omega (arith, c.decreases, in_nodes c.args.asking.now.nodes.now c.args.course.now.marks c.args.at (lies c.requires), (c.in_ok-part-in-Choose.ensures c.requires).behind),
-  (c.in_ok-part-in-Choose.ensures c.requires).stands,
+  omega (arith, c.decreases, in_nodes c.args.asking.now.nodes.now c.args.course.now.marks c.args.at (lies c.requires.stands), (c.in_ok-part-in-Choose.ensures.takes c.requires.stands).behind),
+  ((c.in_ok-part-in-Choose.ensures.takes c.requires.stands).stands, c.in_ok-part-in-Choose.ensures.space),
 )
 
-pub turn_at-returns-in_ok-part-in-Choose : goal.turn_at-returns-in_ok-part-in-Choose
-turn_at-returns-in_ok-part-in-Choose t c =
-    choice_turned c.args.asking.now c.args.at c.in_ok-part-in-Choose.part c.args.course.now c.turn_at.new.course c.choose.new.marks c.in_ok-part-in-Choose.ensures c.turn_at.result c.turn_at.ensures
+pub turn_at-returns-in_ok-part-in-Choose-clause-turns : goal.turn_at-returns-in_ok-part-in-Choose-clause-turns
+turn_at-returns-in_ok-part-in-Choose-clause-turns t c =
+    choice_turned c.args.asking.now c.args.at c.in_ok-part-in-Choose.part c.args.course.now c.turn_at.new.course c.choose.new.marks c.in_ok-part-in-Choose.ensures.takes c.turn_at.result c.turn_at.ensures.turns
 
 pub turn_at-overflow_add-at : goal.turn_at-overflow_add-at
 turn_at-overflow_add-at t c =
-    let inside = in_nodes c.args.asking.now.nodes.now c.args.course.now.marks c.args.at (lies c.requires) in
+    let inside = in_nodes c.args.asking.now.nodes.now c.args.course.now.marks c.args.at (lies c.requires.stands) in
     search rules
 
 pub turn_at-turn_at-requires-in-Repeat : goal.turn_at-turn_at-requires-in-Repeat
 turn_at-turn_at-requires-in-Repeat t c = (
-  omega (arith, c.decreases, in_nodes c.args.asking.now.nodes.now c.args.course.now.marks c.args.at (lies c.requires)),
-  body_stands c.args.asking.now c.args.course.now.marks c.args.at c.requires c.in-Repeat.number (of_kind c.args.asking.now.nodes.now c.args.at c.node_at.result.now (Kind.Repeat c.in-Repeat.number) c.node_at.ensures c.in-Repeat.is),
+  omega (arith, c.decreases, in_nodes c.args.asking.now.nodes.now c.args.course.now.marks c.args.at (lies c.requires.stands)),
+  (body_stands c.args.asking.now c.args.course.now.marks c.args.at c.requires.stands c.in-Repeat.number (of_kind c.args.asking.now.nodes.now c.args.at c.node_at.result.now (Kind.Repeat c.in-Repeat.number) c.node_at.ensures c.in-Repeat.is), c.requires.space),
 )
 
-pub turn_at-returns-then-not-branch-2 : goal.turn_at-returns-then-not-branch-2
-turn_at-returns-then-not-branch-2 t c = λ s.
+pub turn_at-returns-then-not-branch-2-clause-turns : goal.turn_at-returns-then-not-branch-2-clause-turns
+turn_at-returns-then-not-branch-2-clause-turns t c = λ s.
     round_waits c.args.asking.now c.args.course.now.marks c.args.at s c.in-Repeat.number (of_kind c.args.asking.now.nodes.now c.args.at c.node_at.result.now (Kind.Repeat c.in-Repeat.number) c.node_at.ensures c.in-Repeat.is) c.args.course.now.asked c.in_ok-turn_at-in-Repeat.field-0 c.turn_at-in-Repeat.new.course.marks c.turn_at-in-Repeat.new.course.asked
-    (c.in_ok-turn_at-in-Repeat.ensures (body_stands c.args.asking.now c.args.course.now.marks c.args.at s c.in-Repeat.number (of_kind c.args.asking.now.nodes.now c.args.at c.node_at.result.now (Kind.Repeat c.in-Repeat.number) c.node_at.ensures c.in-Repeat.is))) c.if-not-branch-2.true
+    (c.in_ok-turn_at-in-Repeat.ensures.turns (body_stands c.args.asking.now c.args.course.now.marks c.args.at s c.in-Repeat.number (of_kind c.args.asking.now.nodes.now c.args.at c.node_at.result.now (Kind.Repeat c.in-Repeat.number) c.node_at.ensures c.in-Repeat.is))) c.if-not-branch-2.true
 
 pub turn_at-end_round-requires-clause-round : goal.turn_at-end_round-requires-clause-round
 turn_at-end_round-requires-clause-round t c =
-    round_at c.args.asking.now c.args.course.now.marks c.args.at c.requires c.in-Repeat.number (of_kind c.args.asking.now.nodes.now c.args.at c.node_at.result.now (Kind.Repeat c.in-Repeat.number) c.node_at.ensures c.in-Repeat.is) c.args.course.now.asked c.in_ok-turn_at-in-Repeat.field-0 c.turn_at-in-Repeat.new.course.marks c.turn_at-in-Repeat.new.course.asked
-    (c.in_ok-turn_at-in-Repeat.ensures (body_stands c.args.asking.now c.args.course.now.marks c.args.at c.requires c.in-Repeat.number (of_kind c.args.asking.now.nodes.now c.args.at c.node_at.result.now (Kind.Repeat c.in-Repeat.number) c.node_at.ensures c.in-Repeat.is)))
+    round_at c.args.asking.now c.args.course.now.marks c.args.at c.requires.stands c.in-Repeat.number (of_kind c.args.asking.now.nodes.now c.args.at c.node_at.result.now (Kind.Repeat c.in-Repeat.number) c.node_at.ensures c.in-Repeat.is) c.args.course.now.asked c.in_ok-turn_at-in-Repeat.field-0 c.turn_at-in-Repeat.new.course.marks c.turn_at-in-Repeat.new.course.asked
+    (c.in_ok-turn_at-in-Repeat.ensures.turns (body_stands c.args.asking.now c.args.course.now.marks c.args.at c.requires.stands c.in-Repeat.number (of_kind c.args.asking.now.nodes.now c.args.at c.node_at.result.now (Kind.Repeat c.in-Repeat.number) c.node_at.ensures c.in-Repeat.is)))
 
 pub turn_at-end_round-requires-clause-kind : goal.turn_at-end_round-requires-clause-kind
 turn_at-end_round-requires-clause-kind t c = of_kind c.args.asking.now.nodes.now c.args.at c.node_at.result.now (Kind.Repeat c.in-Repeat.number) c.node_at.ensures c.in-Repeat.is
 
-pub turn_at-returns-else-not-branch-2 : goal.turn_at-returns-else-not-branch-2
-turn_at-returns-else-not-branch-2 t c = λ s.
+pub turn_at-returns-else-not-branch-2-clause-turns : goal.turn_at-returns-else-not-branch-2-clause-turns
+turn_at-returns-else-not-branch-2-clause-turns t c = λ s.
     round_turned c.args.asking.now c.args.course.now.marks c.args.at s c.in-Repeat.number (of_kind c.args.asking.now.nodes.now c.args.at c.node_at.result.now (Kind.Repeat c.in-Repeat.number) c.node_at.ensures c.in-Repeat.is) c.args.course.now.asked c.in_ok-turn_at-in-Repeat.field-0 c.turn_at-in-Repeat.new.course.marks c.turn_at-in-Repeat.new.course.asked
-    (c.in_ok-turn_at-in-Repeat.ensures (body_stands c.args.asking.now c.args.course.now.marks c.args.at s c.in-Repeat.number (of_kind c.args.asking.now.nodes.now c.args.at c.node_at.result.now (Kind.Repeat c.in-Repeat.number) c.node_at.ensures c.in-Repeat.is))) c.if-not-branch-2.false c.end_round.result (marked c.args.asking.now.nodes.now c.end_round.new.marks) c.end_round.ensures
+    (c.in_ok-turn_at-in-Repeat.ensures.turns (body_stands c.args.asking.now c.args.course.now.marks c.args.at s c.in-Repeat.number (of_kind c.args.asking.now.nodes.now c.args.at c.node_at.result.now (Kind.Repeat c.in-Repeat.number) c.node_at.ensures c.in-Repeat.is))) c.if-not-branch-2.false c.end_round.result (marked c.args.asking.now.nodes.now c.end_round.new.marks) c.end_round.ensures
 
-pub work-returns-in-Reach : goal.work-returns-in-Reach
-work-returns-in-Reach t c = reach_works c.args.asking.now c.args.at c.args.course.now c.args.task.now c.in-Reach.pairs c.in-Reach.is c.reaches.new.asked c.reaches.result c.reaches.ensures
+pub work-returns-in-Reach-clause-works : goal.work-returns-in-Reach-clause-works
+work-returns-in-Reach-clause-works t c = reach_works c.args.asking.now c.args.at c.args.course.now c.args.task.now c.in-Reach.pairs c.in-Reach.is c.reaches.new.asked c.reaches.result c.reaches.ensures
 
-pub work-holds-requires : goal.work-holds-requires
-work-holds-requires t c = await_formula c.args.asking.now c.args.course.now.marks c.args.at c.in-Await.formula (subst (TaskIn c.args.asking.now c.args.course.now.marks c.args.at) c.in-Await.is c.requires)
+pub work-holds-requires-clause-formula : goal.work-holds-requires-clause-formula
+work-holds-requires-clause-formula t c = await_formula c.args.asking.now c.args.course.now.marks c.args.at c.in-Await.formula (subst (TaskIn c.args.asking.now c.args.course.now.marks c.args.at) c.in-Await.is c.requires.task)
 
-pub work-returns-in-Await : goal.work-returns-in-Await
-work-returns-in-Await t c = await_works c.args.asking.now c.args.at c.args.course.now c.args.task.now c.in-Await.formula c.in-Await.is c.holds.result c.holds.ensures
+pub work-returns-in-Await-clause-works : goal.work-returns-in-Await-clause-works
+work-returns-in-Await-clause-works t c = await_works c.args.asking.now c.args.at c.args.course.now c.args.task.now c.in-Await.formula c.in-Await.is c.holds.result c.holds.ensures.holds
 
 pub work-overflow_add-at : goal.work-overflow_add-at
 work-overflow_add-at t c =
-    let inside = in_nodes c.args.asking.now.nodes.now c.args.course.now.marks c.args.at (lies c.requires.stands) in
+    let inside = in_nodes c.args.asking.now.nodes.now c.args.course.now.marks c.args.at (lies c.requires.task.stands) in
     search rules
 
 pub work-turn_parts-requires : goal.work-turn_parts-requires
 work-turn_parts-requires t c = (
-  omega (arith, c.decreases, in_nodes c.args.asking.now.nodes.now c.args.course.now.marks c.args.at (lies c.requires.stands)),
-  parts_stand c.args.asking.now c.args.course.now.marks c.args.at c.in-Parts.in_order c.in-Parts.count (subst (TaskIn c.args.asking.now c.args.course.now.marks c.args.at) c.in-Parts.is c.requires),
+  omega (arith, c.decreases, in_nodes c.args.asking.now.nodes.now c.args.course.now.marks c.args.at (lies c.requires.task.stands)),
+  (parts_stand c.args.asking.now c.args.course.now.marks c.args.at c.in-Parts.in_order c.in-Parts.count (subst (TaskIn c.args.asking.now c.args.course.now.marks c.args.at) c.in-Parts.is c.requires.task), c.requires.space),
 )
 
-pub work-returns-in-Parts : goal.work-returns-in-Parts
-work-returns-in-Parts t c =
-    parts_work c.args.asking.now c.args.at c.args.course.now c.args.task.now c.in-Parts.in_order c.in-Parts.count c.in-Parts.is c.turn_parts.new.course c.turn_parts.result c.turn_parts.ensures
+pub work-returns-in-Parts-clause-works : goal.work-returns-in-Parts-clause-works
+work-returns-in-Parts-clause-works t c =
+    parts_work c.args.asking.now c.args.at c.args.course.now c.args.task.now c.in-Parts.in_order c.in-Parts.count c.in-Parts.is c.turn_parts.new.course c.turn_parts.result c.turn_parts.ensures.turn
 
 pub turn_parts-loop-init : goal.turn_parts-loop-init
-turn_parts-loop-init t c = start_in c.args.asking.now c.args.in_order c.args.at c.args.count c.args.course.now
+turn_parts-loop-init t c = record {
+  along = start_in c.args.asking.now c.args.in_order c.args.at c.args.count c.args.course.now;
+  space = c.requires.space;
+}
 
 pub turn_parts-node_at-requires : goal.turn_parts-node_at-requires
 turn_parts-node_at-requires t c =
-    next_in_nodes c.args.asking.now c.args.in_order c.args.at c.args.count c.args.course.now c.loop.course c.loop.place c.loop.counter c.loop.all_ended c.loop.invariant c.requires c.loop-test.true
+    next_in_nodes c.args.asking.now c.args.in_order c.args.at c.args.count c.args.course.now c.loop.course c.loop.place c.loop.counter c.loop.all_ended c.loop.invariant.along c.requires.stand c.loop-test.true
 
 pub turn_parts-overflow_add-end : goal.turn_parts-overflow_add-end
 turn_parts-overflow_add-end t c =
-    let inside = next_ends c.args.asking.now c.args.in_order c.args.at c.args.count c.args.course.now c.loop.course c.loop.place c.loop.counter c.loop.all_ended c.loop.invariant c.requires c.loop-test.true c.node_at.result.now c.node_at.ensures in
+    let inside = next_ends c.args.asking.now c.args.in_order c.args.at c.args.count c.args.course.now c.loop.course c.loop.place c.loop.counter c.loop.all_ended c.loop.invariant.along c.requires.stand c.loop-test.true c.node_at.result.now c.node_at.ensures in
     search rules
 
 pub turn_parts-turn_at-requires : goal.turn_parts-turn_at-requires
 turn_parts-turn_at-requires t c = (
-  omega (arith, c.decreases, next_in_nodes c.args.asking.now c.args.in_order c.args.at c.args.count c.args.course.now c.loop.course c.loop.place c.loop.counter c.loop.all_ended c.loop.invariant c.requires c.loop-test.true, is_behind c.args.asking.now c.args.in_order c.args.at c.args.count c.args.course.now c.loop.course c.loop.place c.loop.counter c.loop.all_ended c.loop.invariant c.requires),
-  next_stands c.args.asking.now c.args.in_order c.args.at c.args.count c.args.course.now c.loop.course c.loop.place c.loop.counter c.loop.all_ended c.loop.invariant c.requires c.loop-test.true,
+  omega (arith, c.decreases, next_in_nodes c.args.asking.now c.args.in_order c.args.at c.args.count c.args.course.now c.loop.course c.loop.place c.loop.counter c.loop.all_ended c.loop.invariant.along c.requires.stand c.loop-test.true, is_behind c.args.asking.now c.args.in_order c.args.at c.args.count c.args.course.now c.loop.course c.loop.place c.loop.counter c.loop.all_ended c.loop.invariant.along c.requires.stand),
+  (next_stands c.args.asking.now c.args.in_order c.args.at c.args.count c.args.course.now c.loop.course c.loop.place c.loop.counter c.loop.all_ended c.loop.invariant.along c.requires.stand c.loop-test.true, c.loop.invariant.space),
 )
 
-pub turn_parts-returns-then-in_order-ended : goal.turn_parts-returns-then-in_order-ended
-turn_parts-returns-then-in_order-ended t c =
-    stop_in c.args.asking.now c.args.in_order c.args.at c.args.count c.args.course.now c.loop.course c.loop.place c.loop.counter c.loop.all_ended c.loop.invariant
-    c.loop-test.true c.turn_at.new.course c.in_ok-ended.ended c.in_ok-ended.ensures c.if-in_order-ended.true
+pub turn_parts-returns-then-in_order-ended-clause-turn : goal.turn_parts-returns-then-in_order-ended-clause-turn
+turn_parts-returns-then-in_order-ended-clause-turn t c =
+    stop_in c.args.asking.now c.args.in_order c.args.at c.args.count c.args.course.now c.loop.course c.loop.place c.loop.counter c.loop.all_ended c.loop.invariant.along
+    c.loop-test.true c.turn_at.new.course c.in_ok-ended.ended c.in_ok-ended.ensures.turns c.if-in_order-ended.true
 
 pub turn_parts-loop-preserved : goal.turn_parts-loop-preserved
-turn_parts-loop-preserved t c =
-    step_in c.args.asking.now c.args.in_order c.args.at c.args.count c.args.course.now c.loop.course c.loop.place c.loop.counter c.loop.all_ended c.loop.invariant
-    c.loop-test.true c.turn_at.new.course c.in_ok-ended.ended c.in_ok-ended.ensures c.if-in_order-ended.false c.node_at.result.now c.node_at.ensures
+turn_parts-loop-preserved t c = record {
+  along =
+      step_in c.args.asking.now c.args.in_order c.args.at c.args.count c.args.course.now c.loop.course c.loop.place c.loop.counter c.loop.all_ended c.loop.invariant.along
+      c.loop-test.true c.turn_at.new.course c.in_ok-ended.ended c.in_ok-ended.ensures.turns c.if-in_order-ended.false c.node_at.result.now c.node_at.ensures;
+  space = c.in_ok-ended.ensures.space;
+}
 
-pub turn_parts-returns : goal.turn_parts-returns
-turn_parts-returns t c =
-    finish_in c.args.asking.now c.args.in_order c.args.at c.args.count c.args.course.now c.loop.course c.loop.place c.loop.counter c.loop.all_ended c.loop.invariant c.loop-test.false
+pub turn_parts-returns-clause-turn : goal.turn_parts-returns-clause-turn
+turn_parts-returns-clause-turn t c =
+    finish_in c.args.asking.now c.args.in_order c.args.at c.args.count c.args.course.now c.loop.course c.loop.place c.loop.counter c.loop.all_ended c.loop.invariant.along c.loop-test.false
