@@ -30,10 +30,10 @@ pub record AreLevels (marks : List ℕ) (levels : ℕ) (trail : List Entry) (lon
   pub first : (i : ℕ) (d : Entry) → i < long → ((k : ℕ) → k < levels → i < slice_index marks k) → IsNoChoice (slice_index_or trail i d).why
   pub derived : (i : ℕ) (d : Entry) → i < long → (k : ℕ) → k < levels → slice_index marks k < i → ((j : ℕ) → j < levels → slice_index marks j ≢ i) → IsDerived (slice_index_or trail i d).why
 
--- the trail is right up to behind the mark of a level, or no world has the blamed pairs
-abbrev pub IsAnalysed : (List ℕ → Bool) → List Pair → List ℕ → List ℕ → List Entry → List ℕ → (ℕ → Bool) → Option ℕ → Type 0
-IsAnalysed want pairs start marks trail dom blamed None = NoneHas want pairs blamed
-IsAnalysed want pairs start marks trail dom blamed (Some level) = IsTrail (Passes want) pairs start (take (slice_index marks level + 1) trail) dom
+-- the trail is right up to behind the mark of a level, and a clause is learned; or no world has the blamed pairs
+abbrev pub IsAnalysed : (List ℕ → Bool) → List Pair → List ℕ → List ℕ → List Entry → List ℕ → List ℕ → (ℕ → Bool) → Option ℕ → Type 0
+IsAnalysed want pairs start marks trail dom learn blamed None = NoneHas want pairs blamed
+IsAnalysed want pairs start marks trail dom learn blamed (Some level) = IsTrail (Passes want) pairs start (take (slice_index marks level + 1) trail) dom × IsLearned (Passes want) learn
 
 -- a place on a trail where a clause is learned: a subject has some of its values, and not all, and all other subjects have none
 pub record IsLearnedAt (W : List ℕ → Type 0) (pairs : List Pair) (start : List ℕ) (trail : List Entry) (dom learn : List ℕ) (u : ℕ) : Type 0 where

@@ -90,8 +90,8 @@ fn climb(
     None
 }
 
-/// Learns from a clash: the level on which a subject is narrower now, behind whose mark the trail ends; or none, and the blamed subjects'
-/// pairs have no world.
+/// Learns from a clash: the level on which a subject is narrower now for the clause that is learned, behind whose mark the trail ends; or
+/// none, and the blamed subjects' pairs have no world.
 pub fn analyse(
     start: &[u64],
     dom: &mut [u64],
@@ -110,7 +110,6 @@ pub fn analyse(
     ensures dom { length dom.new ≡ length dom.old }
     ensures learn { length learn.new ≡ length learn.old }
     ensures trail { length trail.new ≡ length trail.old }
-    ensures none { IfSome result (λ level. (v : ℕ) → slice_index learn.new v ≡ 0) }
     ensures less { IfSome result (λ level. level < levels) }
     ensures kept { IfSome result (λ level. take (slice_index marks.now level) trail.new ≡ take (slice_index marks.now level) trail.old) }
     ensures levels { IfSome result (λ level. AreLevels marks.now level trail.new (slice_index marks.now level + 1)) }
@@ -118,7 +117,7 @@ pub fn analyse(
     ensures analysed { (want : List ℕ → Bool) (pairs : List Pair) →
         IsClash want pairs start.now (take long trail.old) dom.old (is_in blamed.old) learn.old →
         (0 < levels → (v : ℕ) → is_in blamed.old v ≡ false) →
-        IsAnalysed want pairs start.now marks.now trail.new dom.new (is_in blamed.new) result }
+        IsAnalysed want pairs start.now marks.now trail.new dom.new learn.new (is_in blamed.new) result }
 {
     let point = climb(start, dom, learn, trail, long, marks, levels, blamed)?;
     Some(learn_from(

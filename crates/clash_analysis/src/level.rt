@@ -34,14 +34,14 @@ fn lowest(learn: &[u64], trail: &[Entry], marks: &[u16], levels: usize, u: u16) 
 /// trail ends behind its mark.
 pub fn learn_from(
     dom: &mut [u64],
-    learn: &mut [u64],
+    learn: &[u64],
     trail: &mut [Entry],
     long: usize,
     marks: &[u16],
     levels: usize,
     u: u16,
 ) -> usize
-    requires learn { length learn.old ≡ length dom.old }
+    requires learn { length learn.now ≡ length dom.old }
     requires small { length dom.old ≤ SET_SUBJECTS }
     requires subject { u < length dom.old }
     requires room { long < length trail.old }
@@ -49,19 +49,17 @@ pub fn learn_from(
     requires levels { levels ≤ length marks.now }
     requires marks { AreWithin marks.now levels long }
     requires inside { AreInside (length dom.old) (take long trail.old) }
-    requires first { All (SharesNone learn.old u) (drop (slice_index marks.now (levels - 1)) (take long trail.old)) }
+    requires first { All (SharesNone learn.now u) (drop (slice_index marks.now (levels - 1)) (take long trail.old)) }
     ensures less { result < levels }
     ensures dom { length dom.new ≡ length dom.old }
-    ensures learn { length learn.new ≡ length learn.old }
     ensures long { length trail.new ≡ length trail.old }
-    ensures none { (v : ℕ) → slice_index learn.new v ≡ 0 }
     ensures written { IsWritten trail.old (slice_index marks.now result) (length dom.old) trail.new }
     ensures trail { (want : List ℕ → Bool) (pairs : List Pair) (start : List ℕ) →
         IsTrail (Passes want) pairs start (take long trail.old) dom.old →
-        IsLearned (Passes want) learn.old →
-        AreApartBut u dom.old learn.old →
-        ((a : ℕ) × (has (slice_index dom.old u) a ≡ true) × (has (slice_index learn.old u) a ≡ true)) →
-        ((a : ℕ) × (has (slice_index dom.old u) a ≡ true) × (has (slice_index learn.old u) a ≡ false)) →
+        IsLearned (Passes want) learn.now →
+        AreApartBut u dom.old learn.now →
+        ((a : ℕ) × (has (slice_index dom.old u) a ≡ true) × (has (slice_index learn.now u) a ≡ true)) →
+        ((a : ℕ) × (has (slice_index dom.old u) a ≡ true) × (has (slice_index learn.now u) a ≡ false)) →
         IsTrail (Passes want) pairs start (take (slice_index marks.now result + 1) trail.new) dom.new }
 {
     let level = lowest(learn, &trail[..long], marks, levels, u);

@@ -70,21 +70,19 @@ pub fn clear(learn: &mut [u64])
 }
 
 /// Narrows the subject to what is learned of it, for what is learned of the others.
-pub fn narrow_learned(dom: &mut [u64], learn: &mut [u64], u: u16) -> Entry
-    requires learn { length learn.old ≡ length dom.old }
+pub fn narrow_learned(dom: &mut [u64], learn: &[u64], u: u16) -> Entry
+    requires learn { length learn.now ≡ length dom.old }
     requires small { length dom.old ≤ SET_SUBJECTS }
     requires inside { u < length dom.old }
     ensures dom { length dom.new ≡ length dom.old }
-    ensures learn { length learn.new ≡ length learn.old }
-    ensures none { (v : ℕ) → slice_index learn.new v ≡ 0 }
     ensures subject { result.subject ≡ u }
     ensures why { IsDerived result.why }
     ensures trail { (want : List ℕ → Bool) (pairs : List Pair) (start : List ℕ) (trail : List Entry) →
         IsTrail (Passes want) pairs start trail dom.old →
-        IsLearned (Passes want) learn.old →
-        AreApartBut u dom.old learn.old →
-        ((a : ℕ) × (has (slice_index dom.old u) a ≡ true) × (has (slice_index learn.old u) a ≡ true)) →
-        ((a : ℕ) × (has (slice_index dom.old u) a ≡ true) × (has (slice_index learn.old u) a ≡ false)) →
+        IsLearned (Passes want) learn.now →
+        AreApartBut u dom.old learn.now →
+        ((a : ℕ) × (has (slice_index dom.old u) a ≡ true) × (has (slice_index learn.now u) a ≡ true)) →
+        ((a : ℕ) × (has (slice_index dom.old u) a ≡ true) × (has (slice_index learn.now u) a ≡ false)) →
         IsTrail (Passes want) pairs start (trail ++ result ∷ []) dom.new }
 {
     let at = u as usize;
@@ -96,6 +94,5 @@ pub fn narrow_learned(dom: &mut [u64], learn: &mut [u64], u: u16) -> Entry
         why: Why::Because(because),
     };
     dom[at] &= e.kept;
-    clear(learn);
     e
 }

@@ -1,5 +1,7 @@
 -- One look after another.
-use Rattle.std.proofs.Common.{◌≡◌, ℕ, ◌<◌, Bool, false, List, length, get_or, take, refl, sym, ap, ◌∙◌, arith}
+use Rattle.std.proofs.Common.{◌≡◌, ℕ, ◌<◌, ◌++◌, Bool, false, Option, None, Some, List, length, get_or, take, refl, sym, ap, ◌∙◌, arith}
+use Rattle.list_laws.proofs.Elements.{all_left, all_right}
+use Rattle.std.specs.Option.{IfSome}
 use Rattle.std.proofs.lemmas.Bool.{false≢true}
 use Rattle.std.proofs.lemmas.List.{take-take}
 use Rattle.world_search.specs.declared.work.Work.{Work}
@@ -8,6 +10,8 @@ use Rattle.world_search.specs.Followed.{IsFollowed}
 use Rattle.world_search.specs.declared.words.WordClause.{WordClause}
 use Rattle.world_search.specs.declared.words.WordLiteral.{WordLiteral}
 use Rattle.world_search.specs.Words.{AreMetIn, IsMetIn}
+use Rattle.world_search.specs.declared.lessons.Slot.{Slot}
+use Rattle.world_search.specs.Lessons.{AreTaught, clause_of}
 
 pub longer_then : (one two three : Work) → IsLonger one two → IsLonger two three → IsLonger one three
 longer_then one two three a b = record {
@@ -81,3 +85,20 @@ module _ (old : Work) (head : ℕ) where
 -- one of the clauses
 pub one_met : (clauses : List WordClause) (i : ℕ) (d : WordClause) (literals : List WordLiteral) → i < length clauses → literals ≡ (get_or clauses i d).literals.items → (want : List ℕ → Bool) → AreMetIn clauses want → IsMetIn literals want
 one_met clauses i d literals h same want all = rw same (all i d h)
+
+-- the clause of one of the slots
+pub one_taught : (slots : List Slot) (i : ℕ) (d : Slot) (literals : List WordLiteral) → i < length slots → literals ≡ clause_of (get_or slots i d) → (want : List ℕ → Bool) → AreTaught slots want → IsMetIn literals want
+one_taught slots i d literals h same want all = rw same (all i d h)
+
+-- the clauses in front, and those behind
+module _ (front back : List WordClause) (want : List ℕ → Bool) where
+  pub met_front : AreMetIn (front ++ back) want → AreMetIn front want
+  met_front all = all_left (λ (c : WordClause). IsMetIn c.literals.items want) front back all
+
+  pub met_back : AreMetIn (front ++ back) want → AreMetIn back want
+  met_back all = all_right (λ (c : WordClause). IsMetIn c.literals.items want) front back all
+
+-- what holds of a value, if there is one
+pub some_weaker : {X : Type 0} (P Q : X → Type 0) → ((x : X) → P x → Q x) → (o : Option X) → IfSome o P → IfSome o Q
+some_weaker P Q weaker None is = is
+some_weaker P Q weaker (Some x) is = weaker x is

@@ -1,6 +1,7 @@
 -- What holds of a search's buffers once a clause is learned on a lower level.
-use Rattle.std.proofs.Common.{◌≡◌, ℕ, ◌+◌, ◌<◌, ◌≤◌, Bool, true, List, length, take, slice_index, refl, sym, ap, subst, ◌∙◌, arith}
-use Rattle.std.proofs.lemmas.List.{length-take-le, take-take, with_items_is}
+use Rattle.std.proofs.Common.{◌≡◌, ℕ, ◌+◌, ◌<◌, ◌≤◌, Bool, true, false, List, length, take, slice_index, slice_index_or, refl, sym, ap, subst, ◌∙◌, arith}
+use Rattle.std.proofs.lemmas.Bool.{both_ways}
+use Rattle.std.proofs.lemmas.List.{get_or_read, length-take-le, take-take, with_items_is}
 use Rattle.std.specs.Vec.{with_items}
 use Rattle.cca_base.specs.declared.cube.Pair.{Pair}
 use Rattle.cca_base.specs.declared.limits.TheConstants.{MAX_CHOICES}
@@ -13,7 +14,7 @@ use Rattle.clash_analysis.specs.Laws.{Passes}
 use Rattle.clash_analysis.proofs.EndLaws.{marks_few, weight_learned}
 use Rattle.clash_analysis.proofs.RoomLaws.{sets_left, taken}
 use Rattle.world_search.specs.declared.work.Work.{Work}
-use Rattle.world_search.specs.Works.{IsFurther, IsReady, IsRight, IsRoomy, IsShaped, KeepsBelow, weight_of}
+use Rattle.world_search.specs.Works.{IsClashed, IsFurther, IsReady, IsRight, IsRoomy, IsShaped, KeepsBelow, weight_of}
 
 -- with more subjects to blame it is a clash too
 pub clash_more : (want : List ℕ → Bool) (pairs : List Pair) (start : List ℕ) (trail : List Entry) (dom learn : List ℕ) (blamed more : ℕ → Bool) → ((v : ℕ) → blamed v ≡ true → more v ≡ true)
@@ -25,6 +26,10 @@ clash_more want pairs start trail dom learn blamed more grows clash = record {
   learned = λ xs w. clash.learned xs (w.0, λ p among is. w.1 p among (grows p.item is));
   apart = clash.apart;
 }
+
+-- a search's clash is one with some blamed too
+pub clash_on : (w : Work) (want : List ℕ → Bool) (pairs : List Pair) (more : ℕ → Bool) → IsClashed want pairs w → IsClash want pairs w.start.items (take w.long w.trail.items) w.dom.items more w.learn.items
+clash_on w want pairs more clashed = clash_more want pairs w.start.items (take w.long w.trail.items) w.dom.items w.learn.items (λ _. false) more (λ v is. absurd (both_ways false refl is)) clashed
 
 -- what a trail leaves has values, and the room for all others is on it
 module _ (w : Work) (want : List ℕ → Bool) (pairs : List Pair) (roomy : IsRoomy w) (t : IsRight want pairs w) where
@@ -78,31 +83,55 @@ module _ (old new : Work) (ready : IsReady old) (further : IsFurther old new) wh
         inside = inside;
       }
 
--- the buffers after an analysis
-abbrev pub analysed : Work → List ℕ → List ℕ → List Entry → ℕ → ℕ → Work
-analysed old d l t level mark = record old { dom = with_items old.dom d; learn = with_items old.learn l; trail = with_items old.trail t; long = mark + 1; levels = level; head = mark }
+-- the buffers after an analysis whose learned sets are cleared
+abbrev pub analysed : Work → List ℕ → List ℕ → List ℕ → List Entry → ℕ → ℕ → Work
+analysed old d l n t level mark = record old { dom = with_items old.dom d; learn = with_items (with_items old.learn l) n; trail = with_items old.trail t; long = mark + 1; levels = level; head = mark }
 
-module _ (old : Work) (d l : List ℕ) (t : List Entry) (level mark : ℕ) (dom : length d ≡ length old.dom.items) (learn : length l ≡ length old.learn.items) (trail : length t ≡ length old.trail.items) (at : mark ≡ slice_index old.marks.items level) where
+-- the learned sets, before they are cleared
+pub learn_is : (old : Work) (l : List ℕ) → length l ≡ length old.learn.items → (with_items old.learn l).items ≡ l
+learn_is old l learn = with_items_is old.learn l (learn ∙ sym old.learn.ok.0)
+
+-- a level's mark is read
+pub mark_at : (old : Work) (level mark : ℕ) → IsReady old → level < old.levels → mark ≡ slice_index_or old.marks.items level mark → mark ≡ slice_index old.marks.items level
+mark_at old level mark ready less read = get_or_read old.marks.items level mark (omega (arith, less, ready.levels.marks_room)) read 0
+
+-- the search is ready on a lower level, below which all stays
+pub record IsLowered (old new : Work) : Type 0 where
+  pub ready : IsReady new
+  pub below : KeepsBelow old new
+  pub weight : weight_of new < weight_of old
+
+module _ (old : Work) (d l n : List ℕ) (t : List Entry) (level mark : ℕ) (ready : IsReady old) (less : level < old.levels) (read : mark ≡ slice_index_or old.marks.items level mark)
+    (dom : length d ≡ length old.dom.items) (trail : length t ≡ length old.trail.items) where
   pub dom_is : (with_items old.dom d).items ≡ d
   dom_is = with_items_is old.dom d (dom ∙ sym old.dom.ok.0)
 
   pub trail_is : (with_items old.trail t).items ≡ t
   trail_is = with_items_is old.trail t (trail ∙ sym old.trail.ok.0)
 
-  pub is_further : level < old.levels → take (slice_index old.marks.items level) t ≡ take (slice_index old.marks.items level) old.trail.items → IsFurther old (analysed old d l t level mark)
-  is_further less kept = record {
-    marks = refl;
-    fewer = less;
-    long = ap (λ n. n + 1) at;
-    kept = ap (take (slice_index old.marks.items level)) trail_is ∙ kept;
-  }
+  pub right_again : (want : List ℕ → Bool) (pairs : List Pair) → IsTrail (Passes want) pairs old.start.items (take (slice_index old.marks.items level + 1) t) d → IsRight want pairs (analysed old d l n t level mark)
+  right_again want pairs right = rw (dom_is, trail_is, mark_at old level mark ready less read) right
 
-  pub right_again : (want : List ℕ → Bool) (pairs : List Pair) → IsTrail (Passes want) pairs old.start.items (take (slice_index old.marks.items level + 1) t) d → IsRight want pairs (analysed old d l t level mark)
-  right_again want pairs right = rw (dom_is, trail_is, at) right
-
-  pub ready_again : (want : List ℕ → Bool) (pairs : List Pair) → IsReady old → level < old.levels → take (slice_index old.marks.items level) t ≡ take (slice_index old.marks.items level) old.trail.items
-      → IsTrail (Passes want) pairs old.start.items (take (slice_index old.marks.items level + 1) t) d → AreLevels old.marks.items level t (slice_index old.marks.items level + 1) → AreInside (length old.dom.items) (take (slice_index old.marks.items level + 1) t)
-      → IsReady (analysed old d l t level mark)
-  ready_again want pairs ready less kept right stands inside =
-      further_ready old (analysed old d l t level mark) ready (is_further less kept) want pairs refl (ap length dom_is ∙ dom) (ap length (with_items_is old.learn l (learn ∙ sym old.learn.ok.0)) ∙ learn) (ap length trail_is ∙ trail)
-      (right_again want pairs right) (rw (trail_is, at) stands) (rw (dom_is, trail_is, at, dom) inside)
+  pub lowered : length l ≡ length old.learn.items → length n ≡ length (with_items old.learn l).items → take (slice_index old.marks.items level) t ≡ take (slice_index old.marks.items level) old.trail.items
+      → AreLevels old.marks.items level t (slice_index old.marks.items level + 1) → AreInside (length old.dom.items) (take (slice_index old.marks.items level + 1) t)
+      → (want : List ℕ → Bool) (pairs : List Pair) → IsTrail (Passes want) pairs old.start.items (take (slice_index old.marks.items level + 1) t) d
+      → IsLowered old (analysed old d l n t level mark)
+  lowered learn none kept stands inside want pairs right =
+      let new = analysed old d l n t level mark in
+      let at : mark ≡ slice_index old.marks.items level = mark_at old level mark ready less read in
+      let learned : length n ≡ length old.learn.items = none ∙ ap length (learn_is old l learn) ∙ learn in
+      let empty : new.learn.items ≡ n = with_items_is (with_items old.learn l) n (learned ∙ sym old.learn.ok.0) in
+      let same : length new.trail.items ≡ length old.trail.items = ap length trail_is ∙ trail in
+      let further : IsFurther old new = record {
+        marks = refl;
+        fewer = less;
+        long = ap (λ k. k + 1) at;
+        kept = ap (take (slice_index old.marks.items level)) trail_is ∙ kept;
+      } in
+      record {
+        ready =
+            further_ready old new ready further want pairs refl (ap length dom_is ∙ dom) (ap length empty ∙ learned) same
+            (right_again want pairs right) (rw (trail_is, at) stands) (rw (dom_is, trail_is, at, dom) inside);
+        below = further_below old new ready further;
+        weight = further_weight old new ready further same;
+      }

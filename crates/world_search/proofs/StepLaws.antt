@@ -1,28 +1,33 @@
 -- Steps of a search, one after another.
-use Rattle.std.proofs.Common.{◌≡◌, ℕ, ◌≤◌, Bool, true, false, List, ◌++◌, length, take, drop, slice_index, sym, ap, subst, ◌∙◌, arith}
+use Rattle.std.proofs.Common.{◌≡◌, ℕ, Bool, true, false, List, ◌++◌, length, take, drop, slice_index, sym, ap, subst, ◌∙◌, arith}
 use Rattle.std.proofs.lemmas.Bool.{false≢true}
-use Rattle.std.proofs.lemmas.List.{take-append-drop, take-take}
+use Rattle.std.specs.Prelude.{All, Contains}
+use Rattle.std.specs.Vec.{with_items}
+use Rattle.std.proofs.lemmas.List.{take-append-drop, take-take, with_items_is}
+use Rattle.std.proofs.lemmas.List.Elements.{All-append, All-contains}
 use Rattle.cca_base.specs.Sets.{has}
 use Rattle.cca_base.specs.declared.cube.Pair.{Pair}
 use Rattle.clash_analysis.specs.Trails.{AllWithin, AreEntries, left_by}
 use Rattle.clash_analysis.specs.Laws.{Passes}
 use Rattle.clash_analysis.proofs.TrailLaws.{entries_back, left_both}
 use Rattle.clash_analysis.proofs.UndoLaws.{left_within}
-use Rattle.world_search.specs.declared.choose.Step.{Step}
-use Rattle.world_search.specs.declared.choose.Step.TheVariants.{Found, Tried, Clash}
+use Rattle.world_search.specs.declared.lessons.Slot.{Slot}
 use Rattle.world_search.specs.declared.words.WordClause.{WordClause}
 use Rattle.world_search.specs.declared.work.Work.{Work}
-use Rattle.world_search.specs.Choices.{IsFoundFalse, IsOutcome, IsStep}
+use Rattle.world_search.specs.Choices.{IsFoundFalse, IsStep}
 use Rattle.world_search.specs.Followed.{IsFollowed}
-use Rattle.world_search.specs.Words.{AreMetIn}
-use Rattle.world_search.specs.Works.{IsClashed, IsReady, IsRight, KeepsBelow, StandsAbove, weight_of}
+use Rattle.world_search.specs.declared.lessons.Lessons.{Lessons}
+use Rattle.world_search.specs.Lessons.{AreKept, AreLessons, AreTaught, IsSlot, KeepsClauses}
+use Rattle.world_search.specs.Looked.{AreLookedAt}
+use Rattle.world_search.specs.Words.{AreMetIn, IsClauseInside, IsMetIn}
+use Rattle.world_search.specs.Works.{IsClashed, IsReady, IsRight, KeepsBelow, StandsAbove}
 use Rattle.world_search.proofs.WorkLaws.{moved_below, moved_weight}
 
 pub below_then : (one two three : Work) → KeepsBelow one two → KeepsBelow two three → KeepsBelow one three
 below_then one two three a b n stands = let x = a n stands in let y = b n x.0 in (y.0, y.1 ∙ x.1)
 
-module _ (clauses : List WordClause) where
-  pub followed_step : (old new : Work) (found : Bool) → IsReady old → IsFollowed (AreMetIn clauses) old new found → IsStep clauses old new
+module _ (holds : (List ℕ → Bool) → Type 0) where
+  pub followed_step : (old new : Work) (found : Bool) → IsReady old → IsFollowed holds old new found → IsStep holds old new
   followed_step old new found ready f = record {
     ready = f.ready;
     start = f.moved.longer.start;
@@ -32,25 +37,21 @@ module _ (clauses : List WordClause) where
     right = f.right;
   }
 
-  pub step_then : (one two three : Work) → IsStep clauses one two → IsStep clauses two three → IsStep clauses one three
-  step_then one two three a b = record {
+  -- a step by part of what holds after another
+  pub step_then : (part : (List ℕ → Bool) → Type 0) → ((want : List ℕ → Bool) → holds want → part want) → (one two three : Work) → IsStep holds one two → IsStep part two three → IsStep holds one three
+  step_then part of one two three a b = record {
     ready = b.ready;
     start = b.start ∙ a.start;
     room = b.room ∙ a.room;
     below = below_then one two three a.below b.below;
     weight = omega (arith, a.weight, b.weight);
-    right = λ want pairs holds t. b.right want pairs holds (a.right want pairs holds t);
+    right = λ want pairs is t. b.right want pairs (of want is) (a.right want pairs is t);
   }
 
-  pub outcome_then : (old mid new : Work) (trial : List ℕ) (r : Step) → weight_of mid ≤ weight_of old → IsOutcome clauses mid new trial r → IsOutcome clauses old new trial r
-  outcome_then old mid new trial Found h o = o
-  outcome_then old mid new trial Tried h o = (o.0, omega (arith, h, o.1))
-  outcome_then old mid new trial Clash h o = o
-
   -- what is learned of a false clause is a clash
-  pub found_clash : (w : Work) (want : List ℕ → Bool) (pairs : List Pair) → IsReady w → IsFoundFalse clauses w → AreMetIn clauses want → AllWithin (Passes want) w.start.items → IsRight want pairs w → IsClashed want pairs w
-  found_clash w want pairs ready found holds all t =
-      let what = found want holds all in
+  pub found_clash : (w : Work) (want : List ℕ → Bool) (pairs : List Pair) → IsReady w → IsFoundFalse holds w → holds want → AllWithin (Passes want) w.start.items → IsRight want pairs w → IsClashed want pairs w
+  found_clash w want pairs ready found is all t =
+      let what = found want is all in
       record {
         within = all;
         right = t;
@@ -68,6 +69,12 @@ none_within sets xs w v h = absurd (false≢true w)
 
 pub none_met : (clauses : List WordClause) → AreMetIn clauses none
 none_met clauses k d h xs w = absurd (false≢true w)
+
+pub none_taught : (slots : List Slot) → AreTaught slots none
+none_taught slots k d h xs w = absurd (false≢true w)
+
+pub none_looked_at : (clauses : List WordClause) (slots : List Slot) → AreLookedAt clauses slots none
+none_looked_at clauses slots = record { met = none_met clauses; taught = none_taught slots }
 
 -- what is left is within what was left below all levels
 pub within_before : (old new : Work) (pairs : List Pair) → IsRight none pairs old → IsRight none pairs new → new.start.items ≡ old.start.items → old.levels ≡ 0 → KeepsBelow old new
@@ -88,3 +95,33 @@ within_before old new pairs t u start zero below v a held =
 -- there are as many sets as there were
 pub dom_same : (old new : Work) → IsReady old → IsReady new → new.start.items ≡ old.start.items → length new.dom.items ≡ length old.dom.items
 dom_same old new a b start = b.shape.dom ∙ ap length start ∙ sym a.shape.dom
+
+-- a clause of these, or of those beside
+module _ (front back : List WordClause) (x : WordClause) (among : Contains (front ++ back) x) where
+  pub one_inside : (n : ℕ) → All (IsClauseInside n) front → All (IsClauseInside n) back → IsClauseInside n x
+  one_inside n some others = All-contains (IsClauseInside n) (front ++ back) x (All-append (IsClauseInside n) front back some others) among
+
+  pub one_of : (slots : List Slot) (want : List ℕ → Bool) → AreLookedAt (front ++ back) slots want → IsMetIn x.literals.items want
+  one_of slots want is = All-contains (λ (c : WordClause). IsMetIn c.literals.items want) (front ++ back) x is.met among
+
+-- other marks
+pub lessons_marked : (n m : ℕ) (l : Lessons) (uses : List Bool) → n ≡ m → length uses ≡ length l.uses.items → AreLessons n l → AreLessons m (record l { uses = with_items l.uses uses })
+lessons_marked n m l uses same long ok = record {
+  room = ok.room;
+  slots = subst (λ k. All (IsSlot k) l.slots.items) same ok.slots;
+  marks = ap length (with_items_is l.uses uses (long ∙ sym l.uses.ok.0)) ∙ long ∙ ok.marks;
+  counts = ok.counts ∙ same;
+}
+
+-- the same clauses
+module _ (old new : Lessons) (same : KeepsClauses old new) where
+  pub kept_same : (want : List ℕ → Bool) → AreKept old want → AreKept new want
+  kept_same want taught = rw (same.slots, same.kept) taught
+
+  pub lessons_same : (n m : ℕ) → n ≡ m → AreLessons n old → AreLessons m new
+  lessons_same n m is ok = record {
+    room = rw (same.slots, same.kept) ok.room;
+    slots = rw same.slots (subst (λ k. All (IsSlot k) old.slots.items) is ok.slots);
+    marks = same.marks ∙ ok.marks ∙ sym (ap length same.slots);
+    counts = same.counts ∙ ok.counts ∙ is;
+  }

@@ -103,12 +103,12 @@ module _ (clauses : List Clause) (words : List WordClause) (same : AllZip Means 
   no_world none xs world = none xs (test_world clauses base xs world)
 
   -- an answer over what is left is one over what is seen
-  pub answer_of : (start world : List ℕ) (pairs : List Pair) (answer : Answer) → length start ≡ length base → length world ≡ length base → AreWithinSets start base
-      → ((xs : List ℕ) → IsSolution clauses base xs → (v : ℕ) → v < length start → has (slice_index start v) (slice_index xs v) ≡ true) → IsAnswerOn words start world pairs answer → IsAnswer clauses base world pairs answer
-  answer_of start world pairs Agrees long full within all on =
+  pub answer_of : (holds : (List ℕ → Bool) → Type 0) → holds (is_world clauses base) → (start world : List ℕ) (pairs : List Pair) (answer : Answer) → length start ≡ length base → length world ≡ length base → AreWithinSets start base
+      → ((xs : List ℕ) → IsSolution clauses base xs → (v : ℕ) → v < length start → has (slice_index start v) (slice_index xs v) ≡ true) → IsAnswerOn holds words start world pairs answer → IsAnswer clauses base world pairs answer
+  answer_of holds is start world pairs Agrees long full within all on =
       let of : (v : ℕ) → v < length base → has (slice_index base v) (slice_index world v) ≡ true = λ v h. within v (slice_index world v) (on.0 v (subst (λ n. v < n) (sym long) h)) in (
         record { full = full; within = of; met = met_words world clauses words same on.1 },
         on.2,
       )
-  answer_of start world pairs (Clash set) long full within all on = λ xs is having.
-      on (is_world clauses base) met_in_worlds (λ ys passes. all ys (world_of clauses base ys passes)) xs (test_world clauses base xs is, having)
+  answer_of holds is start world pairs (Clash set) long full within all on = λ xs world having.
+      on (is_world clauses base) is (λ ys passes. all ys (world_of clauses base ys passes)) xs (test_world clauses base xs world, having)

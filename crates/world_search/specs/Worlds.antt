@@ -10,7 +10,6 @@ use Rattle.clash_analysis.specs.Laws.{Passes}
 use Rattle.clash_analysis.specs.Learning.{HasPairs}
 use Rattle.clash_analysis.specs.Subjects.{is_in}
 use Rattle.world_search.specs.declared.words.WordClause.{WordClause}
-use Rattle.world_search.specs.Words.{AreMetIn}
 use Rattle.world_search.specs.Choices.{AllMetBy, AreOf}
 use Rattle.world_search.specs.declared.answer.Answer.{Answer}
 use Rattle.world_search.specs.declared.answer.Answer.TheVariants.{Agrees, Clash}
@@ -30,7 +29,7 @@ abbrev pub IsAnswer : List Clause → List ℕ → List ℕ → List Pair → An
 IsAnswer clauses base world pairs Agrees = IsSolution clauses base world × HasAll pairs world
 IsAnswer clauses base world pairs (Clash set) = (xs : List ℕ) → IsSolution clauses base xs → HasPairs pairs (is_in set) xs → ⊥
 
--- the world at hand is of these sets, with all clauses of words true and all pairs; or no list that passes a test in whose worlds the clauses are true, and which is within the sets, has the pairs of the set's subjects
-abbrev pub IsAnswerOn : List WordClause → List ℕ → List ℕ → List Pair → Answer → Type 0
-IsAnswerOn clauses start world pairs Agrees = AreOf start world × AllMetBy world clauses × HasAll pairs world
-IsAnswerOn clauses start world pairs (Clash set) = (want : List ℕ → Bool) → AreMetIn clauses want → AllWithin (Passes want) start → NoneHas want pairs (is_in set)
+-- the world at hand is of these sets, with all clauses of words true and all pairs; or no list that passes a test of which something holds, and which is within the sets, has the pairs of the set's subjects
+abbrev pub IsAnswerOn : ((List ℕ → Bool) → Type 0) → List WordClause → List ℕ → List ℕ → List Pair → Answer → Type 0
+IsAnswerOn holds clauses start world pairs Agrees = AreOf start world × AllMetBy world clauses × HasAll pairs world
+IsAnswerOn holds clauses start world pairs (Clash set) = (want : List ℕ → Bool) → holds want → AllWithin (Passes want) start → NoneHas want pairs (is_in set)

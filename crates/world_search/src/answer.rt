@@ -1,22 +1,28 @@
 //! The answer to a question.
 
-ghost use Rattle.std.specs.Prelude.{◌≡◌, ℕ, Bool, ◌<◌, List, length, Contains, All};
+ghost use Rattle.std.specs.Prelude.{◌≡◌, ℕ, Bool, ◌<◌, ◌++◌, true, List, length, take, Contains, All};
 ghost use Rattle.cca_base.specs.declared.cube.Pair.{Pair};
 ghost use Rattle.clash_analysis.specs.Clashes.{NoneHas};
 ghost use Rattle.clash_analysis.specs.Laws.{Passes};
 ghost use Rattle.clash_analysis.specs.Subjects.{is_in};
 ghost use Rattle.clash_analysis.specs.Trails.{AllWithin};
 ghost use Rattle.world_search.specs.Assumed.{AreAsked, IsLost};
-ghost use Rattle.world_search.specs.Mended.{HasRoom};
-ghost use Rattle.world_search.specs.Words.{IsClauseInside};
+ghost use Rattle.world_search.specs.Choices.{AllMetBy, AreOf};
+ghost use Rattle.world_search.specs.Lessons.{AreKept};
+ghost use Rattle.world_search.specs.Looked.{AreLookedAt};
+ghost use Rattle.world_search.specs.Spaces.{AreBuffers, KeepsSearch, world_in};
+ghost use Rattle.world_search.specs.Words.{AreMetIn, IsClauseInside};
 ghost use Rattle.world_search.specs.Works.{IsReady, IsRight, IsRoomy, IsShaped};
-ghost use Rattle.world_search.specs.Worlds.{IsAnswerOn};
+ghost use Rattle.world_search.specs.Worlds.{HasAll, IsAnswerOn};
 
 use crate::assume::assume_all;
-use crate::mend::{Mending, mend};
+use crate::choose::broken;
+use crate::mend::mend;
 use crate::restart::restart_at;
 use crate::rules::Rules;
 use crate::search::search_world;
+use crate::space::Space;
+use crate::words::WordClause;
 use crate::work::Work;
 use cca_base::Pair;
 use clash_analysis::{SubjectSet, blame, no_subject, with_subject};
@@ -53,41 +59,69 @@ fn blame_pair(work: &mut Work, pair: Pair) -> SubjectSet
     blamed
 }
 
-/// Whether some world of the clauses and of what is left has the pairs. If so it is put in the place of the world at hand.
-pub fn answer_on(
-    rules: &Rules,
-    work: &mut Work,
-    world: &mut [u8],
-    trial: &mut [u8],
-    mending: &mut Mending,
-    pairs: &[Pair],
-) -> Answer
-    requires shape { IsShaped work.old }
-    requires roomy { IsRoomy work.old }
-    requires inside { All (IsClauseInside (length work.old.start.items)) rules.now.clauses.items }
-    requires world { length world.old ≡ length work.old.start.items }
-    requires trial { length trial.old ≡ length work.old.start.items }
-    requires mending { HasRoom (length work.old.start.items) mending.old }
-    requires asked { AreAsked (length work.old.start.items) pairs.now }
-    ensures shape { IsShaped work.new }
-    ensures start { work.new.start.items ≡ work.old.start.items }
-    ensures room { length work.new.trail.items ≡ length work.old.trail.items }
-    ensures world { length world.new ≡ length world.old }
-    ensures trial { length trial.new ≡ length trial.old }
-    ensures mending { HasRoom (length work.old.start.items) mending.new }
-    ensures answer { IsAnswerOn rules.now.clauses.items work.old.start.items world.new pairs.now result }
+/// Whether the world at hand can be mended so that it has the pairs. It is then, and the mended one is at hand.
+fn is_mended(rules: &Rules, beside: &[WordClause], space: &mut Space, pairs: &[Pair]) -> bool
+    requires buffers { AreBuffers (length space.old.base.items) space.old }
+    requires roomy { IsRoomy space.old.work }
+    requires inside { All (IsClauseInside (length space.old.base.items)) rules.now.clauses.items }
+    requires beside { All (IsClauseInside (length space.old.base.items)) beside.now }
+    requires asked { AreAsked (length space.old.base.items) pairs.now }
+    ensures buffers { AreBuffers (length space.old.base.items) space.new }
+    ensures same { KeepsSearch space.old space.new }
+    ensures answer { result ≡ true → AreOf space.old.work.start.items (world_in space.new)
+        × AllMetBy (world_in space.new) (rules.now.clauses.items ++ beside.now) × HasAll pairs.now (world_in space.new) }
 {
-    if mend(rules, &work.start, world, trial, mending, pairs) {
-        world.copy_from_slice(trial);
+    if !mend(
+        rules,
+        &space.work.start,
+        &space.world,
+        &mut space.trial,
+        &mut space.mending,
+        pairs,
+    ) || broken(beside, &space.trial).is_some()
+    {
+        return false;
+    }
+    space.world.copy_from_slice(&space.trial);
+    true
+}
+
+/// Whether some world of the clauses, and of what is left, has the pairs. If so it is put in the place of the world at hand.
+pub fn answer_on(rules: &Rules, beside: &[WordClause], space: &mut Space, pairs: &[Pair]) -> Answer
+    requires buffers { AreBuffers (length space.old.base.items) space.old }
+    requires roomy { IsRoomy space.old.work }
+    requires inside { All (IsClauseInside (length space.old.base.items)) rules.now.clauses.items }
+    requires beside { All (IsClauseInside (length space.old.base.items)) beside.now }
+    requires asked { AreAsked (length space.old.base.items) pairs.now }
+    ensures buffers { AreBuffers (length space.old.base.items) space.new }
+    ensures start { space.new.work.start.items ≡ space.old.work.start.items }
+    ensures room { length space.new.work.trail.items ≡ length space.old.work.trail.items }
+    ensures base { space.new.base.items ≡ space.old.base.items }
+    ensures stuck { space.new.stuck ≡ space.old.stuck }
+    ensures near { space.new.near ≡ space.old.near }
+    ensures kept { (want : List ℕ → Bool) → AreMetIn (rules.now.clauses.items ++ beside.now) want →
+        AllWithin (Passes want) space.old.work.start.items → AreKept space.old.lessons want → AreKept space.new.lessons want }
+    ensures answer { IsAnswerOn (AreLookedAt (rules.now.clauses.items ++ beside.now) (take space.old.lessons.kept space.old.lessons.slots.items))
+        (rules.now.clauses.items ++ beside.now) space.old.work.start.items (world_in space.new) pairs.now result }
+{
+    if is_mended(rules, beside, space, pairs) {
         return Answer::Agrees;
     }
-    restart_at(work);
-    if let Some(pair) = assume_all(work, pairs) {
-        return Answer::Clash(blame_pair(work, pair));
+    restart_at(&mut space.work);
+    if let Some(pair) = assume_all(&mut space.work, pairs) {
+        return Answer::Clash(blame_pair(&mut space.work, pair));
     }
-    if let Some(blamed) = search_world(rules, work, world, trial) {
+    space.lessons.clashes = 0;
+    if let Some(blamed) = search_world(
+        rules,
+        beside,
+        &mut space.work,
+        &mut space.lessons,
+        &space.world,
+        &mut space.trial,
+    ) {
         return Answer::Clash(blamed);
     }
-    world.copy_from_slice(trial);
+    space.world.copy_from_slice(&space.trial);
     Answer::Agrees
 }

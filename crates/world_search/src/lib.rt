@@ -3,9 +3,12 @@
 
 mod answer;
 mod assume;
+mod beside;
 mod choose;
 mod learn;
+mod lessons;
 mod mend;
+mod naming;
 mod problem;
 mod propagate;
 mod restart;
@@ -20,6 +23,7 @@ mod words;
 mod work;
 
 pub use answer::Answer;
+pub use beside::Beside;
 pub use problem::Problem;
 pub use space::Space;
 pub use words::has_value;

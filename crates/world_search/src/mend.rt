@@ -11,7 +11,7 @@ ghost use Rattle.world_search.specs.Words.{AreInside, IsClauseInside};
 ghost use Rattle.world_search.specs.Worlds.{HasAll};
 
 use crate::choose::{broken, least};
-use crate::rules::Rules;
+use crate::rules::{Rules, places_at};
 use crate::words::{WordLiteral, has_value, is_met};
 use cca_base::Pair;
 
@@ -195,10 +195,9 @@ fn mend_changed(rules: &Rules, start: &[u64], trial: &mut [u8], mending: &mut Me
     'changed: while at < mending.end && at < mending.queue.len() {
         let subject = mending.queue[at];
         at += 1;
-        if let Some(places) = rules.places.get(subject as usize) {
-            if !mend_places(rules, places.as_slice(), start, trial, mending) {
-                return false;
-            }
+        let places = places_at(rules, subject);
+        if !mend_places(rules, places, start, trial, mending) {
+            return false;
         }
     }
     true

@@ -1,14 +1,16 @@
 //! Clauses, made ready once for all questions.
 
-ghost use Rattle.std.specs.Prelude.{◌≡◌, ℕ, ◌<◌, ◌≤◌, true, List, length, slice_index, IfOk};
+ghost use Rattle.std.specs.Prelude.{◌≡◌, ℕ, ◌-◌, ◌<◌, ◌≤◌, ◌++◌, true, List, length, slice_index, sum_by, IfOk};
 ghost use Rattle.cca_base.specs.Sets.{has};
 ghost use Rattle.clash_analysis.specs.declared.subjects.TheConstants.{SET_SUBJECTS};
 ghost use Rattle.clause_form.specs.Clauses.{AreClauses};
 ghost use Rattle.world_search.specs.Assumed.{AreAsked};
-ghost use Rattle.world_search.specs.Spaces.{AreInSizes, IsSpace, base_in, world_in};
+ghost use Rattle.world_search.specs.Spaces.{AreBuffers, AreInSizes, IsSpace, base_in, world_in};
 ghost use Rattle.world_search.specs.Worlds.{IsAnswer, IsSolution};
 
 use crate::answer::{Answer, answer_on};
+use crate::beside::Beside;
+use crate::lessons::{forget, lessons_for};
 use crate::mend::Mending;
 use crate::restart::begin_with;
 use crate::room::{room_for, work_of};
@@ -16,6 +18,7 @@ use crate::rules::{Rules, rules_of};
 use crate::seen::put_words;
 use crate::space::Space;
 use crate::vary::vary_from;
+use crate::words::WordClause;
 use cca_base::{Pair, ValueSet};
 use clash_analysis::no_subject;
 use clause_form::{Clauses, Sizes};
@@ -64,11 +67,13 @@ impl Problem {
 
     /// Buffers for questions. Until `see` says what each subject may be, it may be nothing. The error is out of memory.
     pub fn space(&self, alloc: Global) -> Result<Space, AllocError>
-        ensures { IfOk result (IsSpace self.now) }
+        ensures space { IfOk result (IsSpace self.now) }
+        ensures none { IfOk result (λ s. (v : ℕ) → slice_index (base_in s) v ≡ 0) }
     {
         let room = room_for(&self.clauses.sizes);
         let base = vec![in alloc; 0; room.subjects]?;
-        let mut work = work_of(alloc, &room)?;
+        let work = work_of(alloc, &room)?;
+        let lessons = lessons_for(alloc, room.slots, room.subjects)?;
         let world = vec![in alloc; 0; room.subjects]?;
         let trial = vec![in alloc; 0; room.subjects]?;
         let mending = Mending {
@@ -76,15 +81,31 @@ impl Problem {
             queue: vec![in alloc; 0; room.subjects]?,
             end: 0,
         };
-        let stuck = begin_with(&self.rules, &mut work, &base);
-        Ok(Space {
+        let mut space = Space {
             base,
             work,
+            lessons,
             world,
             trial,
             mending,
-            stuck,
-        })
+            stuck: true,
+            near: false,
+        };
+        self.begin(&mut space, None);
+        Ok(space)
+    }
+
+    /// Begins anew with the sets that the buffers have. With clauses beside, only what names a subject of theirs is looked at first.
+    fn begin(&self, space: &mut Space, near: Option<&[WordClause]>)
+        requires buffers { AreBuffers (length self.now.sizes) space.old }
+        requires room { length space.old.work.trail.items ≡ sum_by (λ n. n - 1) self.now.sizes }
+        requires sizes { AreInSizes self.now.sizes (base_in space.old) }
+        ensures space { IsSpace self.now space.new }
+        ensures base { base_in space.new ≡ base_in space.old }
+    {
+        space.near = near.is_some();
+        forget(&mut space.lessons);
+        space.stuck = begin_with(&self.rules, near, &mut space.work, &space.base);
     }
 
     /// From now on each subject may be what its set says. Where that is nothing new, nothing is done.
@@ -95,18 +116,35 @@ impl Problem {
         ensures space { IsSpace self.now space.new }
         ensures base { base_in space.new ≡ sets.now }
     {
-        if put_words(sets, &mut space.base) {
-            space.stuck = begin_with(&self.rules, &mut space.work, &space.base);
+        if put_words(sets, &mut space.base) || space.near {
+            self.begin(space, None);
         }
     }
 
-    /// What unit propagation leaves of the subject's values, as a word: the value of each world is among it.
+    /// The same, but only what the clauses say that name a subject of those beside, and what follows, is known from now on. It is less work than `see`.
+    pub fn see_near(&self, space: &mut Space, sets: &[ValueSet], beside: &Beside)
+        requires space { IsSpace self.now space.old }
+        requires full { length sets.now ≡ length self.now.sizes }
+        requires sizes { AreInSizes self.now.sizes sets.now }
+        ensures space { IsSpace self.now space.new }
+        ensures base { base_in space.new ≡ sets.now }
+    {
+        if put_words(sets, &mut space.base) || space.near {
+            self.begin(space, Some(beside.words.as_slice()));
+        }
+    }
+
+    /// What unit propagation leaves of the subject's values, as a word: the value of each world is among it. It is 0 where it is known that there is no world.
     pub fn left(&self, space: &Space, subject: usize) -> u64
         requires space { IsSpace self.now space.now }
         requires subject { subject < length self.now.sizes }
         ensures { (xs : List ℕ) → IsSolution self.now.clauses (base_in space.now) xs → has result (slice_index xs subject) ≡ true }
     {
-        space.work.start[subject]
+        if space.stuck {
+            0
+        } else {
+            space.work.start[subject]
+        }
     }
 
     /// Puts another value at hand for each subject that has one left. So the next question begins far from the world that was found last.
@@ -129,13 +167,23 @@ impl Problem {
         if space.stuck {
             return Answer::Clash(no_subject());
         }
-        answer_on(
-            &self.rules,
-            &mut space.work,
-            &mut space.world,
-            &mut space.trial,
-            &mut space.mending,
-            pairs,
-        )
+        answer_on(&self.rules, &[], space, pairs)
+    }
+
+    /// The same of the worlds in which the clauses beside are true too.
+    pub fn ask_beside(&self, space: &mut Space, beside: &Beside, pairs: &[Pair]) -> Answer
+        requires space { IsSpace self.now space.old }
+        requires beside { beside.now.sizes ≡ self.now.sizes }
+        requires pairs { AreAsked (length self.now.sizes) pairs.now }
+        ensures space { IsSpace self.now space.new }
+        ensures base { base_in space.new ≡ base_in space.old }
+        ensures answer { IsAnswer (self.now.clauses ++ beside.now.clauses) (base_in space.new) (world_in space.new) pairs.now result }
+    {
+        if space.stuck {
+            return Answer::Clash(no_subject());
+        }
+        let answer = answer_on(&self.rules, beside.words.as_slice(), space, pairs);
+        forget(&mut space.lessons);
+        answer
     }
 }

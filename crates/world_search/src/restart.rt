@@ -11,8 +11,9 @@ ghost use Rattle.world_search.specs.Settled.{AreWithinSets, NonePasses};
 ghost use Rattle.world_search.specs.Words.{AreMetIn, IsClauseInside};
 ghost use Rattle.world_search.specs.Works.{IsClear, IsReady, IsRight, IsRoomy, IsShaped};
 
-use crate::propagate::{follow_trail, visit_all};
+use crate::propagate::follow_first;
 use crate::rules::Rules;
+use crate::words::WordClause;
 use crate::work::Work;
 use clash_analysis::clear;
 
@@ -48,8 +49,9 @@ fn all_some(base: &[u64]) -> bool
     true
 }
 
-/// Begins with these sets, and what all clauses leave of them. True comes where that is nothing: there is no world.
-pub fn begin_with(rules: &Rules, work: &mut Work, base: &[u64]) -> bool
+/// Begins with these sets, and what the clauses leave of them: all of them, or those that name a subject of the ones beside, if there are these, and what
+/// follows. True comes where that is nothing: there is no world.
+pub fn begin_with(rules: &Rules, near: Option<&[WordClause]>, work: &mut Work, base: &[u64]) -> bool
     requires shape { IsShaped work.old }
     requires base { length base.now ≡ length work.old.start.items }
     requires room { count_all MAX_CHOICES base.now ≤ length work.old.trail.items + length base.now }
@@ -67,7 +69,7 @@ pub fn begin_with(rules: &Rules, work: &mut Work, base: &[u64]) -> bool
     }
     work.start.copy_from_slice(base);
     restart_at(work);
-    if visit_all(rules.clauses.as_slice(), work) || follow_trail(rules, work) {
+    if follow_first(rules, near, work) {
         return true;
     }
     work.start.copy_from_slice(&work.dom);

@@ -1,4 +1,4 @@
-//! How large the buffers of a workspace are.
+//! The sizes of a workspace's buffers.
 
 ghost use Rattle.std.specs.Prelude.{◌≡◌, ◌-◌, ◌≤◌, length, sum_by, All, IfOk};
 ghost use Rattle.cca_base.specs.declared.limits.TheConstants.{MAX_CHOICES};
@@ -6,10 +6,14 @@ ghost use Rattle.world_search.specs.Works.{IsShaped};
 ghost use Rattle.clash_analysis.specs.declared.subjects.TheConstants.{SET_SUBJECTS};
 ghost use Rattle.world_search.specs.declared.work.TheConstants.{MAX_ROOM};
 
+use crate::lessons::MAX_SLOTS;
 use crate::work::Work;
 use clash_analysis::{Entry, Why};
 use clause_form::Sizes;
 use std::alloc::{AllocError, Global};
+
+/// How many learned clauses may be kept for each entry of a trail, so that a small model makes a small store.
+const SLOTS_EACH: usize = 4;
 
 /// How large the buffers of a workspace are.
 #[derive(Clone, Copy)]
@@ -18,6 +22,8 @@ pub struct Room {
     pub subjects: usize,
     /// The most entries of a trail: all values of all subjects, but one of each.
     pub entries: usize,
+    /// How many learned clauses may be kept.
+    pub slots: usize,
 }
 
 /// The room that subjects of these sizes need.
@@ -35,6 +41,7 @@ pub fn room_for(sizes: &Sizes) -> Room
     Room {
         subjects: sizes.len(),
         entries,
+        slots: MAX_SLOTS.min(SLOTS_EACH * entries),
     }
 }
 

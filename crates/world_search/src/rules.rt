@@ -48,6 +48,14 @@ fn places_of(
     Ok(places)
 }
 
+/// The places of the clauses that name the subject.
+pub fn places_at<'a>(rules: &'a Rules, subject: u16) -> &'a [usize] {
+    match rules.places.get(subject as usize) {
+        Some(places) => places.as_slice(),
+        None => &[],
+    }
+}
+
 /// The clauses with words for sets, and their index. The error is out of memory.
 pub fn rules_of(
     alloc: Global,

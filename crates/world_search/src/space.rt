@@ -3,6 +3,7 @@
 ghost use Rattle.std.specs.Prelude.{◌≡◌};
 ghost use Rattle.world_search.specs.Spaces.{world_in};
 
+use crate::lessons::Lessons;
 use crate::mend::Mending;
 use crate::work::Work;
 
@@ -10,18 +11,21 @@ use crate::work::Work;
 #[derive(Drop)]
 pub struct Space {
     /// What each subject may be, by what is seen.
-    pub base: Vec<u64>,
-    pub work: Work,
+    pub(crate) base: Vec<u64>,
+    pub(crate) work: Work,
+    pub(crate) lessons: Lessons,
     /// The world that was found last, or any values.
-    pub world: Vec<u8>,
-    pub trial: Vec<u8>,
-    pub mending: Mending,
+    pub(crate) world: Vec<u8>,
+    pub(crate) trial: Vec<u8>,
+    pub(crate) mending: Mending,
     /// Whether it is known that there is no world.
-    pub stuck: bool,
+    pub(crate) stuck: bool,
+    /// Whether some clauses alone were looked at.
+    pub(crate) near: bool,
 }
 
 impl Space {
-    /// The world at hand: that of the last question whose pairs some world has.
+    /// The values at hand: after a question whose pairs some world has, that world.
     pub fn world(&self) -> &[u8]
         ensures { result.now ≡ world_in self.now }
     {

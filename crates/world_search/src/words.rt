@@ -1,6 +1,6 @@
 //! Clauses whose sets of values are words of bits.
 
-ghost use Rattle.std.specs.Prelude.{◌≡◌, length, All, IfOk};
+ghost use Rattle.std.specs.Prelude.{◌≡◌, ◌≢◌, ℕ, true, length, All, IfOk};
 ghost use Rattle.std.specs.List.{AllZip};
 ghost use Rattle.cca_base.specs.Sets.{has};
 ghost use Rattle.clause_form.specs.Clauses.{AllBelow, AreBelow};
@@ -29,6 +29,17 @@ pub fn has_value(word: u64, value: u8) -> bool
     ensures { result ≡ has word value }
 {
     (value as usize) < MAX_CHOICES && (word >> value) & 1 == 1
+}
+
+/// The set without the value.
+pub fn without(word: u64, value: u8) -> u64
+    ensures { (a : ℕ) → has result a ≡ true → (has word a ≡ true) × (a ≢ value) }
+{
+    if (value as usize) < MAX_CHOICES {
+        word & !(1u64 << value)
+    } else {
+        word
+    }
 }
 
 /// Whether some literal is true.

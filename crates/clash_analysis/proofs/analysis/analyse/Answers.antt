@@ -29,4 +29,4 @@ returns-clause-inside c =
 pub returns-clause-analysed : goal.returns-clause-analysed
 returns-clause-analysed c want pairs clash empty =
     let at = c.in_ok-point.ensures.climbed want pairs clash empty in
-    c.learn_from.ensures.trail want pairs c.args.start.now at.right at.learned at.apart at.left at.less
+    (c.learn_from.ensures.trail want pairs c.args.start.now at.right at.learned at.apart at.left at.less, at.learned)

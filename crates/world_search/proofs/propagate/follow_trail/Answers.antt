@@ -4,8 +4,8 @@ use Rattle.world_search.specs.Words.{AreMetIn}
 use Rattle.world_search.proofs.FollowLaws.{dom_long, followed_headed, followed_then, headed}
 use Rattle.world_search.proofs.propagate.follow_trail.Goals as goal
 
-pub returns-then-visit_places : goal.returns-then-visit_places
-returns-then-visit_places c =
+pub returns-then-visit_places-clause-followed : goal.returns-then-visit_places-clause-followed
+returns-then-visit_places-clause-followed c =
     let clauses = c.args.rules.now.clauses.items in
     let old = c.following.work in
     followed_then (AreMetIn clauses) (AreMetIn clauses) (λ want is. is) c.args.work.now old c.visit_places.new.work true c.following.invariant.followed
@@ -13,8 +13,8 @@ returns-then-visit_places c =
     (subst (λ b. IsFollowed (AreMetIn clauses) (headed old (old.head + 1)) c.visit_places.new.work b) c.if-visit_places.true
     (subst (λ cs. IsFollowed (AreMetIn cs) (headed old (old.head + 1)) c.visit_places.new.work c.visit_places.result) c.as_slice.ensures.value c.visit_places.ensures.followed)))
 
-pub following-preserved-else-visit_places : goal.following-preserved-else-visit_places
-following-preserved-else-visit_places c =
+pub following-preserved : goal.following-preserved
+following-preserved c =
     let clauses = c.args.rules.now.clauses.items in
     let old = c.following.work in
     let last : IsFollowed (AreMetIn clauses) old c.visit_places.new.work false = followed_headed old (old.head + 1) (AreMetIn clauses) c.visit_places.new.work false

@@ -6,5 +6,6 @@ use Rattle.world_search.proofs.propagate.visit_all.Given as goal
 abbrev pub invariant-loop-clause : goal.invariant-loop-clause
 invariant-loop-clause l = record {
   followed : IsFollowed (AreMetIn l.clauses) l.fn.work l.work false;
+  head : l.work.head ≡ l.fn.work.head;
   long : length l.work.dom.items ≡ length l.fn.work.dom.items;
 }

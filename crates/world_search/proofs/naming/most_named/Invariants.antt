@@ -1,0 +1,6 @@
+use Rattle.std.proofs.Common.{IfSome}
+use Rattle.world_search.specs.Choices.{IsOpen}
+use Rattle.world_search.proofs.naming.most_named.Given as goal
+
+abbrev pub invariant-loop-v : goal.invariant-loop-v
+invariant-loop-v l = IfSome l.best (IsOpen l.dom)
