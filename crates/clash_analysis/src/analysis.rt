@@ -29,7 +29,8 @@ pub struct Point {
 fn is_learned(learn: &[u64], back: &[Entry], e: &Entry) -> bool
     requires inside { AreInside (length learn.now) back.now }
     requires subject { e.now.subject < length learn.now }
-    ensures yes { OnTrue result (((a : ℕ) × (has e.now.before a ≡ true) × (has (slice_index learn.now e.now.subject) a ≡ true)) × All (SharesNone learn.now e.now.subject) back.now) }
+    ensures yes { OnTrue result (((a : ℕ) × (has e.now.before a ≡ true)
+        × (has (slice_index learn.now e.now.subject) a ≡ true)) × All (SharesNone learn.now e.now.subject) back.now) }
     ensures no { OnFalse result (bit_and (slice_index learn.now e.now.subject) e.now.before ≢ 0 → 0 < length back.now) }
 {
     if learn[e.subject as usize] & e.before == 0 {
@@ -111,7 +112,8 @@ pub fn analyse(
     ensures learn { length learn.new ≡ length learn.old }
     ensures trail { length trail.new ≡ length trail.old }
     ensures less { IfSome result (λ level. level < levels) }
-    ensures kept { IfSome result (λ level. take (slice_index marks.now level) trail.new ≡ take (slice_index marks.now level) trail.old) }
+    ensures kept { IfSome result (λ level. take (slice_index marks.now level) trail.new
+        ≡ take (slice_index marks.now level) trail.old) }
     ensures levels { IfSome result (λ level. AreLevels marks.now level trail.new (slice_index marks.now level + 1)) }
     ensures inside { IfSome result (λ level. AreInside (length dom.old) (take (slice_index marks.now level + 1) trail.new)) }
     ensures analysed { (want : List ℕ → Bool) (pairs : List Pair) →

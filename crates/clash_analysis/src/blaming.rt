@@ -27,7 +27,8 @@ pub fn take_back(
     requires inside { e.now.subject < length dom.old }
     ensures dom { length dom.new ≡ length dom.old }
     ensures learn { length learn.new ≡ length learn.old }
-    ensures still { (bit_and (slice_index learn.old e.now.subject) e.now.before ≢ 0 → IsDerived e.now.why) → blamed.new ≡ blamed.old }
+    ensures still { (bit_and (slice_index learn.old e.now.subject) e.now.before ≢ 0 → IsDerived e.now.why) →
+        blamed.new ≡ blamed.old }
     ensures clash { (want : List ℕ → Bool) (pairs : List Pair) (trail : List Entry) →
         (bit_and (slice_index learn.old e.now.subject) e.now.before ≢ 0 → IsNoChoice e.now.why) →
         IsClash want pairs start.now (trail ++ e.now ∷ []) dom.old (is_in blamed.old) learn.old →

@@ -30,28 +30,19 @@ use Rattle.consistency.specs.Found.{FitsSeen, FitsAndDenies}
 sizes_few : (m : PlantModel) (sizes : List ℕ) → sizes ≡ mode_counts m ++ value_counts m → WellFormed m → All (λ n. n ≤ MAX_CHOICES) sizes
 sizes_few m sizes same good = subst (All (λ n. n ≤ MAX_CHOICES)) (sym same) (counts_few m good)
 
--- modes are of the first subjects
-pub mode_pairs : (m : PlantModel) (sizes : List ℕ) (modes : List Pair) → sizes ≡ mode_counts m ++ value_counts m → WellFormed m
-    → All (λ p. HasMode m p.item p.value) modes → ArePairs (length sizes) 0 modes
-mode_pairs m sizes modes s good h =
-    All-weaker (λ p. HasMode m p.item p.value) (λ p. (0 + p.item < length sizes) × (p.value < MAX_CHOICES))
+-- modes are of the first subjects, so a question may have them
+pub asked_modes : (m : PlantModel) (sizes : List ℕ) (modes : List Pair) → sizes ≡ mode_counts m ++ value_counts m → WellFormed m
+    → All (λ p. HasMode m p.item p.value) modes → AreAsked (length sizes) modes
+asked_modes m sizes modes s good h =
+    All-weaker (λ p. HasMode m p.item p.value) (λ p. (p.item < length sizes) × (p.value < MAX_CHOICES))
     (λ p k.
     let inside : p.item < length m.components = mode_within m p.item p.value k in
-    let here : 0 + p.item < length sizes = omega (arith, subjects_counted m, ap length s) in
+    let here : p.item < length sizes = omega (arith, subjects_counted m, ap length s) in
     let full : p.item < length (mode_counts m) = omega (arith, length-map m.components (λ c. length c.modes)) in
     let count : slice_index sizes p.item ≡ slice_index (mode_counts m) p.item = ap (λ (xs : List ℕ). slice_index xs p.item) s ∙ get_or_append_left (mode_counts m) (value_counts m) 0 p.item full in
-    let most : slice_index sizes p.item ≤ MAX_CHOICES = sizes_few m sizes s good p.item 0 (omega (arith, here)) in
+    let most : slice_index sizes p.item ≤ MAX_CHOICES = sizes_few m sizes s good p.item 0 here in
     (here, omega (arith, k, most, count)))
     modes h
-
-zero_plus : (n : ℕ) → 0 + n ≡ n
-zero_plus n = omega arith
-
--- so a question may have them
-pub asked_modes : (m : PlantModel) (sizes : List ℕ) (modes : List Pair) → sizes ≡ mode_counts m ++ value_counts m → WellFormed m → All (λ p. HasMode m p.item p.value) modes → AreAsked (length sizes) modes
-asked_modes m sizes modes s good h =
-    All-weaker (λ (p : Pair). (0 + p.item < length sizes) × (p.value < MAX_CHOICES)) (λ (p : Pair). (p.item < length sizes) × (p.value < MAX_CHOICES)) (λ p k. (subst (λ (n : ℕ). n < length sizes) (zero_plus p.item) k.0, k.1)) modes
-    (mode_pairs m sizes modes s good h)
 
 -- what is seen is of subjects behind the components
 pub seen_pairs : (m : PlantModel) (sizes : List ℕ) (components : ℕ) (seen : List Pair) → sizes ≡ mode_counts m ++ value_counts m → WellFormed m → components ≡ length m.components

@@ -77,3 +77,14 @@ module _ (m : PlantModel) (s : List ℕ) (c : Clauses) (base : List ℕ) (of : A
       forced_values = all_from (λ p. HasValue m p.item p.value) pairs (λ p among.
           let one = one_of p among in
           subst (HasValue m p.item) (value_at world.0 p.item p.value (one world.0 world.1)) (world.1.values p.item (of_model p one)))
+
+-- the same where the base is of pairs that are the state's, and so many components are counted
+pub forced_by : (m : PlantModel) (s : List ℕ) (c : Clauses) (modes : List Pair) (base : List ℕ) (components vars : ℕ) (pairs : List Pair) → AreClausesOf m None None c
+    → IsBase c.sizes (length m.components) modes [] base → modes ≡ pairs_of s → components ≡ length m.components → IsState m s → HasWorld m s
+    → IsBackbone c.clauses base components vars pairs → AreForced m s vars pairs × All (λ p. HasValue m p.item p.value) pairs
+forced_by m s c modes base components vars pairs of b own counted state world h =
+    let here = subst (λ ps. IsBase c.sizes (length m.components) ps [] base) own b in
+    let found = subst (λ (k : ℕ). IsBackbone c.clauses base k vars pairs) counted h in (
+      backbone_forced m s c base of here state world vars pairs found,
+      forced_values m s c base of here state world vars pairs found,
+    )

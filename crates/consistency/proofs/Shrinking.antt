@@ -1,7 +1,9 @@
 -- Pairs that clash, of which one after another is left out.
-use Rattle.std.proofs.Common.{◌≡◌, ◌≢◌, ◌==◌, ◌++◌, not, ℕ, List, [], ◌∷◌, All, Contains, inl, inr, sym, subst, ◌∙◌, arith, refl}
+use Rattle.std.proofs.Common.{◌≡◌, ◌≢◌, ◌==◌, ◌+◌, ◌-◌, ◌<◌, ◌≤◌, ◌++◌, not, ℕ, List, [], ◌∷◌, Some, length, take, All, Contains, inl, inr, sym, ap, subst, ◌∙◌, arith, refl}
 use Rattle.std.proofs.lemmas.Bool.{eq-eqb, not_from_true, false≢true}
-use Rattle.std.proofs.lemmas.List.{append-nil}
+use Rattle.std.specs.List.{slice_get}
+use Rattle.std.proofs.lemmas.List.{append-nil, take_more}
+use Rattle.std.proofs.lemmas.Option.{get_or_from_slice_get}
 use Rattle.std.proofs.lemmas.List.Elements.{All-nil, All-contains, All-push, Contains-append_left, Contains-append_right, Contains-append_cases}
 use Rattle.std.proofs.lemmas.List.Kept.{AllPairs-filter}
 use Rattle.list_laws.proofs.Members.{all_from, contains_cases, contains_here, contains_none, from_filter, to_filter}
@@ -40,6 +42,13 @@ not_itself pairs p q among e =
     let left = from_filter (λ r. not (r.item == p.item)) pairs q among in
     false≢true (sym (not_from_true (q.item == p.item) (eq-eqb q.item p.item (λ d. (sym e d).item))) ∙ left.0)
 
+-- the last of so many pairs stands behind the others
+last_taken : (xs : List Pair) (n : ℕ) (p : Pair) → 0 < n → n ≤ length xs → slice_get xs (n - 1) ≡ Some p → take n xs ≡ take (n - 1) xs ++ p ∷ []
+last_taken xs n p some room is =
+    let same : n ≡ n - 1 + 1 = omega (arith, some) in
+    let here : n - 1 < length xs = omega (arith, some, room) in
+    ap (λ (k : ℕ). take k xs) same ∙ (take_more xs (n - 1) p here ∙ ap (λ (x : Pair). take (n - 1) xs ++ x ∷ []) (get_or_from_slice_get xs (n - 1) p p is))
+
 module _ (m : PlantModel) (seen pairs : List Pair) where
   -- these are kept, each needed beside the others, and these are left
   pub record IsShrinking (kept left : List Pair) : Type 0 where
@@ -60,13 +69,16 @@ module _ (m : PlantModel) (seen pairs : List Pair) where
     minimal = λ p among. absurd (contains_none p among);
   }
 
+  pub last_left : (kept xs : List Pair) (n : ℕ) (p : Pair) → 0 < n → n ≤ length xs → slice_get xs (n - 1) ≡ Some p → IsShrinking kept (take n xs) → IsShrinking kept (take (n - 1) xs ++ p ∷ [])
+  last_left kept xs n p some room is h = subst (IsShrinking kept) (last_taken xs n p some room is) h
+
   module _ (kept left : List Pair) (p : Pair) (h : IsShrinking kept (left ++ p ∷ [])) where
     fewer : (q : Pair) → Contains (kept ++ left) q → Contains (kept ++ (left ++ p ∷ [])) q
     fewer = cases_both kept left (kept ++ (left ++ p ∷ []))
         (λ q front. Contains-append_left kept (left ++ p ∷ []) q front)
         (λ q behind. Contains-append_right kept (left ++ p ∷ []) q (Contains-append_left left (p ∷ []) q behind))
 
-    front : IsCube left × Lacks p.item left
+    pub front : IsCube left × Lacks p.item left
     front = (
       subst IsCube (append-nil left) (without_one left [] p h.left_cube),
       subst (Lacks p.item) (append-nil left) (lacks_at left (p ∷ []) 0 p h.left_cube (omega arith) refl),

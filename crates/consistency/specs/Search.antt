@@ -6,7 +6,15 @@ use Rattle.cca_base.specs.Sets.{has}
 use Rattle.clause_form.specs.declared.clause.Clause.{Clause}
 use Rattle.clash_analysis.specs.declared.subjects.SubjectSet.{SubjectSet}
 use Rattle.clash_analysis.specs.Subjects.{is_in}
-use Rattle.world_search.specs.Worlds.{IsSolution}
+use Rattle.world_search.specs.Worlds.{HasAll, IsSolution}
+
+-- something is true of each world
+abbrev pub EachWorld : List Clause → List ℕ → (List ℕ → Type 0) → Type 0
+EachWorld clauses base P = (xs : List ℕ) → IsSolution clauses base xs → P xs
+
+-- something is true of each world with the pairs
+abbrev pub EachWorldWith : List Clause → List ℕ → List Pair → (List ℕ → Type 0) → Type 0
+EachWorldWith clauses base pairs P = (xs : List ℕ) → IsSolution clauses base xs → HasAll pairs xs → P xs
 
 -- at the first place where they differ the one is less
 pub record IsLess (xs ys : List ℕ) : Type 0 where

@@ -15,6 +15,28 @@ use crate::world_space::WorldSpace;
 use cca_base::{Model, Pair, State};
 use world_search::{Answer, Problem};
 
+/// Writes what each subject may be, where components have these modes and variables these values.
+pub fn put_base(
+    model: &Model,
+    problem: &Problem,
+    modes: &[Pair],
+    seen: &[Pair],
+    space: &mut WorldSpace,
+)
+    requires of { (denied : Option Formula) × AreClausesOf model.now None denied problem.now }
+    requires modes { All (λ p. HasMode model.now p.item p.value) modes.now }
+    requires seen { All (λ p. HasValue model.now p.item p.value) seen.now }
+    requires space { IsWorldSpace problem.now space.old }
+    ensures space { IsWorldSpace problem.now space.new }
+    ensures base { IsBase problem.now.sizes (length model.now.components) modes.now seen.now
+        space.new.sets.items }
+    ensures pairs { space.new.pairs ≡ space.old.pairs }
+    ensures well_formed { WellFormed model.now }
+{
+    let sizes = &problem.clauses().sizes;
+    model_base(model, sizes, modes, seen, &mut space.sets);
+}
+
 /// From now on components have these modes, and variables these values.
 pub fn see(model: &Model, problem: &Problem, modes: &[Pair], seen: &[Pair], space: &mut WorldSpace)
     requires of { (denied : Option Formula) × AreClausesOf model.now None denied problem.now }
@@ -22,17 +44,17 @@ pub fn see(model: &Model, problem: &Problem, modes: &[Pair], seen: &[Pair], spac
     requires seen { All (λ p. HasValue model.now p.item p.value) seen.now }
     requires space { IsWorldSpace problem.now space.old }
     ensures space { IsWorldSpace problem.now space.new }
-    ensures base { IsBase problem.now.sizes (length model.now.components) modes.now seen.now (base_in space.new.search) }
+    ensures base { IsBase problem.now.sizes (length model.now.components) modes.now seen.now
+        (base_in space.new.search) }
     ensures pairs { space.new.pairs ≡ space.old.pairs }
     ensures well_formed { WellFormed model.now }
 {
-    let sizes = &problem.clauses().sizes;
-    model_base(model, sizes, modes, seen, &mut space.sets);
+    put_base(model, problem, modes, seen, space);
     problem.see(&mut space.search, &space.sets);
 }
 
-/// Whether some state that extends the modes has a world that agrees with what is seen, and if not, which components are to blame. The problem may say
-/// of a formula besides that it is false.
+/// Whether some state that extends the modes has a world that agrees with what is seen, and if not, which components
+/// are to blame. The problem may say of a formula besides that it is false.
 pub fn ask(
     model: &Model,
     problem: &Problem,
@@ -52,7 +74,8 @@ pub fn ask(
     problem.ask(&mut space.search, modes)
 }
 
-/// Whether some world of the state agrees with what is seen, and if not, which components are to blame. The state's pairs stand in the room for pairs then.
+/// Whether some world of the state agrees with what is seen, and if not, which components are to blame. The state's
+/// pairs stand in the room for pairs then.
 pub fn ask_state(
     model: &Model,
     problem: &Problem,

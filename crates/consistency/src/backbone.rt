@@ -1,11 +1,14 @@
-//! The backbone of worlds: the values that all of them have. Some world gives each candidate. Where unit propagation leaves the subject another value,
-//! a world with that is asked for. Two worlds that differ on a subject show that it isn't forced, so each world that is found settles others too; the
-//! first one besides is asked for where it begins with other values.
+//! The backbone of worlds: the values that all of them have. Some world gives a candidate for each subject. For each
+//! other value that unit propagation leaves the subject, a world with that value is asked for. If there is none, the
+//! candidate is forced. Two worlds that differ on a subject show that it isn't forced, so each world that is found
+//! settles others too. A second world, for which the search begins with other values, is asked for before all these
+//! questions.
 
-ghost use Rattle.std.specs.Prelude.{◌≤◌, ◌<◌, ◌≡◌, ◌≢◌, ℕ, true, false, List, length, slice_index, IfOk};
+ghost use Rattle.std.specs.Prelude.{◌≤◌, ◌<◌, ◌≡◌, ◌≢◌, ℕ, true, false, List, length};
+ghost use Rattle.std.specs.Prelude.{slice_index, IfOk};
 ghost use Rattle.clause_form.specs.declared.clause.Clause.{Clause};
 ghost use Rattle.clash_analysis.specs.declared.subjects.TheConstants.{SET_SUBJECTS};
-ghost use Rattle.consistency.specs.Search.{IsBackbone, AreVaried};
+ghost use Rattle.consistency.specs.Search.{AreVaried, EachWorld, IsBackbone};
 ghost use Rattle.world_search.specs.Spaces.{IsSpace, base_in, world_in};
 ghost use Rattle.world_search.specs.Worlds.{IsSolution};
 
@@ -31,7 +34,8 @@ fn with_differing(subjects: &SubjectSet, one: &[u8], other: &[u8]) -> SubjectSet
     varied
 }
 
-/// Subjects at which some world differs from this one. One is asked for that begins with other values wherever they are left.
+/// Subjects at which some world differs from this one. The search for it begins with other values wherever they are
+/// left.
 fn differing(problem: &Problem, space: &mut Space, values: &[u8]) -> SubjectSet
     requires space { IsSpace problem.now space.old }
     requires world { IsSolution problem.now.clauses (base_in space.old) values.now }
@@ -52,9 +56,11 @@ fn is_other_found(problem: &Problem, space: &mut Space, subject: usize, value: u
     requires subject { subject < length problem.now.sizes }
     ensures space { IsSpace problem.now space.new }
     ensures base { base_in space.new ≡ base_in space.old }
-    ensures world { result ≡ true → IsSolution problem.now.clauses (base_in space.old) (world_in space.new) }
+    ensures world { result ≡ true →
+        IsSolution problem.now.clauses (base_in space.old) (world_in space.new) }
     ensures other { result ≡ true → slice_index (world_in space.new) subject ≢ value }
-    ensures none { result ≡ false → (xs : List ℕ) → IsSolution problem.now.clauses (base_in space.old) xs → slice_index xs subject ≡ value }
+    ensures none { result ≡ false →
+        EachWorld problem.now.clauses (base_in space.old) (λ xs. slice_index xs subject ≡ value) }
 {
     let left = problem.left(space, subject);
     for other in 0..problem.clauses().sizes.get(subject) {
@@ -72,8 +78,8 @@ fn is_other_found(problem: &Problem, space: &mut Space, subject: usize, value: u
     false
 }
 
-/// The variables of the set that have one value in all worlds, where there is some. Variables are the subjects behind the components. The error is out
-/// of memory.
+/// The variables of the set that have one value in all worlds, where there is some. Variables are the subjects behind
+/// the components. The error is out of memory.
 pub fn backbone(
     alloc: Global,
     problem: &Problem,

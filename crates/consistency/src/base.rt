@@ -4,6 +4,7 @@ ghost use Rattle.std.specs.Prelude.{◌≡◌, ◌&&◌, ◌++◌, ℕ, ◌<◌,
 ghost use Rattle.cca_base.specs.Prelude.{has, mode_counts, value_counts, HasMode, HasValue, WellFormed};
 ghost use Rattle.cca_base.specs.declared.limits.TheConstants.{MAX_CHOICES};
 ghost use Rattle.consistency.specs.Base.{allows, ArePairs, IsBase};
+ghost use Rattle.world_search.specs.Assumed.{AreAsked};
 
 use cca_base::{Model, Pair, ValueSet};
 use clause_form::Sizes;
@@ -36,7 +37,7 @@ fn restrict(sets: &mut [ValueSet], first: usize, pairs: &[Pair])
 /// Writes the values that each subject may have, where components have these modes and variables these values.
 fn base_of(sizes: &Sizes, components: usize, modes: &[Pair], seen: &[Pair], base: &mut [ValueSet])
     requires full { length base.old ≡ length sizes.now }
-    requires modes { ArePairs (length sizes.now) 0 modes.now }
+    requires modes { AreAsked (length sizes.now) modes.now }
     requires seen { ArePairs (length sizes.now) components seen.now }
     ensures { IsBase sizes.now components modes.now seen.now base.new }
 {
@@ -45,7 +46,8 @@ fn base_of(sizes: &Sizes, components: usize, modes: &[Pair], seen: &[Pair], base
     restrict(base, components, seen);
 }
 
-/// Writes the values that each subject of the model may have, where components have these modes and variables these values.
+/// Writes the values that each subject of the model may have, where components have these modes and variables these
+/// values.
 pub fn model_base(
     model: &Model,
     sizes: &Sizes,

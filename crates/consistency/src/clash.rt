@@ -22,8 +22,8 @@ impl Worlds {
         WorldSpace::of(alloc, &self.problem)
     }
 
-    /// Why no world of the state agrees with what is seen: a part of its pairs that no state with such a world extends. None comes exactly where the
-    /// state has a world that agrees. The error is out of memory.
+    /// Why no world of the state agrees with what is seen: a part of its pairs that no state with such a world extends.
+    /// None comes exactly where the state has a world that agrees. The error is out of memory.
     pub fn clash(
         &self,
         alloc: Global,

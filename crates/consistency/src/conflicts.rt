@@ -1,6 +1,6 @@
 //! The pairs of a state that are to blame that no world of it agrees with what is seen, by deletion: each pair is tried
-//! once, in component order. A question names the components that had to do with a clash, its core, so that only pairs of
-//! cores cost a question.
+//! once, in component order. An answer names the components that had to do with a clash, its core, so that only pairs
+//! of cores cost a question.
 
 ghost use Rattle.std.specs.Prelude.{◌≡◌, [], ◌++◌, ◌↔◌, length, All, IfOk, IfSome, IsNone};
 ghost use Rattle.cca_base.specs.Prelude.{pairs_of, CanShow, HasMode, HasValue, IsConflict, IsCube, IsState, KeepsOfClash};
@@ -94,8 +94,8 @@ pub fn blame_of(
     }
 }
 
-/// What is kept of the pairs, each of which is tried once. A pair outside the last core is dropped without a search: the
-/// core clashes without it.
+/// What is kept of the pairs, each of which is tried once. A pair outside the last core is dropped and no question is
+/// asked: the core clashes without it.
 fn kept_of(
     rules: &Rules,
     pairs: &Cube,

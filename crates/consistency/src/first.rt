@@ -1,9 +1,10 @@
 //! The first world: subject by subject the least value is sought with which there still is one.
 
-ghost use Rattle.std.specs.Prelude.{◌≡◌, ◌≢◌, ℕ, [], ◌∷◌, ◌++◌, ◌<◌, true, false, List, length, slice_index, IfOk, OnOk};
+ghost use Rattle.std.specs.Prelude.{◌≡◌, ◌≢◌, [], ◌∷◌, ◌++◌, ◌<◌, true, false, length, slice_index};
+ghost use Rattle.std.specs.Prelude.{IfOk, OnOk};
 ghost use Rattle.cca_base.specs.declared.limits.TheConstants.{MAX_CHOICES};
 ghost use Rattle.consistency.specs.Lowest.{IsLowest};
-ghost use Rattle.consistency.specs.Search.{IsFirstOrNone};
+ghost use Rattle.consistency.specs.Search.{EachWorldWith, IsFirstOrNone};
 ghost use Rattle.world_search.specs.Assumed.{AreAsked};
 ghost use Rattle.world_search.specs.Spaces.{IsSpace, base_in, world_in};
 ghost use Rattle.world_search.specs.Worlds.{HasAll, IsSolution};
@@ -12,7 +13,8 @@ use cca_base::{List, Pair};
 use std::alloc::{AllocError, Global};
 use world_search::{Answer, Problem, Space, has_value};
 
-/// Whether some world with the pairs has one more. If so that is put behind them, and such a world is at hand from now on. The error is out of memory.
+/// Whether some world with the pairs has one more. If so that is put behind them, and such a world is at hand from now
+/// on. The error is out of memory.
 fn is_put(
     problem: &Problem,
     space: &mut Space,
@@ -26,11 +28,13 @@ fn is_put(
     ensures space { IsSpace problem.now space.new }
     ensures base { base_in space.new ≡ base_in space.old }
     ensures put { IfOk result (λ is. is ≡ true → pairs.new ≡ pairs.old ++ pair ∷ []) }
-    ensures world { IfOk result (λ is. is ≡ true → IsSolution problem.now.clauses (base_in space.old) (world_in space.new)) }
+    ensures world { IfOk result (λ is. is ≡ true →
+        IsSolution problem.now.clauses (base_in space.old) (world_in space.new)) }
     ensures has { IfOk result (λ is. is ≡ true → HasAll pairs.new (world_in space.new)) }
     ensures same { IfOk result (λ is. is ≡ false → pairs.new ≡ pairs.old) }
-    ensures none { IfOk result (λ is. is ≡ false → (xs : List ℕ) → IsSolution problem.now.clauses (base_in space.old) xs → HasAll pairs.old xs →
-        slice_index xs pair.item ≢ pair.value) }
+    ensures none { IfOk result (λ is. is ≡ false →
+        EachWorldWith problem.now.clauses (base_in space.old) pairs.old
+        (λ xs. slice_index xs pair.item ≢ pair.value)) }
 {
     pairs.push(pair)?;
     match problem.ask(space, pairs.as_slice()) {
@@ -42,8 +46,8 @@ fn is_put(
     }
 }
 
-/// Lowers the world to one with the pairs and the least value that such worlds have at the subject, whose pair is put behind the others. The error is
-/// out of memory.
+/// Lowers the world to one with the pairs and the least value that such worlds have at the subject, whose pair is put
+/// behind the others. The error is out of memory.
 fn put_lowest(
     problem: &Problem,
     space: &mut Space,
@@ -60,7 +64,8 @@ fn put_lowest(
     ensures base { base_in space.new ≡ base_in space.old }
     ensures long { length world.new ≡ length world.old }
     ensures asked { OnOk result (AreAsked (length problem.now.sizes) pairs.new) }
-    ensures lowest { OnOk result (IsLowest problem.now.clauses (base_in space.old) pairs.old subject world.new pairs.new) }
+    ensures lowest { OnOk result
+        (IsLowest problem.now.clauses (base_in space.old) pairs.old subject world.new pairs.new) }
 {
     let left = problem.left(space, subject as usize);
     let value = world[subject as usize];

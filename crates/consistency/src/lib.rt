@@ -26,6 +26,7 @@ mod worlds;
 
 pub use calls::{find_counter, find_world, forced};
 pub use conflicts::conflict;
+pub use denied::Denied;
 pub use found::Found;
 pub use laws::conflicts_are_minimal;
 pub use mirror::Mirror;

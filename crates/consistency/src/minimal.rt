@@ -1,5 +1,5 @@
-//! A minimal clash of a state, by deletion over a core. One pair after the other is left out: it is kept where some state that extends
-//! the others has a world that agrees, and else only the pairs of their core go on.
+//! A minimal clash of a state, by deletion over a core. One pair after the other is left out, the last one first: it is
+//! kept where some state that extends the others has a world that agrees, and else only the pairs of their core go on.
 
 ghost use Rattle.std.specs.Prelude.{◌≡◌, ◌↔◌, ℕ, List, length, All, IfOk, IfSome, IsNone};
 ghost use Rattle.cca_base.specs.Prelude.{pairs_of, CanShow, Clash, HasMode, HasValue, IsCube, IsPart, IsState};
@@ -12,22 +12,9 @@ use crate::conflicts::{blame_of, core_left};
 use crate::rules::Rules;
 use crate::world_space::WorldSpace;
 use crate::worlds::Worlds;
-use cca_base::{Cube, List, Model, Pair, Seen, State};
+use cca_base::{Cube, Model, Pair, Seen, State};
 use clash_analysis::{SubjectSet, has_subject};
 use std::alloc::{AllocError, Global};
-
-/// The pairs that are of these subjects.
-fn pairs_in(alloc: Global, subjects: &SubjectSet, pairs: &[Pair]) -> Result<List<Pair>, AllocError>
-    ensures { IfOk result (λ r. r ≡ pairs_in subjects.now pairs.now) }
-{
-    let mut among = List::new(alloc);
-    for pair in pairs {
-        if has_subject(subjects, pair.item) {
-            among.push(*pair)?;
-        }
-    }
-    Ok(among)
-}
 
 /// Those of the pairs that are of these subjects, as a cube.
 pub fn cube_in(alloc: Global, subjects: &SubjectSet, pairs: &[Pair]) -> Result<Cube, AllocError>
@@ -46,11 +33,10 @@ pub fn cube_in(alloc: Global, subjects: &SubjectSet, pairs: &[Pair]) -> Result<C
 /// A minimal part of the pairs that clashes.
 fn minimal_part(
     rules: &Rules,
-    pairs: List<Pair>,
+    pairs: Cube,
     seen: &Seen,
     space: &mut WorldSpace,
 ) -> Result<Cube, AllocError>
-    requires cube { IsCube pairs }
     requires modes { All (λ p. HasMode rules.now.model.now p.item p.value) pairs }
     requires seen { All (λ p. HasValue rules.now.model.now p.item p.value) seen.now.pairs }
     requires clash { Clash rules.now.model.now seen.now.pairs pairs }
@@ -60,9 +46,16 @@ fn minimal_part(
 {
     let mut kept = Cube::new(rules.alloc);
     let mut left = pairs;
-    'leaving: while let Some(pair) = left.pop() {
-        match core_left(rules, &kept, left.as_slice(), seen, space)? {
-            Some(core) => left = pairs_in(rules.alloc, &core, left.as_slice())?,
+    let mut count = left.len();
+    'leaving: while count > 0 {
+        count -= 1;
+        let pair = *left.get(count);
+        let others = &left.as_slice()[..count];
+        match core_left(rules, &kept, others, seen, space)? {
+            Some(core) => {
+                left = cube_in(rules.alloc, &core, others)?;
+                count = left.len();
+            }
             None => kept.push(pair)?,
         }
     }
@@ -70,9 +63,9 @@ fn minimal_part(
 }
 
 impl Worlds {
-    /// Why no world of the state agrees with what is seen: a part of its pairs that no state with such a world extends, while
-    /// some such state extends what is left without any one of them. None comes exactly where the state has a world that
-    /// agrees. The error is out of memory.
+    /// Why no world of the state agrees with what is seen: a part of its pairs that no state with such a world extends,
+    /// while some such state extends what is left without any one of them. None comes exactly where the state has a
+    /// world that agrees. The error is out of memory.
     pub fn minimal_clash(
         &self,
         alloc: Global,
@@ -97,7 +90,7 @@ impl Worlds {
         let Some(blamed) = blame_of(&rules, state, seen, &mut space)? else {
             return Ok(None);
         };
-        let among = pairs_in(alloc, &blamed.core, blamed.pairs.as_slice())?;
+        let among = cube_in(alloc, &blamed.core, blamed.pairs.as_slice())?;
         Ok(Some(minimal_part(&rules, among, seen, &mut space)?))
     }
 }

@@ -1,9 +1,9 @@
 //! Whether unit propagation alone shows that clauses can't be met beside those of a problem.
 
-ghost use Rattle.std.specs.Prelude.{◌≡◌, ℕ, List, false, length, IsTrue};
+ghost use Rattle.std.specs.Prelude.{◌≡◌, false, length, IsTrue};
 ghost use Rattle.clause_form.specs.Clauses.{AllBelow, AreBelow, all_met, is_met};
+ghost use Rattle.consistency.specs.Search.{EachWorld};
 ghost use Rattle.world_search.specs.Spaces.{IsSpace, base_in};
-ghost use Rattle.world_search.specs.Worlds.{IsSolution};
 
 use clause_form::{Clause, Literal};
 use world_search::{Problem, Space};
@@ -12,7 +12,8 @@ use world_search::{Problem, Space};
 fn are_out(problem: &Problem, space: &Space, literals: &[Literal]) -> bool
     requires space { IsSpace problem.now space.now }
     requires below { AreBelow (length problem.now.sizes) literals.now }
-    ensures { IsTrue result → (xs : List ℕ) → IsSolution problem.now.clauses (base_in space.now) xs → is_met xs literals.now ≡ false }
+    ensures { IsTrue result →
+        EachWorld problem.now.clauses (base_in space.now) (λ xs. is_met xs literals.now ≡ false) }
 {
     for literal in literals {
         if problem.left(space, literal.subject as usize) & literal.values.bits() != 0 {
@@ -26,7 +27,8 @@ fn are_out(problem: &Problem, space: &Space, literals: &[Literal]) -> bool
 pub fn is_refuted(problem: &Problem, space: &Space, clauses: &[Clause]) -> bool
     requires space { IsSpace problem.now space.now }
     requires below { AllBelow (length problem.now.sizes) clauses.now }
-    ensures { IsTrue result → (xs : List ℕ) → IsSolution problem.now.clauses (base_in space.now) xs → all_met xs clauses.now ≡ false }
+    ensures { IsTrue result →
+        EachWorld problem.now.clauses (base_in space.now) (λ xs. all_met xs clauses.now ≡ false) }
 {
     for clause in clauses {
         if are_out(problem, space, clause.literals.as_slice()) {

@@ -10,16 +10,16 @@ use world_search::{Problem, Space};
 /// Memory for questions of worlds. It serves the clauses alone that it was made for.
 #[derive(Drop)]
 pub struct WorldSpace {
-    pub search: Space,
+    pub(crate) search: Space,
     /// What each subject may be, while that is put together.
-    pub sets: Vec<ValueSet>,
+    pub(crate) sets: Vec<ValueSet>,
     /// Room for the pairs that are asked for.
-    pub pairs: Vec<Pair>,
+    pub(crate) pairs: Vec<Pair>,
 }
 
 impl WorldSpace {
     /// Memory for questions of the problem's worlds. The error is out of memory.
-    pub fn of(alloc: Global, problem: &Problem) -> Result<WorldSpace, AllocError>
+    pub(crate) fn of(alloc: Global, problem: &Problem) -> Result<WorldSpace, AllocError>
         ensures { IfOk result (IsWorldSpace problem.now) }
     {
         let subjects = problem.clauses().sizes.len();

@@ -44,7 +44,8 @@ fn blame_pair(work: &mut Work, pair: Pair) -> SubjectSet
     ensures shape { IsShaped work.new }
     ensures start { work.new.start.items ≡ work.old.start.items }
     ensures room { length work.new.trail.items ≡ length work.old.trail.items }
-    ensures blamed { (want : List ℕ → Bool) (pairs : List Pair) → Contains pairs pair → AllWithin (Passes want) work.old.start.items →
+    ensures blamed { (want : List ℕ → Bool) (pairs : List Pair) → Contains pairs pair →
+        AllWithin (Passes want) work.old.start.items →
         IsRight want pairs work.old → NoneHas want pairs (is_in result) }
 {
     let mut blamed = with_subject(&no_subject(), pair.item);

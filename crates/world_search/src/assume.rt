@@ -20,8 +20,10 @@ fn assume(work: &mut Work, pair: Pair) -> bool
     requires clear { IsClear work.old }
     ensures ready { IsReady work.new }
     ensures moved { IsMoved work.old work.new }
-    ensures fewer { (v a : ℕ) → has (slice_index work.new.dom.items v) a ≡ true → has (slice_index work.old.dom.items v) a ≡ true }
-    ensures right { (want : List ℕ → Bool) (pairs : List Pair) → Contains pairs pair → IsRight want pairs work.old → IsRight want pairs work.new }
+    ensures fewer { (v a : ℕ) → has (slice_index work.new.dom.items v) a ≡ true →
+        has (slice_index work.old.dom.items v) a ≡ true }
+    ensures right { (want : List ℕ → Bool) (pairs : List Pair) → Contains pairs pair → IsRight want pairs work.old →
+        IsRight want pairs work.new }
     ensures held { result ≡ true → IsClear work.new }
     ensures alone { result ≡ true → (a : ℕ) → has (slice_index work.new.dom.items pair.item) a ≡ true → a ≡ pair.value }
     ensures lost { result ≡ false → IsLost pair work.new }

@@ -25,10 +25,13 @@ pub fn learn_further(work: &mut Work, lessons: &mut Lessons) -> Option<SubjectSe
     ensures clear { IsNone result → IsClear work.new }
     ensures below { IsNone result → KeepsBelow work.old work.new }
     ensures weight { IsNone result → weight_of work.new < weight_of work.old }
-    ensures right { IsNone result → (want : List ℕ → Bool) (pairs : List Pair) → IsClashed want pairs work.old → IsRight want pairs work.new }
+    ensures right { IsNone result → (want : List ℕ → Bool) (pairs : List Pair) → IsClashed want pairs work.old →
+        IsRight want pairs work.new }
     ensures lessons { AreLessons (length work.old.dom.items) lessons.new }
-    ensures kept { (want : List ℕ → Bool) (pairs : List Pair) → IsClashed want pairs work.old → AreKept lessons.old want → AreKept lessons.new want }
-    ensures blamed { IfSome result (λ set. (want : List ℕ → Bool) (pairs : List Pair) → IsClashed want pairs work.old → NoneHas want pairs (is_in set)) }
+    ensures kept { (want : List ℕ → Bool) (pairs : List Pair) → IsClashed want pairs work.old →
+        AreKept lessons.old want → AreKept lessons.new want }
+    ensures blamed { IfSome result (λ set. (want : List ℕ → Bool) (pairs : List Pair) →
+        IsClashed want pairs work.old → NoneHas want pairs (is_in set)) }
 {
     let mut blamed = no_subject();
     let learned = analyse(

@@ -79,7 +79,8 @@ pub fn forget(lessons: &mut Lessons)
 fn slot_of(learn: &[u64]) -> Option<Slot>
     requires small { length learn.now ≤ SET_SUBJECTS }
     ensures slot { IfSome result (IsSlot (length learn.now)) }
-    ensures clause { IfSome result (λ s. (want : List ℕ → Bool) → IsLearned (Passes want) learn.now → IsMetIn (clause_of s) want) }
+    ensures clause { IfSome result (λ s. (want : List ℕ → Bool) → IsLearned (Passes want) learn.now →
+        IsMetIn (clause_of s) want) }
 {
     let none = WordLiteral {
         subject: 0,
@@ -125,7 +126,8 @@ fn put_slot(lessons: &mut Lessons, at: usize, slot: Slot)
     requires marks { length lessons.old.uses.items ≡ length lessons.old.slots.items }
     requires place { at ≤ lessons.old.kept }
     requires room { at < length lessons.old.slots.items }
-    ensures kept { (want : List ℕ → Bool) → IsMetIn (clause_of slot) want → AreKept lessons.old want → AreKept lessons.new want }
+    ensures kept { (want : List ℕ → Bool) → IsMetIn (clause_of slot) want → AreKept lessons.old want →
+        AreKept lessons.new want }
     ensures lessons { (n : ℕ) → IsSlot n slot → AreLessons n lessons.old → AreLessons n lessons.new }
 {
     lessons.slots[at] = slot;
@@ -139,7 +141,8 @@ pub fn keep(lessons: &mut Lessons, learn: &[u64])
     requires small { length learn.now ≤ SET_SUBJECTS }
     requires lessons { AreLessons (length learn.now) lessons.old }
     ensures lessons { AreLessons (length learn.now) lessons.new }
-    ensures kept { (want : List ℕ → Bool) → IsLearned (Passes want) learn.now → AreKept lessons.old want → AreKept lessons.new want }
+    ensures kept { (want : List ℕ → Bool) → IsLearned (Passes want) learn.now → AreKept lessons.old want →
+        AreKept lessons.new want }
 {
     let Some(slot) = slot_of(learn) else {
         return;

@@ -138,7 +138,8 @@ impl Problem {
     pub fn left(&self, space: &Space, subject: usize) -> u64
         requires space { IsSpace self.now space.now }
         requires subject { subject < length self.now.sizes }
-        ensures { (xs : List ℕ) → IsSolution self.now.clauses (base_in space.now) xs → has result (slice_index xs subject) ≡ true }
+        ensures { (xs : List ℕ) → IsSolution self.now.clauses (base_in space.now) xs →
+            has result (slice_index xs subject) ≡ true }
     {
         if space.stuck {
             0

@@ -61,8 +61,10 @@ pub fn begin_with(rules: &Rules, near: Option<&[WordClause]>, work: &mut Work, b
     ensures room { length work.new.trail.items ≡ length work.old.trail.items }
     ensures roomy { result ≡ false → IsRoomy work.new }
     ensures within { result ≡ false → AreWithinSets work.new.start.items base.now }
-    ensures all { result ≡ false → (want : List ℕ → Bool) → AreMetIn rules.now.clauses.items want → AllWithin (Passes want) base.now → AllWithin (Passes want) work.new.start.items }
-    ensures stuck { result ≡ true → (want : List ℕ → Bool) → AreMetIn rules.now.clauses.items want → AllWithin (Passes want) base.now → NonePasses want }
+    ensures all { result ≡ false → (want : List ℕ → Bool) → AreMetIn rules.now.clauses.items want →
+        AllWithin (Passes want) base.now → AllWithin (Passes want) work.new.start.items }
+    ensures stuck { result ≡ true → (want : List ℕ → Bool) → AreMetIn rules.now.clauses.items want →
+        AllWithin (Passes want) base.now → NonePasses want }
 {
     if !all_some(base) {
         return true;

@@ -105,9 +105,12 @@ pub fn search_world(
     ensures left { IsNone result → AreOf work.old.dom.items trial.new }
     ensures met { IsNone result → AllMetBy trial.new (rules.now.clauses.items ++ beside.now) }
     ensures kept { (want : List ℕ → Bool) (pairs : List Pair) → AreMetIn (rules.now.clauses.items ++ beside.now) want →
-        AllWithin (Passes want) work.old.start.items → IsRight want pairs work.old → AreKept lessons.old want → AreKept lessons.new want }
-    ensures blamed { IfSome result (λ set. (want : List ℕ → Bool) (pairs : List Pair) → AreMetIn (rules.now.clauses.items ++ beside.now) want →
-        AreKept lessons.old want → AllWithin (Passes want) work.old.start.items → IsRight want pairs work.old → NoneHas want pairs (is_in set)) }
+        AllWithin (Passes want) work.old.start.items → IsRight want pairs work.old → AreKept lessons.old want →
+        AreKept lessons.new want }
+    ensures blamed { IfSome result (λ set. (want : List ℕ → Bool) (pairs : List Pair) →
+        AreMetIn (rules.now.clauses.items ++ beside.now) want →
+        AreKept lessons.old want → AllWithin (Passes want) work.old.start.items → IsRight want pairs work.old →
+        NoneHas want pairs (is_in set)) }
 {
     'rounds: loop {
         match step(rules, beside, work, lessons, world, trial) {

@@ -37,7 +37,8 @@ fn last_literal(literals: &[WordLiteral], dom: &[u64]) -> Option<usize>
 fn others(literals: &[WordLiteral], skip: usize, subjects: usize) -> SubjectSet
     requires inside { AreInside subjects literals.now }
     requires small { subjects ≤ SET_SUBJECTS }
-    ensures all { (i : ℕ) (w : WordLiteral) → i < length literals.now → i ≢ skip → is_in result (slice_index_or literals.now i w).subject ≡ true }
+    ensures all { (i : ℕ) (w : WordLiteral) → i < length literals.now → i ≢ skip →
+        is_in result (slice_index_or literals.now i w).subject ≡ true }
     ensures inside { (v : ℕ) → is_in result v ≡ true → v < subjects }
 {
     let mut all = no_subject();

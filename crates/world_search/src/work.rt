@@ -65,7 +65,8 @@ pub fn narrow(work: &mut Work, subject: u16, kept: u64, why: Why)
     ensures moved { IsMoved work.old work.new }
     ensures put { IsPut work.old subject kept why work.new }
     ensures right { (want : List ℕ → Bool) (pairs : List Pair) →
-        IsWhy (Passes want) pairs work.old.dom.items subject kept why → IsRight want pairs work.old → IsRight want pairs work.new }
+        IsWhy (Passes want) pairs work.old.dom.items subject kept why → IsRight want pairs work.old →
+        IsRight want pairs work.new }
 {
     put(work, subject, kept, why);
 }

@@ -70,6 +70,6 @@ loop-item-preserved c =
 pub returns : goal.returns
 returns c =
     let long = ap length c.in_ok-values.ensures.items ∙ ap length c.world.ensures ∙ c.in-Agrees.ensures.answer.0.full ∙ ap length c.ask.ensures.base in
-    let front : c.args.components ≤ length c.args.space.now.base.items = subst (λ m. c.args.components ≤ m) (sym c.requires.space.full) c.requires.front in
+    let front : c.args.components ≤ length c.args.space.now.base.items = subst (λ m. c.args.components ≤ m) (sym c.requires.space.buffers.base) c.requires.front in
     all_noted c.args.problem.now.clauses c.args.space.now.base.items c.args.components c.args.vars c.loop-item.item c.loop-item.pairs c.loop-item.invariant.done
     (omega (arith, c.len.ensures, c.in_ok-values.values.ok.0))

@@ -1,5 +1,5 @@
-use Rattle.std.proofs.Common.{◌≡◌, ◌++◌, ◌∷◌, [], List, IfSome, length, filter, not, All, is_some, ap, subst, sym, ◌∙◌, arith, refl}
-use Rattle.std.proofs.lemmas.List.{length-append}
+use Rattle.std.proofs.Common.{◌≡◌, ◌-◌, ◌++◌, ℕ, List, [], IfSome, length, filter, not, take, All, is_some, ap, subst, sym, ◌∙◌, arith, refl}
+use Rattle.std.proofs.lemmas.List.{length-take-le, take_all}
 use Rattle.std.proofs.lemmas.List.Filters.{length-filter_both}
 use Rattle.cca_base.specs.declared.cube.Pair.{Pair}
 use Rattle.cca_base.specs.Cube.{IsCube}
@@ -9,51 +9,88 @@ use Rattle.list_laws.proofs.Members.{all_from}
 use Rattle.consistency.specs.Cores.{IsCore, IsShowable, pairs_in}
 use Rattle.clash_analysis.specs.Subjects.{is_in}
 use Rattle.consistency.proofs.Fitting.{showable_fits}
-use Rattle.consistency.proofs.Shrinking.{IsShrinking, none_kept, others_cube, others_among, last_lacks, left_out, one_kept, none_left}
+use Rattle.consistency.proofs.Shrinking.{IsShrinking, none_kept, last_left, front, others_cube, others_among, last_lacks, left_out, one_kept, none_left}
 use Rattle.consistency.proofs.minimal.minimal_part.Goals as goal
 
 pub leaving-init : goal.leaving-init
-leaving-init c = rw c.new-kept.ensures (record {
-  shrinking = none_kept c.args.rules.now.model.now c.args.seen.now.pairs c.args.pairs c.requires.cube c.requires.clash;
-  space = c.requires.space;
-})
+leaving-init c =
+    let m = c.args.rules.now.model.now in
+    let seen = c.args.seen.now.pairs in
+    let ps : List Pair = c.args.pairs in
+    let all : take c.len-count.result ps ≡ ps = take_all c.len-count.result ps (omega (arith, c.len-count.ensures)) in
+    record {
+      shrinking = subst (λ (ks : List Pair). IsShrinking m seen ps ks (take c.len-count.result ps)) (sym c.new-kept.ensures)
+          (subst (IsShrinking m seen ps []) (sym all) (none_kept m seen ps (subst IsCube c.left.view_is c.left.invariant) c.requires.clash));
+      room = omega (arith, c.len-count.ensures);
+      space = c.requires.space;
+    }
 
 pub core_left-requires-clause-cube : goal.core_left-requires-clause-cube
 core_left-requires-clause-cube c =
-    let h = subst (IsShrinking c.args.rules.now.model.now c.args.seen.now.pairs c.args.pairs c.leaving.kept) c.in-Some.ensures c.leaving.invariant.shrinking in
-    subst (λ ps. IsCube (c.leaving.kept ++ ps)) (sym c.as_slice.ensures) (others_cube c.args.rules.now.model.now c.args.seen.now.pairs c.args.pairs c.leaving.kept c.pop.new.self c.in-Some.pair h)
+    let m = c.args.rules.now.model.now in
+    let seen = c.args.seen.now.pairs in
+    let kept : List Pair = c.leaving.kept in
+    let left : List Pair = c.leaving.left in
+    let h = last_left m seen c.args.pairs kept left c.leaving.count c.get-pair.result.now c.leaving-test.true c.leaving.invariant.room c.get-pair.ensures c.leaving.invariant.shrinking in
+    subst (λ (ps : List Pair). IsCube (kept ++ take (c.leaving.count - 1) ps)) (sym c.as_slice.ensures.pairs) (others_cube m seen c.args.pairs kept (take (c.leaving.count - 1) left) c.get-pair.result.now h)
 
 pub core_left-requires-clause-modes : goal.core_left-requires-clause-modes
 core_left-requires-clause-modes c =
     let m = c.args.rules.now.model.now in
-    let h = subst (IsShrinking m c.args.seen.now.pairs c.args.pairs c.leaving.kept) c.in-Some.ensures c.leaving.invariant.shrinking in
-    subst (λ (ps : List Pair). All (λ p. HasMode m p.item p.value) (c.leaving.kept ++ ps)) (sym c.as_slice.ensures)
-    (all_from (λ p. HasMode m p.item p.value) (c.leaving.kept ++ c.pop.new.self) (λ q there.
-    All-contains (λ p. HasMode m p.item p.value) c.args.pairs q c.requires.modes (others_among m c.args.seen.now.pairs c.args.pairs c.leaving.kept c.pop.new.self c.in-Some.pair h q there)))
+    let seen = c.args.seen.now.pairs in
+    let kept : List Pair = c.leaving.kept in
+    let left : List Pair = c.leaving.left in
+    let others : List Pair = take (c.leaving.count - 1) left in
+    let h = last_left m seen c.args.pairs kept left c.leaving.count c.get-pair.result.now c.leaving-test.true c.leaving.invariant.room c.get-pair.ensures c.leaving.invariant.shrinking in
+    subst (λ (ps : List Pair). All (λ p. HasMode m p.item p.value) (kept ++ take (c.leaving.count - 1) ps)) (sym c.as_slice.ensures.pairs)
+    (all_from (λ p. HasMode m p.item p.value) (kept ++ others) (λ q there.
+    All-contains (λ p. HasMode m p.item p.value) c.args.pairs q c.requires.modes (others_among m seen c.args.pairs kept others c.get-pair.result.now h q there)))
+
+pub cube_in-requires : goal.cube_in-requires
+cube_in-requires c =
+    let m = c.args.rules.now.model.now in
+    let seen = c.args.seen.now.pairs in
+    let kept : List Pair = c.leaving.kept in
+    let left : List Pair = c.leaving.left in
+    let h = last_left m seen c.args.pairs kept left c.leaving.count c.get-pair.result.now c.leaving-test.true c.leaving.invariant.room c.get-pair.ensures c.leaving.invariant.shrinking in
+    subst (λ (ps : List Pair). IsCube (take (c.leaving.count - 1) ps)) (sym c.as_slice.ensures.pairs) (front m seen c.args.pairs kept (take (c.leaving.count - 1) left) c.get-pair.result.now h).0
 
 pub push-requires : goal.push-requires
 push-requires c =
-    let h = subst (IsShrinking c.args.rules.now.model.now c.args.seen.now.pairs c.args.pairs c.leaving.kept) c.in-Some.ensures c.leaving.invariant.shrinking in
-    last_lacks c.args.rules.now.model.now c.args.seen.now.pairs c.args.pairs c.leaving.kept c.pop.new.self c.in-Some.pair h
-
-pub leaving-smaller-in-Some-2 : goal.leaving-smaller-in-Some-2
-leaving-smaller-in-Some-2 c =
-    let test = λ (q : Pair). is_in c.in-Some-2.core q.item in
-    let fewer = length-filter_both test (λ q. not (test q)) (λ q. refl) c.pop.new.self in
-    let left : c.in_ok-left-in-Some-2.left ≡ filter test c.pop.new.self = c.in_ok-left-in-Some-2.ensures ∙ ap (filter test) c.as_slice-in-Some-2.ensures in
-    omega (arith, fewer, ap length left, ap length c.in-Some.ensures, length-append c.pop.new.self (c.in-Some.pair ∷ []))
-
-pub leaving-preserved-in-Some-2 : goal.leaving-preserved-in-Some-2
-leaving-preserved-in-Some-2 c =
     let m = c.args.rules.now.model.now in
     let seen = c.args.seen.now.pairs in
-    let kept = c.leaving.kept in
-    let h = subst (IsShrinking m seen c.args.pairs kept) c.in-Some.ensures c.leaving.invariant.shrinking in
-    let asked = subst (λ o. IfSome o (IsCore m seen (kept ++ c.as_slice.result.now))) c.in-Some-2.is c.in_ok-core.ensures.some in
-    let core = subst (λ ps. IsCore m seen (kept ++ ps) c.in-Some-2.core) c.as_slice.ensures asked in
-    let left : c.in_ok-left-in-Some-2.left ≡ pairs_in c.in-Some-2.core c.pop.new.self = c.in_ok-left-in-Some-2.ensures ∙ ap (pairs_in c.in-Some-2.core) c.as_slice-in-Some-2.ensures in
+    let kept : List Pair = c.leaving.kept in
+    let left : List Pair = c.leaving.left in
+    let h = last_left m seen c.args.pairs kept left c.leaving.count c.get-pair.result.now c.leaving-test.true c.leaving.invariant.room c.get-pair.ensures c.leaving.invariant.shrinking in
+    last_lacks m seen c.args.pairs kept (take (c.leaving.count - 1) left) c.get-pair.result.now h
+
+pub leaving-smaller-in-Some : goal.leaving-smaller-in-Some
+leaving-smaller-in-Some c =
+    let n : ℕ = c.leaving.count - 1 in
+    let others : List Pair = c.as_slice.result.now in
+    let test = λ (q : Pair). is_in c.in-Some.core q.item in
+    let full : length (take n others) ≡ n = length-take-le n others (omega (arith, c.leaving.invariant.room, ap length c.as_slice.ensures.pairs)) in
+    let fewer = length-filter_both test (λ q. not (test q)) (λ q. refl) (take n others) in
+    let made : c.in_ok-left-in-Some.left ≡ filter test (take n others) = c.in_ok-left-in-Some.ensures in
+    omega (arith, c.len-count-in-Some.ensures, fewer, full, ap length made, c.leaving-test.true)
+
+pub leaving-preserved-in-Some : goal.leaving-preserved-in-Some
+leaving-preserved-in-Some c =
+    let m = c.args.rules.now.model.now in
+    let seen = c.args.seen.now.pairs in
+    let kept : List Pair = c.leaving.kept in
+    let left : List Pair = c.leaving.left in
+    let n : ℕ = c.leaving.count - 1 in
+    let core = c.in-Some.core in
+    let h = last_left m seen c.args.pairs kept left c.leaving.count c.get-pair.result.now c.leaving-test.true c.leaving.invariant.room c.get-pair.ensures c.leaving.invariant.shrinking in
+    let asked = subst (λ o. IfSome o (IsCore m seen (kept ++ take n c.as_slice.result.now))) c.in-Some.is c.in_ok-core.ensures.some in
+    let clash = subst (λ (ps : List Pair). IsCore m seen (kept ++ take n ps) core) c.as_slice.ensures.pairs asked in
+    let new : List Pair = c.in_ok-left-in-Some.left in
+    let made : new ≡ pairs_in core (take n left) = c.in_ok-left-in-Some.ensures ∙ ap (λ (ps : List Pair). pairs_in core (take n ps)) c.as_slice.ensures.pairs in
+    let all : take c.len-count-in-Some.result new ≡ new = take_all c.len-count-in-Some.result new (omega (arith, c.len-count-in-Some.ensures)) in
     record {
-      shrinking = subst (IsShrinking m seen c.args.pairs kept) (sym left) (left_out m seen c.args.pairs kept c.pop.new.self c.in-Some.pair h c.in-Some-2.core core);
+      shrinking = subst (IsShrinking m seen c.args.pairs kept) (sym (all ∙ made)) (left_out m seen c.args.pairs kept (take n left) c.get-pair.result.now h core clash);
+      room = omega (arith, c.len-count-in-Some.ensures);
       space = c.in_ok-core.ensures.space;
     }
 
@@ -61,12 +98,15 @@ pub leaving-preserved : goal.leaving-preserved
 leaving-preserved c =
     let m = c.args.rules.now.model.now in
     let seen = c.args.seen.now.pairs in
-    let kept = c.leaving.kept in
-    let h = subst (IsShrinking m seen c.args.pairs kept) c.in-Some.ensures c.leaving.invariant.shrinking in
-    let shows = subst (λ ps. IsShowable m seen (kept ++ ps)) c.as_slice.ensures (c.in_ok-core.ensures.none (ap is_some c.in-None.is)) in
+    let kept : List Pair = c.leaving.kept in
+    let left : List Pair = c.leaving.left in
+    let n : ℕ = c.leaving.count - 1 in
+    let h = last_left m seen c.args.pairs kept left c.leaving.count c.get-pair.result.now c.leaving-test.true c.leaving.invariant.room c.get-pair.ensures c.leaving.invariant.shrinking in
+    let shows = subst (λ (ps : List Pair). IsShowable m seen (kept ++ take n ps)) c.as_slice.ensures.pairs (c.in_ok-core.ensures.none (ap is_some c.in-None.is)) in
     record {
-      shrinking = subst (λ ps. IsShrinking m seen c.args.pairs ps c.pop.new.self) (sym c.in_ok-push-in-None.ensures.ok)
-          (one_kept m seen c.args.pairs kept c.pop.new.self c.in-Some.pair h (showable_fits m (kept ++ c.pop.new.self) seen shows));
+      shrinking = subst (λ (ks : List Pair). IsShrinking m seen c.args.pairs ks (take n left)) (sym c.in_ok-push-in-None.ensures.ok)
+          (one_kept m seen c.args.pairs kept (take n left) c.get-pair.result.now h (showable_fits m (kept ++ take n left) seen shows));
+      room = omega (arith, c.leaving.invariant.room);
       space = c.in_ok-core.ensures.space;
     }
 
@@ -74,4 +114,5 @@ pub returns : goal.returns
 returns c =
     let m = c.args.rules.now.model.now in
     let seen = c.args.seen.now.pairs in
-    none_left m seen c.args.pairs c.leaving.kept (subst (IsShrinking m seen c.args.pairs c.leaving.kept) c.in_default.ensures.0 c.leaving.invariant.shrinking)
+    let none : c.leaving.count ≡ 0 = omega (arith, c.leaving-test.false) in
+    none_left m seen c.args.pairs c.leaving.kept (subst (λ (k : ℕ). IsShrinking m seen c.args.pairs c.leaving.kept (take k c.leaving.left)) none c.leaving.invariant.shrinking)

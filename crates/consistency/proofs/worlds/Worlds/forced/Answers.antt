@@ -1,8 +1,7 @@
-use Rattle.std.proofs.Common.{◌≡◌, ap, subst, sym, ◌∙◌, length, [], List, ℕ, None}
+use Rattle.std.proofs.Common.{ap, subst, sym, ◌∙◌, length, [], None}
 use Rattle.clause_form.specs.Formulas.{AreClausesOf}
 use Rattle.consistency.specs.Base.{IsBase}
-use Rattle.consistency.specs.Search.{IsBackbone}
-use Rattle.consistency.proofs.ForcedPairs.{no_solution, backbone_forced, forced_values}
+use Rattle.consistency.proofs.ForcedPairs.{no_solution, forced_by}
 use Rattle.cca_base.proofs.StatePairs.{pairs_have_modes}
 use Rattle.consistency.proofs.worlds.Worlds.forced.Goals as goal
 
@@ -18,20 +17,10 @@ backbone-requires-clause-some c none =
 
 pub returns-clause-forced : goal.returns-clause-forced
 returns-clause-forced c =
-    let m = c.args.model.now in
-    let problem = c.self.inside.problem in
-    let fresh : List ℕ = c.see.new.space.search.base.items in
-    let n : c.len-components.result ≡ length m.components = c.len-components.ensures ∙ ap length c.components.ensures.value in
-    let base = subst (λ ps. IsBase problem.sizes (length m.components) ps [] fresh) (c.as_slice.ensures.pairs ∙ c.in_ok-modes.ensures) c.see.ensures.base in
-    let found = subst (λ (k : ℕ). IsBackbone problem.clauses fresh k c.args.vars c.in_ok-pairs.pairs) n c.in_ok-pairs.ensures in
-    backbone_forced m c.args.state.now.modes problem fresh (subst (AreClausesOf m None None) (sym c.self.view_is) c.requires.of) base c.requires.state c.requires.world c.args.vars c.in_ok-pairs.pairs found
+    (forced_by c.args.model.now c.args.state.now.modes c.self.inside.problem c.as_slice.result.now _ _ c.args.vars _ (subst (AreClausesOf c.args.model.now None None) (sym c.self.view_is) c.requires.of)
+    c.see.ensures.base (c.as_slice.ensures.pairs ∙ c.in_ok-modes.ensures) (c.len-components.ensures ∙ ap length c.components.ensures.value) c.requires.state c.requires.world c.in_ok-pairs.ensures).0
 
 pub returns-clause-values : goal.returns-clause-values
 returns-clause-values c =
-    let m = c.args.model.now in
-    let problem = c.self.inside.problem in
-    let fresh : List ℕ = c.see.new.space.search.base.items in
-    let n : c.len-components.result ≡ length m.components = c.len-components.ensures ∙ ap length c.components.ensures.value in
-    let base = subst (λ ps. IsBase problem.sizes (length m.components) ps [] fresh) (c.as_slice.ensures.pairs ∙ c.in_ok-modes.ensures) c.see.ensures.base in
-    let found = subst (λ (k : ℕ). IsBackbone problem.clauses fresh k c.args.vars c.in_ok-pairs.pairs) n c.in_ok-pairs.ensures in
-    forced_values m c.args.state.now.modes problem fresh (subst (AreClausesOf m None None) (sym c.self.view_is) c.requires.of) base c.requires.state c.requires.world c.args.vars c.in_ok-pairs.pairs found
+    (forced_by c.args.model.now c.args.state.now.modes c.self.inside.problem c.as_slice.result.now _ _ c.args.vars _ (subst (AreClausesOf c.args.model.now None None) (sym c.self.view_is) c.requires.of)
+    c.see.ensures.base (c.as_slice.ensures.pairs ∙ c.in_ok-modes.ensures) (c.len-components.ensures ∙ ap length c.components.ensures.value) c.requires.state c.requires.world c.in_ok-pairs.ensures).1

@@ -1,9 +1,7 @@
 use Rattle.std.proofs.Common.{◌≡◌, ◌∙◌, All, Contains, ap, subst, sym}
 use Rattle.std.proofs.lemmas.List.Elements.{All-filter}
-use Rattle.std.proofs.lemmas.List.Kept.{AllPairs-filter}
 use Rattle.list_laws.proofs.Members.{all_from, from_filter}
 use Rattle.cca_base.specs.declared.cube.Pair.{Pair}
-use Rattle.cca_base.specs.Cube.{IsCube}
 use Rattle.cca_base.specs.Model.{HasMode}
 use Rattle.cca_base.specs.Repairs.{pairs_of}
 use Rattle.cca_base.specs.Shown.{Clash}
@@ -11,12 +9,6 @@ use Rattle.consistency.specs.Cores.{IsCore, pairs_in}
 use Rattle.clash_analysis.specs.Subjects.{is_in}
 use Rattle.cca_base.proofs.StatePairs.{pairs_have_modes}
 use Rattle.consistency.proofs.worlds.Worlds.minimal_clash.Goals as goal
-
-pub minimal_part-requires-clause-cube : goal.minimal_part-requires-clause-cube
-minimal_part-requires-clause-cube c =
-    let core = c.in-Some.blamed.core in
-    let among = c.in_ok-among.ensures ∙ ap (pairs_in core) c.as_slice.ensures.pairs in
-    subst IsCube (sym among) (AllPairs-filter (λ (p q : Pair). p.item ≡ q.item → ⊥) (λ (p : Pair). is_in core p.item) c.in-Some.blamed.pairs c.as_slice.ensures.cube)
 
 pub minimal_part-requires-clause-modes : goal.minimal_part-requires-clause-modes
 minimal_part-requires-clause-modes c =
