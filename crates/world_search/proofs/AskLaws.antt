@@ -12,11 +12,11 @@ use Rattle.clash_analysis.specs.Trails.{AllWithin}
 use Rattle.clash_analysis.specs.Ends.{AreSets}
 use Rattle.clash_analysis.specs.Laws.{Passes}
 use Rattle.world_search.specs.declared.answer.Answer.{Answer}
-use Rattle.world_search.specs.declared.lessons.Lessons.{Lessons}
+use Rattle.world_search.specs.declared.store.Store.{Store}
 use Rattle.world_search.specs.declared.space.Space.{Space}
 use Rattle.world_search.specs.declared.words.WordClause.{WordClause}
-use Rattle.world_search.specs.Lessons.{AreKept}
-use Rattle.world_search.specs.Looked.{AreLookedAt}
+use Rattle.world_search.specs.Stores.{AreKept}
+use Rattle.world_search.specs.Asked.{AreAllMetIn}
 use Rattle.world_search.specs.Spaces.{AreBuffers, AreInSizes, AreLearned, IsBegun, IsSpace, world_in}
 use Rattle.world_search.specs.Words.{MeanSame}
 use Rattle.world_search.specs.Worlds.{IsAnswer, IsAnswerOn, IsSolution}
@@ -35,7 +35,7 @@ pub fewer_clauses : (clauses more : List Clause) (base xs : List ℕ) → IsSolu
 fewer_clauses clauses more base xs world = record { full = world.full; within = world.within; met = all_left (λ (c : Clause). meets xs c ≡ true) clauses more world.met }
 
 -- clauses that are kept are true in each world, or in each list that the test of worlds passes
-module _ (clauses : List Clause) (base : List ℕ) (l : Lessons) where
+module _ (clauses : List Clause) (base : List ℕ) (l : Store) where
   pub kept_of : (more : List Clause) → AreLearned clauses base l → AreKept l (is_world (clauses ++ more) base)
   kept_of more learned k d h xs is = learned xs (fewer_clauses clauses more base xs (world_of (clauses ++ more) base xs is)) k d h
 
@@ -48,14 +48,14 @@ buffers_base n s are = subst (λ k. AreBuffers k s) (sym are.base) are
 
 -- the workspace after a question, with what was learned by it
 pub space_after : (c : Clauses) (old new : Space) → IsSpace c old → old.stuck ≡ false → AreBuffers (length old.base.items) new → new.work.start.items ≡ old.work.start.items → length new.work.trail.items ≡ length old.work.trail.items → new.base.items ≡ old.base.items
-    → new.stuck ≡ old.stuck → AreLearned c.clauses old.base.items new.lessons → IsSpace c new
+    → new.stuck ≡ old.stuck → AreLearned c.clauses old.base.items new.store → IsSpace c new
 space_after c old new is none are start room base stuck learned =
     let roomy = is.roomy none in
     record {
       buffers = subst (λ k. AreBuffers k new) is.buffers.base are;
       room = room ∙ is.room;
       sizes = subst (AreInSizes c.sizes) (sym base) is.sizes;
-      learned = subst (λ b. AreLearned c.clauses b new.lessons) (sym base) learned;
+      learned = subst (λ b. AreLearned c.clauses b new.store) (sym base) learned;
       stuck = λ yes. absurd (false≢true (sym (stuck ∙ none) ∙ yes));
       roomy = λ _. record { sets = subst (AreSets MAX_CHOICES) (sym start) roomy.sets; room = rw (start, room) roomy.room };
       begun = λ _. subst (λ b. IsBegun c.clauses b new.work.start.items) (sym base) (subst (λ s. IsBegun c.clauses old.base.items s) (sym start) (is.begun none));
@@ -65,10 +65,10 @@ module _ (c : Clauses) (more : List Clause) (rules others : List WordClause) (on
   abbrev pub all : List Clause
   all = c.clauses ++ more
 
-  pub looked : AreLookedAt (rules ++ others) (take old.lessons.kept old.lessons.slots.items) (is_world (c.clauses ++ more) old.base.items)
+  pub looked : AreAllMetIn (rules ++ others) (take old.store.kept old.store.slots.items) (is_world (c.clauses ++ more) old.base.items)
   looked = record {
     met = met_in_worlds all (rules ++ others) (zip_append c.clauses more rules others one other) old.base.items;
-    taught = kept_of c.clauses old.base.items old.lessons more is.learned;
+    learned = kept_of c.clauses old.base.items old.store more is.learned;
   }
 
   pub within_start : AllWithin (Passes (is_world (c.clauses ++ more) old.base.items)) old.work.start.items
@@ -76,8 +76,8 @@ module _ (c : Clauses) (more : List Clause) (rules others : List WordClause) (on
 
   -- the answer is one over what is seen
   pub answer_after : (new : Space) (pairs : List Pair) (answer : Answer) → AreBuffers (length old.base.items) new → new.base.items ≡ old.base.items
-      → IsAnswerOn (AreLookedAt (rules ++ others) (take old.lessons.kept old.lessons.slots.items)) (rules ++ others) old.work.start.items (world_in new) pairs answer → IsAnswer (c.clauses ++ more) new.base.items new.world.items pairs answer
+      → IsAnswerOn (AreAllMetIn (rules ++ others) (take old.store.kept old.store.slots.items)) (rules ++ others) old.work.start.items (world_in new) pairs answer → IsAnswer (c.clauses ++ more) new.base.items new.world.items pairs answer
   answer_after new pairs answer are base on =
       subst (λ b. IsAnswer all b new.world.items pairs answer) (sym base)
-      (answer_of all (rules ++ others) (zip_append c.clauses more rules others one other) old.base.items (AreLookedAt (rules ++ others) (take old.lessons.kept old.lessons.slots.items)) looked old.work.start.items new.world.items pairs answer
+      (answer_of all (rules ++ others) (zip_append c.clauses more rules others one other) old.base.items (AreAllMetIn (rules ++ others) (take old.store.kept old.store.slots.items)) looked old.work.start.items new.world.items pairs answer
       (is.buffers.subjects ∙ sym is.buffers.base) are.world ((is.begun none).within) (λ xs world. (is.begun none).all xs (fewer_clauses c.clauses more old.base.items xs world)) on)

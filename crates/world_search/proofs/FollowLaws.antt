@@ -10,8 +10,8 @@ use Rattle.world_search.specs.Followed.{IsFollowed}
 use Rattle.world_search.specs.declared.words.WordClause.{WordClause}
 use Rattle.world_search.specs.declared.words.WordLiteral.{WordLiteral}
 use Rattle.world_search.specs.Words.{AreMetIn, IsMetIn}
-use Rattle.world_search.specs.declared.lessons.Slot.{Slot}
-use Rattle.world_search.specs.Lessons.{AreTaught, clause_of}
+use Rattle.world_search.specs.declared.store.Slot.{Slot}
+use Rattle.world_search.specs.Stores.{AreSlotsMetIn, clause_of}
 
 pub longer_then : (one two three : Work) → IsLonger one two → IsLonger two three → IsLonger one three
 longer_then one two three a b = record {
@@ -87,8 +87,8 @@ pub one_met : (clauses : List WordClause) (i : ℕ) (d : WordClause) (literals :
 one_met clauses i d literals h same want all = rw same (all i d h)
 
 -- the clause of one of the slots
-pub one_taught : (slots : List Slot) (i : ℕ) (d : Slot) (literals : List WordLiteral) → i < length slots → literals ≡ clause_of (get_or slots i d) → (want : List ℕ → Bool) → AreTaught slots want → IsMetIn literals want
-one_taught slots i d literals h same want all = rw same (all i d h)
+pub one_kept : (slots : List Slot) (i : ℕ) (d : Slot) (literals : List WordLiteral) → i < length slots → literals ≡ clause_of (get_or slots i d) → (want : List ℕ → Bool) → AreSlotsMetIn slots want → IsMetIn literals want
+one_kept slots i d literals h same want all = rw same (all i d h)
 
 -- the clauses in front, and those behind
 module _ (front back : List WordClause) (want : List ℕ → Bool) where

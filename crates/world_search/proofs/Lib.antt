@@ -10,5 +10,5 @@ pub mod SettleLaws
 pub mod SizeLaws
 pub mod WorldLaws
 pub mod SpaceLaws
-pub mod LessonLaws
+pub mod StoreLaws
 pub mod AskLaws

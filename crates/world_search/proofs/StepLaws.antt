@@ -11,14 +11,15 @@ use Rattle.clash_analysis.specs.Trails.{AllWithin, AreEntries, left_by}
 use Rattle.clash_analysis.specs.Laws.{Passes}
 use Rattle.clash_analysis.proofs.TrailLaws.{entries_back, left_both}
 use Rattle.clash_analysis.proofs.UndoLaws.{left_within}
-use Rattle.world_search.specs.declared.lessons.Slot.{Slot}
+use Rattle.world_search.specs.declared.store.Slot.{Slot}
 use Rattle.world_search.specs.declared.words.WordClause.{WordClause}
 use Rattle.world_search.specs.declared.work.Work.{Work}
 use Rattle.world_search.specs.Choices.{IsFoundFalse, IsStep}
 use Rattle.world_search.specs.Followed.{IsFollowed}
-use Rattle.world_search.specs.declared.lessons.Lessons.{Lessons}
-use Rattle.world_search.specs.Lessons.{AreKept, AreLessons, AreTaught, IsSlot, KeepsClauses}
-use Rattle.world_search.specs.Looked.{AreLookedAt}
+use Rattle.world_search.specs.declared.store.Store.{Store}
+use Rattle.world_search.specs.declared.store.Note.{Note}
+use Rattle.world_search.specs.Stores.{AreKept, IsStore, AreSlotsMetIn, IsSlot, KeepsClauses}
+use Rattle.world_search.specs.Asked.{AreAllMetIn}
 use Rattle.world_search.specs.Words.{AreMetIn, IsClauseInside, IsMetIn}
 use Rattle.world_search.specs.Works.{IsClashed, IsReady, IsRight, KeepsBelow, StandsAbove}
 use Rattle.world_search.proofs.WorkLaws.{moved_below, moved_weight}
@@ -70,11 +71,11 @@ none_within sets xs w v h = absurd (false≢true w)
 pub none_met : (clauses : List WordClause) → AreMetIn clauses none
 none_met clauses k d h xs w = absurd (false≢true w)
 
-pub none_taught : (slots : List Slot) → AreTaught slots none
-none_taught slots k d h xs w = absurd (false≢true w)
+pub none_kept : (slots : List Slot) → AreSlotsMetIn slots none
+none_kept slots k d h xs w = absurd (false≢true w)
 
-pub none_looked_at : (clauses : List WordClause) (slots : List Slot) → AreLookedAt clauses slots none
-none_looked_at clauses slots = record { met = none_met clauses; taught = none_taught slots }
+pub none_looked_at : (clauses : List WordClause) (slots : List Slot) → AreAllMetIn clauses slots none
+none_looked_at clauses slots = record { met = none_met clauses; learned = none_kept slots }
 
 -- what is left is within what was left below all levels
 pub within_before : (old new : Work) (pairs : List Pair) → IsRight none pairs old → IsRight none pairs new → new.start.items ≡ old.start.items → old.levels ≡ 0 → KeepsBelow old new
@@ -101,25 +102,25 @@ module _ (front back : List WordClause) (x : WordClause) (among : Contains (fron
   pub one_inside : (n : ℕ) → All (IsClauseInside n) front → All (IsClauseInside n) back → IsClauseInside n x
   one_inside n some others = All-contains (IsClauseInside n) (front ++ back) x (All-append (IsClauseInside n) front back some others) among
 
-  pub one_of : (slots : List Slot) (want : List ℕ → Bool) → AreLookedAt (front ++ back) slots want → IsMetIn x.literals.items want
+  pub one_of : (slots : List Slot) (want : List ℕ → Bool) → AreAllMetIn (front ++ back) slots want → IsMetIn x.literals.items want
   one_of slots want is = All-contains (λ (c : WordClause). IsMetIn c.literals.items want) (front ++ back) x is.met among
 
--- other marks
-pub lessons_marked : (n m : ℕ) (l : Lessons) (uses : List Bool) → n ≡ m → length uses ≡ length l.uses.items → AreLessons n l → AreLessons m (record l { uses = with_items l.uses uses })
-lessons_marked n m l uses same long ok = record {
+-- other notes
+pub store_noted : (n m : ℕ) (l : Store) (notes : List Note) → n ≡ m → length notes ≡ length l.notes.items → IsStore n l → IsStore m (record l { notes = with_items l.notes notes })
+store_noted n m l notes same long ok = record {
   room = ok.room;
   slots = subst (λ k. All (IsSlot k) l.slots.items) same ok.slots;
-  marks = ap length (with_items_is l.uses uses (long ∙ sym l.uses.ok.0)) ∙ long ∙ ok.marks;
+  marks = ap length (with_items_is l.notes notes (long ∙ sym l.notes.ok.0)) ∙ long ∙ ok.marks;
   counts = ok.counts ∙ same;
 }
 
 -- the same clauses
-module _ (old new : Lessons) (same : KeepsClauses old new) where
+module _ (old new : Store) (same : KeepsClauses old new) where
   pub kept_same : (want : List ℕ → Bool) → AreKept old want → AreKept new want
-  kept_same want taught = rw (same.slots, same.kept) taught
+  kept_same want learned = rw (same.slots, same.kept) learned
 
-  pub lessons_same : (n m : ℕ) → n ≡ m → AreLessons n old → AreLessons m new
-  lessons_same n m is ok = record {
+  pub store_same : (n m : ℕ) → n ≡ m → IsStore n old → IsStore m new
+  store_same n m is ok = record {
     room = rw (same.slots, same.kept) ok.room;
     slots = rw same.slots (subst (λ k. All (IsSlot k) old.slots.items) is ok.slots);
     marks = same.marks ∙ ok.marks ∙ sym (ap length same.slots);

@@ -10,9 +10,9 @@ use Rattle.world_search.specs.declared.rules.Rules.{Rules}
 use Rattle.world_search.specs.declared.space.Space.{Space}
 use Rattle.world_search.specs.Mended.{HasRoom}
 use Rattle.world_search.specs.Settled.{AreWithinSets}
-use Rattle.world_search.specs.declared.lessons.Lessons.{Lessons}
+use Rattle.world_search.specs.declared.store.Store.{Store}
 use Rattle.world_search.specs.declared.words.WordClause.{WordClause}
-use Rattle.world_search.specs.Lessons.{AreLessons, clause_of}
+use Rattle.world_search.specs.Stores.{IsStore, clause_of}
 use Rattle.world_search.specs.Words.{IsClauseInside, MeanSame, met}
 use Rattle.world_search.specs.Works.{IsRoomy, IsShaped}
 use Rattle.world_search.specs.Worlds.{IsSolution}
@@ -53,26 +53,25 @@ pub record AreBuffers (n : ℕ) (s : Space) : Type 0 where
   pub world : length s.world.items ≡ n
   pub trial : length s.trial.items ≡ n
   pub mending : HasRoom n s.mending
-  pub lessons : AreLessons n s.lessons
+  pub store : IsStore n s.store
 
 -- what was learned, and what was begun with, is the same
 pub record KeepsSearch (old new : Space) : Type 0 where
   pub work : new.work ≡ old.work
-  pub lessons : new.lessons ≡ old.lessons
+  pub store : new.store ≡ old.store
   pub base : new.base.items ≡ old.base.items
   pub stuck : new.stuck ≡ old.stuck
-  pub near : new.near ≡ old.near
 
 -- each clause that is kept is true in each world
-abbrev pub AreLearned : List Clause → List ℕ → Lessons → Type 0
-AreLearned clauses base lessons = (xs : List ℕ) → IsSolution clauses base xs → All (λ s. met xs (clause_of s) ≡ true) (take lessons.kept lessons.slots.items)
+abbrev pub AreLearned : List Clause → List ℕ → Store → Type 0
+AreLearned clauses base store = (xs : List ℕ) → IsSolution clauses base xs → All (λ s. met xs (clause_of s) ≡ true) (take store.kept store.slots.items)
 
 -- there are buffers for the subjects of the clauses, and it is known what these leave of the sets, or that there is no world
 pub record IsSpace (clauses : Clauses) (s : Space) : Type 0 where
   pub buffers : AreBuffers (length clauses.sizes) s
   pub room : length s.work.trail.items ≡ sum_by (λ n. n - 1) clauses.sizes
   pub sizes : AreInSizes clauses.sizes s.base.items
-  pub learned : AreLearned clauses.clauses s.base.items s.lessons
+  pub learned : AreLearned clauses.clauses s.base.items s.store
   pub stuck : s.stuck ≡ true → (xs : List ℕ) → IsSolution clauses.clauses s.base.items xs → ⊥
   pub roomy : s.stuck ≡ false → IsRoomy s.work
   pub begun : s.stuck ≡ false → IsBegun clauses.clauses s.base.items s.work.start.items

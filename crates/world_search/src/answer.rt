@@ -8,8 +8,8 @@ ghost use Rattle.clash_analysis.specs.Subjects.{is_in};
 ghost use Rattle.clash_analysis.specs.Trails.{AllWithin};
 ghost use Rattle.world_search.specs.Assumed.{AreAsked, IsLost};
 ghost use Rattle.world_search.specs.Choices.{AllMetBy, AreOf};
-ghost use Rattle.world_search.specs.Lessons.{AreKept};
-ghost use Rattle.world_search.specs.Looked.{AreLookedAt};
+ghost use Rattle.world_search.specs.Stores.{AreKept};
+ghost use Rattle.world_search.specs.Asked.{AreAllMetIn};
 ghost use Rattle.world_search.specs.Spaces.{AreBuffers, KeepsSearch, world_in};
 ghost use Rattle.world_search.specs.Words.{AreMetIn, IsClauseInside};
 ghost use Rattle.world_search.specs.Works.{IsReady, IsRight, IsRoomy, IsShaped};
@@ -99,10 +99,9 @@ pub fn answer_on(rules: &Rules, beside: &[WordClause], space: &mut Space, pairs:
     ensures room { length space.new.work.trail.items ≡ length space.old.work.trail.items }
     ensures base { space.new.base.items ≡ space.old.base.items }
     ensures stuck { space.new.stuck ≡ space.old.stuck }
-    ensures near { space.new.near ≡ space.old.near }
     ensures kept { (want : List ℕ → Bool) → AreMetIn (rules.now.clauses.items ++ beside.now) want →
-        AllWithin (Passes want) space.old.work.start.items → AreKept space.old.lessons want → AreKept space.new.lessons want }
-    ensures answer { IsAnswerOn (AreLookedAt (rules.now.clauses.items ++ beside.now) (take space.old.lessons.kept space.old.lessons.slots.items))
+        AllWithin (Passes want) space.old.work.start.items → AreKept space.old.store want → AreKept space.new.store want }
+    ensures answer { IsAnswerOn (AreAllMetIn (rules.now.clauses.items ++ beside.now) (take space.old.store.kept space.old.store.slots.items))
         (rules.now.clauses.items ++ beside.now) space.old.work.start.items (world_in space.new) pairs.now result }
 {
     if is_mended(rules, beside, space, pairs) {
@@ -112,12 +111,12 @@ pub fn answer_on(rules: &Rules, beside: &[WordClause], space: &mut Space, pairs:
     if let Some(pair) = assume_all(&mut space.work, pairs) {
         return Answer::Clash(blame_pair(&mut space.work, pair));
     }
-    space.lessons.clashes = 0;
+    space.store.clashes = 0;
     if let Some(blamed) = search_world(
         rules,
         beside,
         &mut space.work,
-        &mut space.lessons,
+        &mut space.store,
         &space.world,
         &mut space.trial,
     ) {

@@ -1,14 +1,13 @@
 //! Whether some world has given pairs, and if not, which of them are to blame: a search with learning in a workspace that is made once.
 #![tactic(auto)]
 
+mod activity;
 mod answer;
 mod assume;
 mod beside;
 mod choose;
 mod learn;
-mod lessons;
 mod mend;
-mod naming;
 mod problem;
 mod propagate;
 mod restart;
@@ -17,6 +16,7 @@ mod rules;
 mod search;
 mod seen;
 mod space;
+mod store;
 mod vary;
 mod visit;
 mod words;

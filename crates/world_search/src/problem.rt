@@ -10,13 +10,13 @@ ghost use Rattle.world_search.specs.Worlds.{IsAnswer, IsSolution};
 
 use crate::answer::{Answer, answer_on};
 use crate::beside::Beside;
-use crate::lessons::{forget, lessons_for};
 use crate::mend::Mending;
 use crate::restart::begin_with;
 use crate::room::{room_for, work_of};
 use crate::rules::{Rules, rules_of};
 use crate::seen::put_words;
 use crate::space::Space;
+use crate::store::{forget, store_for};
 use crate::vary::vary_from;
 use crate::words::WordClause;
 use cca_base::{Pair, ValueSet};
@@ -73,7 +73,7 @@ impl Problem {
         let room = room_for(&self.clauses.sizes);
         let base = vec![in alloc; 0; room.subjects]?;
         let work = work_of(alloc, &room)?;
-        let lessons = lessons_for(alloc, room.slots, room.subjects)?;
+        let store = store_for(alloc, room.slots, room.subjects)?;
         let world = vec![in alloc; 0; room.subjects]?;
         let trial = vec![in alloc; 0; room.subjects]?;
         let mending = Mending {
@@ -84,7 +84,7 @@ impl Problem {
         let mut space = Space {
             base,
             work,
-            lessons,
+            store,
             world,
             trial,
             mending,
@@ -102,32 +102,35 @@ impl Problem {
         requires sizes { AreInSizes self.now.sizes (base_in space.old) }
         ensures space { IsSpace self.now space.new }
         ensures base { base_in space.new ≡ base_in space.old }
+        ensures world { world_in space.new ≡ world_in space.old }
     {
         space.near = near.is_some();
-        forget(&mut space.lessons);
+        forget(&mut space.store);
         space.stuck = begin_with(&self.rules, near, &mut space.work, &space.base);
     }
 
-    /// From now on each subject may be what its set says. Where that is nothing new, nothing is done.
+    /// From now on each subject may be what its set says. Where all clauses have been looked at with these sets, nothing is done.
     pub fn see(&self, space: &mut Space, sets: &[ValueSet])
         requires space { IsSpace self.now space.old }
         requires full { length sets.now ≡ length self.now.sizes }
         requires sizes { AreInSizes self.now.sizes sets.now }
         ensures space { IsSpace self.now space.new }
         ensures base { base_in space.new ≡ sets.now }
+        ensures world { world_in space.new ≡ world_in space.old }
     {
         if put_words(sets, &mut space.base) || space.near {
             self.begin(space, None);
         }
     }
 
-    /// The same, but only what the clauses say that name a subject of those beside, and what follows, is known from now on. It is less work than `see`.
+    /// The same, but where the sets are others, only the clauses are looked at that name a subject of those beside, and what follows. It is less work.
     pub fn see_near(&self, space: &mut Space, sets: &[ValueSet], beside: &Beside)
         requires space { IsSpace self.now space.old }
         requires full { length sets.now ≡ length self.now.sizes }
         requires sizes { AreInSizes self.now.sizes sets.now }
         ensures space { IsSpace self.now space.new }
         ensures base { base_in space.new ≡ sets.now }
+        ensures world { world_in space.new ≡ world_in space.old }
     {
         if put_words(sets, &mut space.base) || space.near {
             self.begin(space, Some(beside.words.as_slice()));
@@ -138,8 +141,9 @@ impl Problem {
     pub fn left(&self, space: &Space, subject: usize) -> u64
         requires space { IsSpace self.now space.now }
         requires subject { subject < length self.now.sizes }
-        ensures { (xs : List ℕ) → IsSolution self.now.clauses (base_in space.now) xs →
+        ensures world { (xs : List ℕ) → IsSolution self.now.clauses (base_in space.now) xs →
             has result (slice_index xs subject) ≡ true }
+        ensures within { (a : ℕ) → has result a ≡ true → has (slice_index (base_in space.now) subject) a ≡ true }
     {
         if space.stuck {
             0
@@ -184,7 +188,7 @@ impl Problem {
             return Answer::Clash(no_subject());
         }
         let answer = answer_on(&self.rules, beside.words.as_slice(), space, pairs);
-        forget(&mut space.lessons);
+        forget(&mut space.store);
         answer
     }
 }

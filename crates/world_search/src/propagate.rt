@@ -1,14 +1,14 @@
-//! Unit propagation: each clause that names a subject of the trail is looked at, until all of the trail is followed.
+//! Unit propagation: each clause that names a subject of the trail is looked at, and those beside and those learned, until nothing comes of it.
 
 ghost use Rattle.std.specs.Prelude.{◌≡◌, ℕ, Bool, ◌<◌, ◌≤◌, ◌++◌, false, List, length, All};
 ghost use Rattle.world_search.specs.Followed.{IsFollowed};
-ghost use Rattle.world_search.specs.Lessons.{AreTaught, IsSlot};
-ghost use Rattle.world_search.specs.Looked.{AreLookedAt};
-ghost use Rattle.world_search.specs.Words.{AreMetIn, IsClauseInside};
+ghost use Rattle.world_search.specs.Stores.{AreSlotsMetIn, IsSlot};
+ghost use Rattle.world_search.specs.Asked.{AreAllMetIn};
+ghost use Rattle.world_search.specs.Words.{AreInside, AreMetIn, IsClauseInside, IsMetIn};
 ghost use Rattle.world_search.specs.Works.{IsClear, IsReady};
 
-use crate::lessons::Slot;
 use crate::rules::{Rules, places_at};
+use crate::store::{Note, Slot};
 use crate::visit::visit_clause;
 use crate::words::{WordClause, WordLiteral};
 use crate::work::Work;
@@ -121,32 +121,67 @@ pub fn follow_first(rules: &Rules, near: Option<&[WordClause]>, work: &mut Work)
     follow_trail(rules, work)
 }
 
-/// Marks the slot.
-fn mark(uses: &mut [bool], k: usize)
-    ensures { length uses.new ≡ length uses.old }
+/// Whether the literal at the place can be true.
+fn is_open(literals: &[WordLiteral], dom: &[u64], place: usize) -> bool
+    requires { AreInside (length dom.now) literals.now }
 {
-    if k < uses.len() {
-        uses[k] = true;
-    }
+    place < literals.len() && dom[literals[place].subject as usize] & literals[place].values != 0
 }
 
-/// Looks at the clauses of the slots once, and marks those that narrow a subject.
-fn visit_slots(slots: &[Slot], uses: &mut [bool], work: &mut Work) -> bool
+/// Whether two literals can be true, so that nothing follows. They are noted, and are the first that are tried the next time.
+fn are_two_open(literals: &[WordLiteral], dom: &[u64], note: &mut Note) -> bool
+    requires { AreInside (length dom.now) literals.now }
+{
+    if note.one != note.other
+        && is_open(literals, dom, note.one)
+        && is_open(literals, dom, note.other)
+    {
+        return true;
+    }
+    let mut found = literals.len();
+    for place in 0..literals.len() {
+        if is_open(literals, dom, place) {
+            if found < literals.len() {
+                note.one = found;
+                note.other = place;
+                return true;
+            }
+            found = place;
+        }
+    }
+    false
+}
+
+/// Looks at the clause of a slot, and notes whether it narrows a subject.
+fn visit_slot(literals: &[WordLiteral], note: &mut Note, work: &mut Work) -> bool
+    requires ready { IsReady work.old }
+    requires inside { AreInside (length work.old.dom.items) literals.now }
+    requires clear { IsClear work.old }
+    ensures followed { IsFollowed (IsMetIn literals.now) work.old work.new result }
+    ensures head { work.new.head ≡ work.old.head }
+{
+    if are_two_open(literals, &work.dom, note) {
+        return false;
+    }
+    let before = work.long;
+    let is_false = visit_clause(literals, work);
+    note.of_use = note.of_use || is_false || work.long > before;
+    is_false
+}
+
+/// Looks at the clauses of the slots once.
+fn visit_slots(slots: &[Slot], notes: &mut [Note], work: &mut Work) -> bool
     requires ready { IsReady work.old }
     requires slots { All (IsSlot (length work.old.dom.items)) slots.now }
+    requires notes { length slots.now ≤ length notes.old }
     requires clear { IsClear work.old }
-    ensures followed { IsFollowed (AreTaught slots.now) work.old work.new result }
+    ensures followed { IsFollowed (AreSlotsMetIn slots.now) work.old work.new result }
     ensures head { work.new.head ≡ work.old.head }
-    ensures marks { length uses.new ≡ length uses.old }
+    ensures notes { length notes.new ≡ length notes.old }
 {
     for (k, slot) in slots.iter().enumerate() {
-        let before = work.long;
-        if visit_clause(&slot.literals[..slot.long], work) {
-            mark(uses, k);
+        if visit_slot(&slot.literals[..slot.long], &mut notes[k], work) {
             return true;
-        }
-        if work.long > before {
-            mark(uses, k);
         }
     }
     false
@@ -157,19 +192,20 @@ pub fn follow_all(
     rules: &Rules,
     beside: &[WordClause],
     slots: &[Slot],
-    uses: &mut [bool],
+    notes: &mut [Note],
     work: &mut Work,
 ) -> bool
     requires ready { IsReady work.old }
     requires inside { All (IsClauseInside (length work.old.dom.items)) rules.now.clauses.items }
     requires beside { All (IsClauseInside (length work.old.dom.items)) beside.now }
     requires slots { All (IsSlot (length work.old.dom.items)) slots.now }
+    requires notes { length slots.now ≤ length notes.old }
     requires clear { IsClear work.old }
-    ensures followed { IsFollowed (AreLookedAt (rules.now.clauses.items ++ beside.now) slots.now) work.old work.new result }
-    ensures marks { length uses.new ≡ length uses.old }
+    ensures followed { IsFollowed (AreAllMetIn (rules.now.clauses.items ++ beside.now) slots.now) work.old work.new result }
+    ensures notes { length notes.new ≡ length notes.old }
 {
     'again: loop {
-        if follow_trail(rules, work) || visit_all(beside, work) || visit_slots(slots, uses, work) {
+        if follow_trail(rules, work) || visit_all(beside, work) || visit_slots(slots, notes, work) {
             return true;
         }
         if work.head >= work.long {

@@ -6,7 +6,7 @@ ghost use Rattle.world_search.specs.Works.{IsShaped};
 ghost use Rattle.clash_analysis.specs.declared.subjects.TheConstants.{SET_SUBJECTS};
 ghost use Rattle.world_search.specs.declared.work.TheConstants.{MAX_ROOM};
 
-use crate::lessons::MAX_SLOTS;
+use crate::store::MAX_SLOTS;
 use crate::work::Work;
 use clash_analysis::{Entry, Why};
 use clause_form::Sizes;

@@ -3,8 +3,8 @@
 ghost use Rattle.std.specs.Prelude.{◌≡◌};
 ghost use Rattle.world_search.specs.Spaces.{world_in};
 
-use crate::lessons::Lessons;
 use crate::mend::Mending;
+use crate::store::Store;
 use crate::work::Work;
 
 /// What each subject may be, the world at hand, and the buffers of a search. A `Problem` makes it, and it serves that one alone.
@@ -13,7 +13,7 @@ pub struct Space {
     /// What each subject may be, by what is seen.
     pub(crate) base: Vec<u64>,
     pub(crate) work: Work,
-    pub(crate) lessons: Lessons,
+    pub(crate) store: Store,
     /// The world that was found last, or any values.
     pub(crate) world: Vec<u8>,
     pub(crate) trial: Vec<u8>,

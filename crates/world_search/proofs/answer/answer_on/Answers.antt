@@ -6,11 +6,11 @@ use Rattle.clash_analysis.specs.Trails.{AllWithin}
 use Rattle.clash_analysis.specs.Laws.{Passes}
 use Rattle.cca_base.specs.Sets.{has}
 use Rattle.cca_base.specs.declared.limits.TheConstants.{MAX_CHOICES}
-use Rattle.world_search.specs.declared.lessons.Lessons.{Lessons}
+use Rattle.world_search.specs.declared.store.Store.{Store}
 use Rattle.world_search.specs.declared.work.Work.{Work}
 use Rattle.world_search.specs.Assumed.{IsHeld}
 use Rattle.world_search.specs.Choices.{AllMetBy, AreOf}
-use Rattle.world_search.specs.Lessons.{AreKept}
+use Rattle.world_search.specs.Stores.{AreKept}
 use Rattle.world_search.specs.Worlds.{HasAll}
 use Rattle.world_search.proofs.StepLaws.{dom_same, none, within_before}
 use Rattle.world_search.proofs.WorkLaws.{moved_below}
@@ -34,7 +34,7 @@ returns-in-Some-search_world-clause-kept c want met all kept =
     let same = c.is_mended.ensures.same in
     let start = c.assume_all.ensures.moved.longer.start ∙ c.restart_at.ensures.start ∙ ap (λ (w : Work). w.start.items) same.work in
     c.search_world.ensures.kept want pairs met (subst (AllWithin (Passes want)) (sym start) all) (c.assume_all.ensures.right want (c.restart_at.ensures.right want pairs))
-    (subst (λ (l : Lessons). AreKept l want) (sym same.lessons) kept)
+    (subst (λ (l : Store). AreKept l want) (sym same.store) kept)
 
 pub returns-in-Some-search_world-clause-answer : goal.returns-in-Some-search_world-clause-answer
 returns-in-Some-search_world-clause-answer c want looked all =
@@ -42,7 +42,7 @@ returns-in-Some-search_world-clause-answer c want looked all =
     let pairs = c.args.pairs.now in
     let same = c.is_mended.ensures.same in
     let start = c.assume_all.ensures.moved.longer.start ∙ c.restart_at.ensures.start ∙ ap (λ (w : Work). w.start.items) same.work in
-    c.in-Some-search_world.ensures.blamed want pairs looked.met (subst (λ (l : Lessons). AreKept l want) (sym same.lessons) looked.taught) (subst (AllWithin (Passes want)) (sym start) all)
+    c.in-Some-search_world.ensures.blamed want pairs looked.met (subst (λ (l : Store). AreKept l want) (sym same.store) looked.learned) (subst (AllWithin (Passes want)) (sym start) all)
     (c.assume_all.ensures.right want (c.restart_at.ensures.right want pairs))
 
 pub returns-clause-kept : goal.returns-clause-kept
@@ -52,7 +52,7 @@ returns-clause-kept c want met all kept =
     let same = c.is_mended.ensures.same in
     let start = c.assume_all.ensures.moved.longer.start ∙ c.restart_at.ensures.start ∙ ap (λ (w : Work). w.start.items) same.work in
     c.search_world.ensures.kept want pairs met (subst (AllWithin (Passes want)) (sym start) all) (c.assume_all.ensures.right want (c.restart_at.ensures.right want pairs))
-    (subst (λ (l : Lessons). AreKept l want) (sym same.lessons) kept)
+    (subst (λ (l : Store). AreKept l want) (sym same.store) kept)
 
 pub returns-clause-answer : goal.returns-clause-answer
 returns-clause-answer c =

@@ -1,5 +1,5 @@
 use Rattle.std.proofs.Common.{arith}
-use Rattle.world_search.proofs.LessonLaws.{has_without}
+use Rattle.world_search.proofs.StoreLaws.{has_without}
 use Rattle.world_search.proofs.SettleLaws.{low_member}
 use Rattle.world_search.proofs.words.without.Goals as goal
 

@@ -1,5 +1,5 @@
 use Rattle.std.proofs.Common.{◌++◌, [], length, subst}
-use Rattle.world_search.specs.Lessons.{AreKept}
+use Rattle.world_search.specs.Stores.{AreKept}
 use Rattle.world_search.proofs.WorldLaws.{is_world}
 use Rattle.std.specs.List.{AllZip}
 use Rattle.std.proofs.lemmas.List.{append-nil}
@@ -22,9 +22,9 @@ returns-clause-space c =
     let same = subst (λ (x : Clauses). AllZip (λ (b : Clause) w. MeanSame b.literals w) x.clauses words) c.self.view_is c.self.invariant.words.same in
     let after = c.answer_on.ensures in
     let test = looked own [] words [] same tt old c.requires.space none in
-    let kept = after.kept (is_world (own.clauses ++ []) old.base.items) test.met (within_start own [] words [] same tt old c.requires.space none) test.taught in
+    let kept = after.kept (is_world (own.clauses ++ []) old.base.items) test.met (within_start own [] words [] same tt old c.requires.space none) test.learned in
     space_after own old c.answer_on.new.space c.requires.space none after.buffers after.start after.room after.base after.stuck
-    (learned_of own.clauses old.base.items c.answer_on.new.space.lessons (subst (λ l. AreKept c.answer_on.new.space.lessons (is_world l old.base.items)) (append-nil own.clauses) kept))
+    (learned_of own.clauses old.base.items c.answer_on.new.space.store (subst (λ l. AreKept c.answer_on.new.space.store (is_world l old.base.items)) (append-nil own.clauses) kept))
 
 pub returns-clause-answer : goal.returns-clause-answer
 returns-clause-answer c =

@@ -4,8 +4,8 @@ use Rattle.std.proofs.lemmas.List.Elements.{All-nil}
 use Rattle.cca_base.specs.declared.limits.TheConstants.{MAX_CHOICES}
 use Rattle.clause_form.specs.declared.clause.Clauses.{Clauses}
 use Rattle.clash_analysis.specs.Ends.{count_all}
-use Rattle.world_search.specs.declared.lessons.Slot.{Slot}
-use Rattle.world_search.specs.Lessons.{clause_of}
+use Rattle.world_search.specs.declared.store.Slot.{Slot}
+use Rattle.world_search.specs.Stores.{clause_of}
 use Rattle.world_search.specs.Spaces.{AreWords}
 use Rattle.world_search.specs.Words.{met}
 use Rattle.world_search.proofs.SizeLaws.{room_below}
@@ -27,7 +27,7 @@ returns-clause-space c =
     let words = c.self.inside.rules.clauses.items in
     let same = (subst (λ (x : Clauses). AreWords x words) c.self.view_is c.self.invariant.words).same in
     let seen = c.deref.ensures.value in
-    let lessons = c.forget.new.lessons in
+    let store = c.forget.new.store in
     let start = c.begin_with-space.new.work.start.items in
     let after = c.begin_with-space.ensures in
     record {
@@ -38,11 +38,11 @@ returns-clause-space c =
         world = buffers.world;
         trial = buffers.trial;
         mending = buffers.mending;
-        lessons = c.forget.ensures.lessons (length c.args.self.now.sizes) buffers.lessons;
+        store = c.forget.ensures.store (length c.args.self.now.sizes) buffers.store;
       };
       room = after.room ∙ c.requires.room;
       sizes = c.requires.sizes;
-      learned = λ xs world. subst (λ n. All (λ (l : Slot). met xs (clause_of l) ≡ true) (take n lessons.slots.items)) (sym c.forget.ensures.kept) (All-nil (λ (l : Slot). met xs (clause_of l) ≡ true));
+      learned = λ xs world. subst (λ n. All (λ (l : Slot). met xs (clause_of l) ≡ true) (take n store.slots.items)) (sym c.forget.ensures.kept) (All-nil (λ (l : Slot). met xs (clause_of l) ≡ true));
       stuck = λ is. stuck_space clauses words same c.deref.result.now s.base.items start seen (after.stuck is);
       roomy = after.roomy;
       begun = λ is. begun_space clauses words same c.deref.result.now s.base.items start seen (after.within is) (after.all is);

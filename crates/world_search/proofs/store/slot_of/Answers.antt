@@ -3,9 +3,9 @@ use Rattle.std.proofs.lemmas.List.{length-set, take_more_set}
 use Rattle.std.proofs.lemmas.List.Elements.{All-push}
 use Rattle.world_search.specs.declared.words.WordLiteral.{WordLiteral}
 use Rattle.world_search.specs.Words.{AreInside}
-use Rattle.world_search.proofs.LessonLaws.{AreAmong, among_push, among_skip, met_among, word_of}
-use Rattle.world_search.proofs.lessons.slot_of.Goals as goal
-use Rattle.world_search.proofs.lessons.slot_of.Goals.{then-learn-v-ne0+else-long-ge-SLOT_LITERALS, else-learn-v-ne0}
+use Rattle.world_search.proofs.StoreLaws.{AreAmong, among_push, among_skip, met_among, word_of}
+use Rattle.world_search.proofs.store.slot_of.Goals as goal
+use Rattle.world_search.proofs.store.slot_of.Goals.{then-learn-v-ne0+else-long-ge-SLOT_LITERALS, else-learn-v-ne0}
 
 pub loop-v-preserved : goal.loop-v-preserved
 loop-v-preserved c =

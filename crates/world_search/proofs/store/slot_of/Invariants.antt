@@ -1,8 +1,8 @@
 use Rattle.std.proofs.Common.{◌≡◌, ◌≤◌, length, take}
 use Rattle.world_search.specs.Words.{AreInside}
-use Rattle.world_search.specs.declared.lessons.TheConstants.{SLOT_LITERALS}
-use Rattle.world_search.proofs.LessonLaws.{AreAmong}
-use Rattle.world_search.proofs.lessons.slot_of.Given as goal
+use Rattle.world_search.specs.declared.store.TheConstants.{SLOT_LITERALS}
+use Rattle.world_search.proofs.StoreLaws.{AreAmong}
+use Rattle.world_search.proofs.store.slot_of.Given as goal
 
 abbrev pub invariant-loop-v : goal.invariant-loop-v
 invariant-loop-v l = record {
