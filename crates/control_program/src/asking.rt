@@ -1,6 +1,6 @@
 //! What a turn asks the estimate.
 
-ghost use Rattle.std.specs.Prelude.{◌≡◌, ◌++◌, ◌↔◌, All, IsTrue, IfOk};
+ghost use Rattle.std.specs.Prelude.{◌≡◌, ◌++◌, ◌↔◌, All, IsTrue, IfOk, IfSome};
 ghost use Rattle.cca_base.specs.Prelude.{pairs_of, Holds, IsState};
 ghost use Rattle.consistency.specs.Spaces.{IsWorldSpace};
 ghost use Rattle.control_program.specs.Formulas.{IsWithin};
@@ -9,8 +9,9 @@ ghost use Rattle.control_program.specs.Places.{choice_of};
 
 use crate::nodes::{Mark, Node};
 use cca_base::{Cube, Formula, List, Pair, State};
-use consistency::{Rules, WorldSpace, stand_in};
+use consistency::{Denied, Rules, WorldSpace, stand_in};
 use std::alloc::AllocError;
+use std::mem;
 
 /// An estimate of a model's state, and the nodes of a program.
 #[derive(Drop)]
@@ -32,23 +33,39 @@ pub(crate) struct Course {
     pub asked: List<Pair>,
 }
 
-/// Whether the formula is true in every world of the estimate. The error is out of memory.
+/// The memory that was made, or a new one. The error is out of memory.
+fn space_of(rules: &Rules, made: Option<WorldSpace>) -> Result<WorldSpace, AllocError>
+    requires { IfSome made (IsWorldSpace rules.now.worlds.now) }
+    ensures { IfOk result (IsWorldSpace rules.now.worlds.now) }
+{
+    match made {
+        Some(space) => Ok(space),
+        None => rules.worlds.space(rules.alloc),
+    }
+}
+
+/// Whether the formula is true in every world of the estimate. The memory for worlds is made at the first question of a turn. The error is out of
+/// memory.
 pub(crate) fn holds(
     asking: &Asking,
     formula: &Formula,
-    space: &mut WorldSpace,
+    space: &mut Option<WorldSpace>,
 ) -> Result<bool, AllocError>
     requires formula { IsWithin asking.now.rules.now.model.now formula.now }
-    requires space { IsWorldSpace asking.now.rules.now.worlds.now space.old }
+    requires space { IfSome space.old (IsWorldSpace asking.now.rules.now.worlds.now) }
     ensures holds { IfOk result (λ b.
         IsTrue b ↔ Holds asking.now.rules.now.model.now asking.now.estimate.now.modes formula.now) }
-    ensures space { IsWorldSpace asking.now.rules.now.worlds.now space.new }
+    ensures space { IfSome space.new (IsWorldSpace asking.now.rules.now.worlds.now) }
 {
     let rules = asking.rules;
     let _moves = rules.model.moves();
-    rules
+    let denied = Denied::of(rules.alloc, rules.model, formula)?;
+    let mut memory = space_of(rules, mem::replace(space, None))?;
+    let answer = rules
         .worlds
-        .follows_by(rules.alloc, rules.model, asking.modes, formula, space)
+        .follows_by(rules.model, asking.modes, &denied, &mut memory);
+    *space = Some(memory);
+    Ok(answer)
 }
 
 /// Puts pairs behind those that are asked. The error is out of memory.
@@ -82,13 +99,13 @@ pub(crate) fn takes_first(
     asking: &Asking,
     mark: Mark,
     formula: &Formula,
-    space: &mut WorldSpace,
+    space: &mut Option<WorldSpace>,
 ) -> Result<bool, AllocError>
     requires formula { IsWithin asking.now.rules.now.model.now formula.now }
-    requires space { IsWorldSpace asking.now.rules.now.worlds.now space.old }
+    requires space { IfSome space.old (IsWorldSpace asking.now.rules.now.worlds.now) }
     ensures chooses { IfOk result (λ first. Chooses asking.now.rules.now.model.now asking.now.estimate.now.modes
         (choice_of mark) formula.now first) }
-    ensures space { IsWorldSpace asking.now.rules.now.worlds.now space.new }
+    ensures space { IfSome space.new (IsWorldSpace asking.now.rules.now.worlds.now) }
 {
     match mark {
         Mark::First => Ok(true),

@@ -1,6 +1,6 @@
 //! Which part of a choice is taken, and what follows the end of a round.
 
-ghost use Rattle.std.specs.Prelude.{IfOk};
+ghost use Rattle.std.specs.Prelude.{IfOk, IfSome};
 ghost use Rattle.consistency.specs.Spaces.{IsWorldSpace};
 ghost use Rattle.control_program.specs.Places.{IsOfKind, marked};
 ghost use Rattle.control_program.specs.Courses.{StandsIn, TakesIn, RoundAt, EndsRound};
@@ -19,13 +19,13 @@ pub(crate) fn choose(
     marks: &mut List<Mark>,
     at: usize,
     formula: &Formula,
-    space: &mut WorldSpace,
+    space: &mut Option<WorldSpace>,
 ) -> Result<usize, AllocError>
     requires stands { StandsIn asking.now marks.old at }
     requires kind { IsOfKind asking.now.nodes.now at (Kind.Choose formula.now) }
-    requires space { IsWorldSpace asking.now.rules.now.worlds.now space.old }
+    requires space { IfSome space.old (IsWorldSpace asking.now.rules.now.worlds.now) }
     ensures takes { IfOk result (λ part. TakesIn asking.now at marks.old part marks.new) }
-    ensures space { IsWorldSpace asking.now.rules.now.worlds.now space.new }
+    ensures space { IfSome space.new (IsWorldSpace asking.now.rules.now.worlds.now) }
 {
     let next = at + 1;
     if takes_first(asking, *marks.get(at), formula, space)? {

@@ -88,7 +88,8 @@ impl Runner {
             modes: &modes,
             nodes: self.nodes.as_slice(),
         };
-        let mut space = worlds.space(self.alloc)?;
+        // Memory in which the turn's questions are asked, made at the first of them.
+        let mut space = None;
         let ended = turn_at(&asking, &mut course, 0, &mut space)?;
         let goal = firsts(self.alloc, course.asked.as_slice())?;
         self.marks = course.marks;

@@ -1,6 +1,6 @@
 //! One turn of a program's marks, part by part, from the first. It tests only what the turn reaches.
 
-ghost use Rattle.std.specs.Prelude.{IfOk};
+ghost use Rattle.std.specs.Prelude.{IfOk, IfSome};
 ghost use Rattle.consistency.specs.Spaces.{IsWorldSpace};
 ghost use Rattle.control_program.specs.Courses.{StandsIn, StandIn, TaskIn, TurnsIn, WorksIn, TurnIn};
 
@@ -16,12 +16,12 @@ pub(crate) fn turn_at(
     asking: &Asking,
     course: &mut Course,
     at: usize,
-    space: &mut WorldSpace,
+    space: &mut Option<WorldSpace>,
 ) -> Result<bool, AllocError>
     requires stands { StandsIn asking.now course.old.marks at }
-    requires space { IsWorldSpace asking.now.rules.now.worlds.now space.old }
+    requires space { IfSome space.old (IsWorldSpace asking.now.rules.now.worlds.now) }
     ensures turns { IfOk result (λ ended. TurnsIn asking.now at course.old ended course.new) }
-    ensures space { IsWorldSpace asking.now.rules.now.worlds.now space.new }
+    ensures space { IfSome space.new (IsWorldSpace asking.now.rules.now.worlds.now) }
 {
     match &node_at(asking.nodes, at).kind {
         Kind::Once(task) => {
@@ -54,12 +54,12 @@ fn work(
     course: &mut Course,
     at: usize,
     task: &Task,
-    space: &mut WorldSpace,
+    space: &mut Option<WorldSpace>,
 ) -> Result<bool, AllocError>
     requires task { TaskIn asking.now course.old.marks at task.now }
-    requires space { IsWorldSpace asking.now.rules.now.worlds.now space.old }
+    requires space { IfSome space.old (IsWorldSpace asking.now.rules.now.worlds.now) }
     ensures works { IfOk result (λ ended. WorksIn asking.now at task.now course.old ended course.new) }
-    ensures space { IsWorldSpace asking.now.rules.now.worlds.now space.new }
+    ensures space { IfSome space.new (IsWorldSpace asking.now.rules.now.worlds.now) }
 {
     match task {
         Task::Reach(pairs) => reaches(asking, &mut course.asked, pairs),
@@ -84,13 +84,13 @@ fn turn_parts(
     at: usize,
     in_order: bool,
     count: usize,
-    space: &mut WorldSpace,
+    space: &mut Option<WorldSpace>,
 ) -> Result<bool, AllocError>
     requires stand { StandIn asking.now course.old.marks at count }
-    requires space { IsWorldSpace asking.now.rules.now.worlds.now space.old }
+    requires space { IfSome space.old (IsWorldSpace asking.now.rules.now.worlds.now) }
     ensures turn { IfOk result (λ ended.
         TurnIn asking.now in_order at count course.old ended course.new) }
-    ensures space { IsWorldSpace asking.now.rules.now.worlds.now space.new }
+    ensures space { IfSome space.new (IsWorldSpace asking.now.rules.now.worlds.now) }
 {
     let mut place = at;
     let mut all_ended = true;
