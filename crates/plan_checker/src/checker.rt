@@ -121,10 +121,13 @@ impl Checker {
             world,
             route,
         };
-        let verdict = judge(&rules, &self.standing, &tick)?;
-        if verdict == Verdict::Yes {
-            take(&rules, &mut self.standing, report)?;
+        // Memory in which the tick's guards ask for worlds, made at the first of them.
+        let mut space = None;
+        let verdict = judge(&rules, &self.standing, &tick, &mut space)?;
+        if verdict != Verdict::Yes {
+            return Ok(verdict);
         }
+        take(&rules, &mut self.standing, report, &mut space)?;
         Ok(verdict)
     }
 

@@ -1,14 +1,15 @@
 //! What the estimate costs from the last one and the last command.
 
-ghost use Rattle.std.specs.Prelude.{◌↔◌, ◌++◌, ◌∷◌, [], IsTrue, IfOk, List};
+ghost use Rattle.std.specs.Prelude.{◌↔◌, ◌++◌, ◌∷◌, [], IsTrue, IfOk, IfSome, List};
 ghost use Rattle.cca_base.specs.Prelude.{Costs, IsChange, IsLeast, IsState};
 ghost use Rattle.cca_base.specs.declared.model.Failure.{Failure};
+ghost use Rattle.consistency.specs.Spaces.{IsWorldSpace};
 ghost use Rattle.plan_checker.specs.Costs.{IsTotal};
 
 use crate::states::is_state;
 use crate::step::make_nominal;
 use cca_base::{Failure, Model, State, lesser};
-use consistency::Rules;
+use consistency::{Rules, WorldSpace};
 use std::alloc::AllocError;
 
 /// The least cost of the component's failures between two modes, with one more failure taken in.
@@ -81,17 +82,20 @@ pub(crate) fn has_cost(
     command: Option<u16>,
     state: &State,
     cost: u64,
+    space: &mut Option<WorldSpace>,
 ) -> Result<bool, AllocError>
     requires last { IsState rules.now.model.now last.now.modes }
-    ensures { IfOk result (λ b.
+    requires space { IfSome space.old (IsWorldSpace rules.now.worlds.now) }
+    ensures cost { IfOk result (λ b.
         IsTrue b ↔ Costs rules.now.model.now last.now.modes command state.now.modes cost) }
+    ensures space { IfSome space.new (IsWorldSpace rules.now.worlds.now) }
 {
     let _moves = rules.model.moves();
     if !is_state(rules.model, state) {
         return Ok(false);
     }
     let mut nominal = last.copy(rules.alloc)?;
-    make_nominal(rules, &mut nominal, command)?;
+    make_nominal(rules, &mut nominal, command, space)?;
     match total(rules.model, last, &nominal, state) {
         Some(sum) => Ok(sum == cost),
         None => Ok(false),

@@ -3,6 +3,7 @@
 ghost use Rattle.std.specs.Prelude.{◌↔◌, IsTrue, IfOk, IfSome};
 ghost use Rattle.std.specs.Option.{option_copied};
 ghost use Rattle.cca_base.specs.Prelude.{HasWorlds};
+ghost use Rattle.consistency.specs.Spaces.{IsWorldSpace};
 ghost use Rattle.plan_checker.specs.Checked.{OnYes};
 ghost use Rattle.plan_checker.specs.Reasons.{OnEstimate, HasItsLines, HasItsCost, HasItsWorld, IsWritten, IsVerdict};
 ghost use Rattle.plan_checker.specs.Routes.{IsSendVerdict, IsAnswerVerdict};
@@ -19,20 +20,34 @@ use crate::tick::Tick;
 use crate::verdict::Verdict;
 use crate::world::explains_tick;
 use cca_base::{PlanEnd, Reply, Route, Shown};
-use consistency::Rules;
+use consistency::{Rules, WorldSpace};
 use std::alloc::AllocError;
 use trace_laws::Standing;
 
 /// Whether an estimate has the printed cost. The error is out of memory.
-fn has_its_cost(rules: &Rules, standing: &Standing, tick: &Tick) -> Result<bool, AllocError>
+fn has_its_cost(
+    rules: &Rules,
+    standing: &Standing,
+    tick: &Tick,
+    space: &mut Option<WorldSpace>,
+) -> Result<bool, AllocError>
     requires fits { FitsModel rules.now.model.now standing.now }
-    ensures { IfOk result (λ b.
+    requires space { IfSome space.old (IsWorldSpace rules.now.worlds.now) }
+    ensures cost { IfOk result (λ b.
         IsTrue b ↔ HasItsCost rules.now.model.now standing.now (printed_of tick.now)) }
+    ensures space { IfSome space.new (IsWorldSpace rules.now.worlds.now) }
 {
     let Shown::Estimated { cost, state, .. } = &tick.report.shown else {
         return Ok(true);
     };
-    has_cost(rules, &standing.estimate, standing.command, state, *cost)
+    has_cost(
+        rules,
+        &standing.estimate,
+        standing.command,
+        state,
+        *cost,
+        space,
+    )
 }
 
 /// Whether the printed values explain an estimate. The error is out of memory.
@@ -58,10 +73,17 @@ fn has_its_world(rules: &Rules, standing: &Standing, tick: &Tick) -> Result<bool
 }
 
 /// The verdict on a sent command and its route. The error is out of memory.
-fn check_send(rules: &Rules, standing: &Standing, tick: &Tick) -> Result<Verdict, AllocError>
+fn check_send(
+    rules: &Rules,
+    standing: &Standing,
+    tick: &Tick,
+    space: &mut Option<WorldSpace>,
+) -> Result<Verdict, AllocError>
     requires lines { HasItsLines standing.now (printed_of tick.now) }
     requires cost { HasItsCost rules.now.model.now standing.now (printed_of tick.now) }
-    ensures { IfOk result (IsSendVerdict rules.now.model.now standing.now (printed_of tick.now)) }
+    requires space { IfSome space.old (IsWorldSpace rules.now.worlds.now) }
+    ensures verdict { IfOk result (IsSendVerdict rules.now.model.now standing.now (printed_of tick.now)) }
+    ensures space { IfSome space.new (IsWorldSpace rules.now.worlds.now) }
 {
     let Shown::Estimated { state, reply, .. } = &tick.report.shown else {
         return Ok(Verdict::Yes);
@@ -72,7 +94,7 @@ fn check_send(rules: &Rules, standing: &Standing, tick: &Tick) -> Result<Verdict
     let Some(route) = tick.route else {
         unreachable!()
     };
-    check_route(rules, state, &standing.goal, *command, route)
+    check_route(rules, state, &standing.goal, *command, route, space)
 }
 
 /// Whether the commands are written out.
@@ -108,26 +130,33 @@ fn check_answer(standing: &Standing, tick: &Tick) -> Verdict
 }
 
 /// The verdict on a tick. The error is out of memory.
-pub(crate) fn judge(rules: &Rules, standing: &Standing, tick: &Tick) -> Result<Verdict, AllocError>
+pub(crate) fn judge(
+    rules: &Rules,
+    standing: &Standing,
+    tick: &Tick,
+    space: &mut Option<WorldSpace>,
+) -> Result<Verdict, AllocError>
     requires all { HasWorlds rules.now.model.now }
     requires fits { FitsModel rules.now.model.now standing.now }
     requires pending { KeepsPending standing.now }
+    requires space { IfSome space.old (IsWorldSpace rules.now.worlds.now) }
     ensures verdict { IfOk result (IsVerdict rules.now.model.now standing.now
         (printed_of tick.now)) }
     ensures seen { IfOk result (λ v.
         OnYes v (OnEstimate tick.now.report.now.shown (λ cost s reply.
         SomeAreSeen rules.now.model.now standing.now))) }
+    ensures space { IfSome space.new (IsWorldSpace rules.now.worlds.now) }
 {
     if !has_its_lines(standing, tick) {
         return Ok(Verdict::No(LINE));
     }
-    if !has_its_cost(rules, standing, tick)? {
+    if !has_its_cost(rules, standing, tick, space)? {
         return Ok(Verdict::No(COST));
     }
     if !has_its_world(rules, standing, tick)? {
         return Ok(Verdict::No(WORLD));
     }
-    let sent = check_send(rules, standing, tick)?;
+    let sent = check_send(rules, standing, tick, space)?;
     if sent != Verdict::Yes {
         return Ok(sent);
     }

@@ -3,6 +3,7 @@
 ghost use Rattle.std.specs.Prelude.{◌≡◌, ◌↔◌, ◌∷◌, ℕ, List, IsTrue, IfOk, IfSome, IsNone};
 ghost use Rattle.std.specs.Option.{option_map};
 ghost use Rattle.cca_base.specs.Prelude.{Extends, IsState};
+ghost use Rattle.consistency.specs.Spaces.{IsWorldSpace};
 ghost use Rattle.plan_checker.specs.Reasons.{OnCommands};
 ghost use Rattle.plan_checker.specs.Routes.{IsRouteVerdict, EndsInMending};
 
@@ -11,7 +12,7 @@ use crate::run::run;
 use crate::step::make_step;
 use crate::verdict::Verdict;
 use cca_base::{Goal, PlanEnd, Route, State};
-use consistency::{Rules, stand_in};
+use consistency::{Rules, WorldSpace, stand_in};
 use std::alloc::AllocError;
 
 /// Whether the goal in force stands, if there is one.
@@ -40,18 +41,26 @@ fn rest_of(commands: &[u16], command: u16) -> Option<&[u16]>
 }
 
 /// Whether the commands, if they are written out, lead home to a mending of the first state. The error is out of memory.
-fn leads_home(rules: &Rules, home: &State, there: State, back: &PlanEnd) -> Result<bool, AllocError>
+fn leads_home(
+    rules: &Rules,
+    home: &State,
+    there: State,
+    back: &PlanEnd,
+    space: &mut Option<WorldSpace>,
+) -> Result<bool, AllocError>
     requires there { IsState rules.now.model.now there.modes }
-    ensures { IfOk result (λ b.
+    requires space { IfSome space.old (IsWorldSpace rules.now.worlds.now) }
+    ensures leads { IfOk result (λ b.
         IsTrue b ↔ OnCommands back.now
         (EndsInMending rules.now.model.now home.now.modes there.modes)) }
+    ensures space { IfSome space.new (IsWorldSpace rules.now.worlds.now) }
 {
     let _moves = rules.model.moves();
     let PlanEnd::Plan(commands) = back else {
         return Ok(true);
     };
     let mut state = there;
-    if !run(rules, &mut state, commands.as_slice())? {
+    if !run(rules, &mut state, commands.as_slice(), space)? {
         return Ok(false);
     }
     Ok(rules.model.is_mending(home, &state))
@@ -64,14 +73,17 @@ pub(crate) fn check_route(
     goal: &Option<Goal>,
     command: u16,
     route: &Route,
+    space: &mut Option<WorldSpace>,
 ) -> Result<Verdict, AllocError>
     requires state { IsState rules.now.model.now state.now.modes }
-    ensures { IfOk result (IsRouteVerdict rules.now.model.now state.now.modes
+    requires space { IfSome space.old (IsWorldSpace rules.now.worlds.now) }
+    ensures verdict { IfOk result (IsRouteVerdict rules.now.model.now state.now.modes
         (option_map (λ g. g.pairs) goal.now) command route.now) }
+    ensures space { IfSome space.new (IsWorldSpace rules.now.worlds.now) }
 {
     let _moves = rules.model.moves();
     let mut there = state.copy(rules.alloc)?;
-    if !make_step(rules, &mut there, command)? {
+    if !make_step(rules, &mut there, command, space)? {
         return Ok(Verdict::No(STEP));
     }
     let PlanEnd::Plan(plan) = &route.plan else {
@@ -80,13 +92,13 @@ pub(crate) fn check_route(
     let Some(rest) = rest_of(plan.as_slice(), command) else {
         return Ok(Verdict::No(PLAN));
     };
-    if !run(rules, &mut there, rest)? {
+    if !run(rules, &mut there, rest, space)? {
         return Ok(Verdict::No(PLAN));
     }
     if !holds_goal(goal, &there) {
         return Ok(Verdict::No(GOAL));
     }
-    if !leads_home(rules, state, there, &route.back)? {
+    if !leads_home(rules, state, there, &route.back, space)? {
         return Ok(Verdict::No(BACK));
     }
     Ok(Verdict::Yes)

@@ -7,8 +7,8 @@ use Rattle.cca_base.specs.Successors.{Costs, Nominal}
 use Rattle.plan_checker.proofs.CostSums.{costs_of, one_sum, no_costs}
 use Rattle.plan_checker.proofs.cost.has_cost.Goals as goal
 
-pub returns-in-Some : goal.returns-in-Some
-returns-in-Some c =
+pub returns-in-Some-clause-cost : goal.returns-in-Some-clause-cost
+returns-in-Some-clause-cost c =
     let m : PlantModel = c.args.rules.now.model.now in
     let s : List ℕ = c.args.last.now.modes in
     let s2 : List ℕ = c.args.state.now.modes in
@@ -21,8 +21,8 @@ returns-in-Some c =
       λ costs. eq-eqb c.in-Some.sum c.args.cost (one_sum m s k nominal s2 good is c.in-Some.sum c.args.cost state c.in-Some.ensures costs),
     )
 
-pub returns : goal.returns
-returns c =
+pub returns-clause-cost : goal.returns-clause-cost
+returns-clause-cost c =
     let m : PlantModel = c.args.rules.now.model.now in
     let s : List ℕ = c.args.last.now.modes in
     let s2 : List ℕ = c.args.state.now.modes in

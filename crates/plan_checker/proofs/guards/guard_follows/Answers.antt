@@ -6,8 +6,8 @@ use Rattle.cca_base.specs.Steps.{support}
 use Rattle.plan_checker.proofs.GuardLaws.{guard_within, follows_along, from_support, has_support, to_support, support_modes}
 use Rattle.plan_checker.proofs.guards.guard_follows.Goals as goal
 
-pub returns-then-is_sure : goal.returns-then-is_sure
-returns-then-is_sure c = (
+pub returns-then-is_sure-clause-follows : goal.returns-then-is_sure-clause-follows
+returns-then-is_sure-clause-follows c = (
   (λ _ t state extends w world. c.is_sure.ensures c.if-is_sure.true t w (has_support c.args.rules.now.model.now c.args.state.now.modes c.args.step.now c.requires.named.source t extends)),
   (λ _. refl),
 )
@@ -19,8 +19,8 @@ follows-requires-clause-modes c =
 pub follows-requires-clause-formula : goal.follows-requires-clause-formula
 follows-requires-clause-formula c = guard_within c.args.rules.now.model.now c.moves-moves.ensures.well_formed c.args.step.now c.requires.named.of_model
 
-pub returns : goal.returns
-returns c =
+pub returns-clause-follows : goal.returns-clause-follows
+returns-clause-follows c =
     let m = c.args.rules.now.model.now in
     let s = c.args.state.now.modes in
     let move = c.args.step.now in
@@ -31,4 +31,4 @@ returns c =
     (λ b h. (
       (λ t. follows_along m pairs (support m s move) move.guard (from_support m s move pairs at are) (h.0 t)),
       (λ follows. h.1 (follows_along m (support m s move) pairs move.guard (to_support m s move pairs at are) follows)),
-    )) c.follows.ensures
+    )) c.follows.ensures.follows

@@ -15,8 +15,8 @@ follows-requires-clause-modes c =
 pub follows-requires-clause-formula : goal.follows-requires-clause-formula
 follows-requires-clause-formula c = guard_within c.args.rules.now.model.now c.moves-moves.ensures.well_formed c.args.step.now c.requires.of_model
 
-pub returns : goal.returns
-returns c =
+pub returns-clause-holds : goal.returns-clause-holds
+returns-clause-holds c =
     let m = c.args.rules.now.model.now in
     let s = c.args.state.now.modes in
     let f = c.args.step.now.guard in
@@ -24,4 +24,4 @@ returns c =
     (λ b h. (
       (λ t. follows_holds m s f c.requires.state (subst (λ (l : List Pair). Follows m l f) c.in_ok-modes.ensures (h.0 t))),
       (λ holds. h.1 (subst (λ (l : List Pair). Follows m l f) (sym c.in_ok-modes.ensures) (holds_follows m s f c.requires.state holds))),
-    )) c.follows.ensures
+    )) c.follows.ensures.follows

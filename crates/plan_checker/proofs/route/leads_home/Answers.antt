@@ -8,8 +8,8 @@ use Rattle.plan_checker.specs.Reasons.{OnCommands}
 use Rattle.plan_checker.specs.Routes.{EndsInMending}
 use Rattle.plan_checker.proofs.route.leads_home.Goals as goal
 
-pub returns : goal.returns
-returns c =
+pub returns-clause-leads : goal.returns-clause-leads
+returns-clause-leads c =
     let m : PlantModel = c.args.rules.now.model.now in
     let home : List ℕ = c.args.home.now.modes in
     let there : List ℕ = c.args.there.modes in

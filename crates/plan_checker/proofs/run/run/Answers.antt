@@ -32,4 +32,5 @@ loop-command-preserved c =
     record {
       on_way = goes_on m start ks c.moves-moves.ensures.well_formed.commands here next k (drop (i + 1) ks) way step;
       state = c.in_ok-make_step.ensures.state;
+      space = c.in_ok-make_step.ensures.space;
     }

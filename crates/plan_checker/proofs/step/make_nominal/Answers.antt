@@ -11,7 +11,7 @@ returns-then-branch-clause-nominal c =
     let s = c.args.state.now.modes in
     subst (λ k. Nominal m s k c.set.new.self) (sym c.in-Some.is)
     (subst (Nominal m s (Some c.in-Some.command)) (sym c.set.ensures)
-    (commanded m s c.in-Some.command c.in-Some-named.step.now c.in-Some-named.ensures.some (c.in_ok-guard_holds.ensures.0 c.if-branch.true)))
+    (commanded m s c.in-Some.command c.in-Some-named.step.now c.in-Some-named.ensures.some (c.in_ok-guard_holds.ensures.holds.0 c.if-branch.true)))
 
 pub returns-then-branch-clause-state : goal.returns-then-branch-clause-state
 returns-then-branch-clause-state c =
@@ -24,4 +24,4 @@ returns-else-branch-clause-nominal c =
     let s = c.args.state.now.modes in
     subst (λ k. Nominal m s k s) (sym c.in-Some.is)
     (guard_fails m s c.in-Some.command c.named.ensures.well_formed.commands c.in-Some-named.step.now c.in-Some-named.ensures.some
-    (λ holds. both_ways c.in_ok-guard_holds.field-0 c.if-branch.false (c.in_ok-guard_holds.ensures.1 holds)))
+    (λ holds. both_ways c.in_ok-guard_holds.field-0 c.if-branch.false (c.in_ok-guard_holds.ensures.holds.1 holds)))

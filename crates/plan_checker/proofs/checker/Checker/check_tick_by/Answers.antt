@@ -9,18 +9,15 @@ use Rattle.plan_checker.proofs.TakesFit.{yes_fits}
 use Rattle.plan_checker.proofs.YesShows.{yes_shows}
 use Rattle.plan_checker.proofs.checker.Checker.check_tick_by.Goals as goal
 
--- the verdict that was found, if it is yes
-is_yes : (c : goal.After-take-arg-1) → IsVerdict c.args.model.now c.self.inside.standing (printed c.args.report.now c.args.world c.args.route) Yes
-is_yes c =
+pub take-requires-clause-next : goal.take-requires-clause-next
+take-requires-clause-next c =
     let e : c.in_ok-verdict.verdict ≡ Yes = search rules in
     let t : Printed = printed c.args.report.now c.args.world c.args.route in
-    subst (λ m. IsVerdict m c.self.inside.standing t Yes) c.rules_of-rules.ensures.model (subst (IsVerdict c.rules_of-rules.result.model.now c.self.inside.standing t) e c.in_ok-verdict.ensures.verdict)
+    let v = subst (λ m. IsVerdict m c.self.inside.standing t Yes) c.rules_of-rules.ensures.model (subst (IsVerdict c.rules_of-rules.result.model.now c.self.inside.standing t) e c.in_ok-verdict.ensures.verdict) in
+    ((v 1).line refl).number
 
-pub take-requires-clause-next : goal.take-requires-clause-next
-take-requires-clause-next c = ((is_yes c 1).line refl).number
-
-pub returns-in_ok-take-clause-fits : goal.returns-in_ok-take-clause-fits
-returns-in_ok-take-clause-fits c =
+pub returns-clause-fits : goal.returns-clause-fits
+returns-clause-fits c =
     let m : PlantModel = c.args.model.now in
     let x : ExecutiveState = c.self.inside.standing in
     let t : Printed = printed c.args.report.now c.args.world c.args.route in
@@ -30,17 +27,17 @@ returns-in_ok-take-clause-fits c =
     yes_fits m c.rules_of-rules.ensures.well_formed x t c.take.new.standing fits v (rw (← c.rules_of-rules.ensures.model) c.in_ok-take.ensures.takes)
 
 -- what a yes shows
-shows : (c : goal.In_ok-take) → OnYes c.in_ok-verdict.verdict (ShowsSuccessor c.args.model.now c.args.self.now (printed c.args.report.now c.args.world c.args.route))
+shows : (c : goal.Joined-space-4) → OnYes c.in_ok-verdict.verdict (ShowsSuccessor c.args.model.now c.args.self.now (printed c.args.report.now c.args.world c.args.route))
     × OnYes c.in_ok-verdict.verdict (ShowsReply c.args.self.now (printed c.args.report.now c.args.world c.args.route))
     × OnYes c.in_ok-verdict.verdict (ShowsSafety c.args.model.now c.args.self.now (printed c.args.report.now c.args.world c.args.route))
 shows c = yes_shows c.args.model.now c.self.inside.standing c.args.self.now (printed c.args.report.now c.args.world c.args.route) c.in_ok-verdict.verdict c.rules_of-rules.ensures.well_formed
     c.self.view_is (rw (← c.rules_of-rules.ensures.model) c.in_ok-verdict.ensures.verdict) (rw (← c.rules_of-rules.ensures.model) c.in_ok-verdict.ensures.seen)
 
-pub returns-in_ok-take-clause-successor : goal.returns-in_ok-take-clause-successor
-returns-in_ok-take-clause-successor c = (shows c).0
+pub returns-clause-successor : goal.returns-clause-successor
+returns-clause-successor c = (shows c).0
 
-pub returns-in_ok-take-clause-reply : goal.returns-in_ok-take-clause-reply
-returns-in_ok-take-clause-reply c = (shows c).1
+pub returns-clause-reply : goal.returns-clause-reply
+returns-clause-reply c = (shows c).1
 
-pub returns-in_ok-take-clause-safety : goal.returns-in_ok-take-clause-safety
-returns-in_ok-take-clause-safety c = (shows c).2
+pub returns-clause-safety : goal.returns-clause-safety
+returns-clause-safety c = (shows c).2
