@@ -12,6 +12,8 @@ mod formulas;
 #[cfg(test)]
 mod goals;
 #[cfg(test)]
+mod kept;
+#[cfg(test)]
 mod needs;
 #[cfg(test)]
 mod primes;

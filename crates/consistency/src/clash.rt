@@ -12,14 +12,21 @@ use crate::world_space::WorldSpace;
 use crate::worlds::Worlds;
 use cca_base::{Cube, Model, Seen, State};
 use std::alloc::{AllocError, Global};
-use world_search::Answer;
+use world_search::{Answer, MAX_SLOTS};
 
 impl Worlds {
     /// Memory for questions of these worlds. The error is out of memory.
     pub fn space(&self, alloc: Global) -> Result<WorldSpace, AllocError>
         ensures { IfOk result (IsWorldSpace self.now) }
     {
-        WorldSpace::of(alloc, &self.problem)
+        WorldSpace::of(alloc, &self.problem, MAX_SLOTS)
+    }
+
+    /// Less memory, for few questions: it has no room for learned clauses. The error is out of memory.
+    pub fn small_space(&self, alloc: Global) -> Result<WorldSpace, AllocError>
+        ensures { IfOk result (IsWorldSpace self.now) }
+    {
+        WorldSpace::of(alloc, &self.problem, 0)
     }
 
     /// Why no world of the state agrees with what is seen: a part of its pairs that no state with such a world extends.

@@ -29,7 +29,7 @@ impl Worlds {
         ensures values { IfOk result (λ r. All (λ p. HasValue model.now p.item p.value) r.pairs) }
     {
         let modes = all_pairs(alloc, model, state)?;
-        let mut space = self.space(alloc)?;
+        let mut space = self.small_space(alloc)?;
         see(model, &self.problem, modes.as_slice(), &[], &mut space);
         let components = model.components().len();
         let pairs = backbone(alloc, &self.problem, &mut space.search, components, vars)?;

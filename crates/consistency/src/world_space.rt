@@ -18,13 +18,17 @@ pub struct WorldSpace {
 }
 
 impl WorldSpace {
-    /// Memory for questions of the problem's worlds. The error is out of memory.
-    pub(crate) fn of(alloc: Global, problem: &Problem) -> Result<WorldSpace, AllocError>
+    /// Memory for questions of the problem's worlds, with room for at most so many learned clauses. The error is out of memory.
+    pub(crate) fn of(
+        alloc: Global,
+        problem: &Problem,
+        learned: usize,
+    ) -> Result<WorldSpace, AllocError>
         ensures { IfOk result (IsWorldSpace problem.now) }
     {
         let subjects = problem.clauses().sizes.len();
         Ok(WorldSpace {
-            search: problem.space(alloc)?,
+            search: problem.space(alloc, learned)?,
             sets: Vec::from_elem(alloc, ValueSet::empty(), subjects)?,
             pairs: Vec::from_elem(alloc, Pair { item: 0, value: 0 }, subjects)?,
         })

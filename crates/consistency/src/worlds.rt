@@ -17,7 +17,7 @@ use crate::world_space::WorldSpace;
 use cca_base::{Cube, Formula, Model, Pair, Seen};
 use clause_form::clauses_of;
 use std::alloc::{AllocError, Global};
-use world_search::Problem;
+use world_search::{MAX_SLOTS, Problem};
 
 /// The clauses of a model's rules, for all questions of its worlds.
 #[derive(Drop)]
@@ -48,7 +48,7 @@ fn first_found(
         AreClausesOf model.now None denied problem.now →
         IfOk result (IsFirstFound (FitsAndDenies model.now modes.now seen.now denied)) }
 {
-    let mut space = WorldSpace::of(alloc, problem)?;
+    let mut space = WorldSpace::of(alloc, problem, MAX_SLOTS)?;
     see(model, problem, modes, seen, &mut space);
     let components = model.components().len();
     match first_world(alloc, problem, &mut space.search)? {

@@ -40,7 +40,7 @@ fn space_of(rules: &Rules, made: Option<WorldSpace>) -> Result<WorldSpace, Alloc
 {
     match made {
         Some(space) => Ok(space),
-        None => rules.worlds.space(rules.alloc),
+        None => rules.worlds.small_space(rules.alloc),
     }
 }
 

@@ -26,4 +26,5 @@ pub use answer::Answer;
 pub use beside::Beside;
 pub use problem::Problem;
 pub use space::Space;
+pub use store::MAX_SLOTS;
 pub use words::has_value;

@@ -65,12 +65,13 @@ impl Problem {
         &self.clauses
     }
 
-    /// Buffers for questions. Until `see` says what each subject may be, it may be nothing. The error is out of memory.
-    pub fn space(&self, alloc: Global) -> Result<Space, AllocError>
+    /// Buffers for questions, with room for at most so many learned clauses. Until `see` says what each subject may be, it may be nothing. The error is out
+    /// of memory.
+    pub fn space(&self, alloc: Global, learned: usize) -> Result<Space, AllocError>
         ensures space { IfOk result (IsSpace self.now) }
         ensures none { IfOk result (λ s. (v : ℕ) → slice_index (base_in s) v ≡ 0) }
     {
-        let room = room_for(&self.clauses.sizes);
+        let room = room_for(&self.clauses.sizes, learned);
         let base = vec![in alloc; 0; room.subjects]?;
         let work = work_of(alloc, &room)?;
         let store = store_for(alloc, room.slots, room.subjects)?;
@@ -123,7 +124,8 @@ impl Problem {
         }
     }
 
-    /// The same, but where the sets are others, only the clauses are looked at that name a subject of those beside, and what follows. It is less work.
+    /// The same, but where the sets are others, only the clauses are looked at that name a subject of those beside, and what follows. It is less work. Where
+    /// they are those of the last such call, all clauses are looked at, so that more questions of them find all done.
     pub fn see_near(&self, space: &mut Space, sets: &[ValueSet], beside: &Beside)
         requires space { IsSpace self.now space.old }
         requires full { length sets.now ≡ length self.now.sizes }
@@ -132,8 +134,10 @@ impl Problem {
         ensures base { base_in space.new ≡ sets.now }
         ensures world { world_in space.new ≡ world_in space.old }
     {
-        if put_words(sets, &mut space.base) || space.near {
+        if put_words(sets, &mut space.base) {
             self.begin(space, Some(beside.words.as_slice()));
+        } else if space.near {
+            self.begin(space, None);
         }
     }
 

@@ -26,8 +26,8 @@ pub struct Room {
     pub slots: usize,
 }
 
-/// The room that subjects of these sizes need.
-pub fn room_for(sizes: &Sizes) -> Room
+/// The room that subjects of these sizes need, with at most so many learned clauses.
+pub fn room_for(sizes: &Sizes, learned: usize) -> Room
     requires { length sizes.now ≤ SET_SUBJECTS }
     ensures subjects { result.subjects ≡ length sizes.now }
     ensures entries { result.entries ≡ sum_by (λ n. n - 1) sizes.now }
@@ -41,7 +41,7 @@ pub fn room_for(sizes: &Sizes) -> Room
     Room {
         subjects: sizes.len(),
         entries,
-        slots: MAX_SLOTS.min(SLOTS_EACH * entries),
+        slots: learned.min(MAX_SLOTS).min(SLOTS_EACH * entries),
     }
 }
 

@@ -34,7 +34,7 @@ loop-other-preserved c =
         none = λ xs world low. elim (cases_eq (slice_index xs v) c.loop-other.other) [
           | inl is ↦ elim w.else-other-value.branch [
             | else-other-value-via-then-other-value+else-has_value w' ↦
-                let left : has c.left-left.result (slice_index xs v) ≡ true = c.left-left.ensures xs world in
+                let left : has c.left-left.result (slice_index xs v) ≡ true = c.left-left.ensures.world xs world in
                 absurd (true≢false (sym (subst (λ (a : ℕ). has c.left-left.result a ≡ true) is left) ∙ (sym w'.has_value.ensures ∙ w'.if-has_value.false)))
             | else-other-value-via-else-other-value w' ↦ is ∙ w'.if-other-value.false
           ]

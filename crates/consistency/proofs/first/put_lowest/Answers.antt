@@ -73,7 +73,7 @@ loop-lower-preserved c =
         world = inv.world;
         lowest = λ ys world all.
             let low : x ≤ slice_index ys v = inv.lowest ys world all in
-            let is : has c.left-left.result (slice_index ys v) ≡ true = c.left-left.ensures ys world in
+            let is : has c.left-left.result (slice_index ys v) ≡ true = c.left-left.ensures.world ys world in
             let other : slice_index ys v ≡ x → ⊥ = λ e. true≢false (sym (subst (λ (a : ℕ). has c.left-left.result a ≡ true) e is) ∙ (sym c.has_value.ensures ∙ w.if-has_value.false)) in
             omega (arith, low, other);
       })
@@ -85,7 +85,7 @@ returns-clause-asked c =
     let old = c.loop-lower.pairs in
     let before : AreAsked n old = subst (AreAsked n) (sym c.loop-lower.invariant.pairs) c.requires.asked in
     let value : ℕ = slice_index c.args.world.now c.args.subject in
-    let small : value < MAX_CHOICES = small_member c.left-left.result value c.left-left.type_inv (c.left-left.ensures c.args.world.now c.requires.world) in
+    let small : value < MAX_CHOICES = small_member c.left-left.result value c.left-left.type_inv (c.left-left.ensures.world c.args.world.now c.requires.world) in
     let pair : Pair = record { item = c.args.subject; value = value } in
     on_ok_weaker c.push.result (λ put. subst (AreAsked n) (sym put) (All-push (IsAsked n) old pair before (c.requires.subject, small))) c.push.ensures.ok
 
