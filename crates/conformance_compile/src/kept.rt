@@ -82,10 +82,22 @@ fn questions_in_one_memory(rt: HostRuntime) {
     let closed = pair(1, 0);
     let flow = Subject::Variable(0);
     let rows: [(Blame<'_>, Sure<'_>); 4] = [
-        ((&[(0, 1), (1, 1)], &[(0, 0)], &[open]), (&[(1, 1)], flow, 1, true)),
-        ((&[(0, 1), (1, 1)], &[(0, 1)], &[]), (&[(1, 0)], flow, 1, false)),
-        ((&[(0, 1), (1, 0)], &[(0, 1)], &[closed]), (&[(1, 0)], flow, 0, true)),
-        ((&[(0, 0), (1, 1)], &[(0, 0)], &[open]), (&[(0, 1)], Subject::Component(1), 1, false)),
+        (
+            (&[(0, 1), (1, 1)], &[(0, 0)], &[open]),
+            (&[(1, 1)], flow, 1, true),
+        ),
+        (
+            (&[(0, 1), (1, 1)], &[(0, 1)], &[]),
+            (&[(1, 0)], flow, 1, false),
+        ),
+        (
+            (&[(0, 1), (1, 0)], &[(0, 1)], &[closed]),
+            (&[(1, 0)], flow, 0, true),
+        ),
+        (
+            (&[(0, 0), (1, 1)], &[(0, 0)], &[open]),
+            (&[(0, 1)], Subject::Component(1), 1, false),
+        ),
     ];
     assert!(rt; are_of_the_valve(rt.alloc(), &rows) == Some(true));
 }
