@@ -1,0 +1,17 @@
+pub mod BoxLaws
+pub mod ChooseLaws
+pub mod FloorLaws
+pub mod HalfLaws
+pub mod JoinLaws
+pub mod JudgeLaws
+pub mod LeastLaws
+pub mod LowerLaws
+pub mod LowerValues
+pub mod PayLaws
+pub mod PriceLaws
+pub mod SearchLaws
+pub mod SpendLaws
+pub mod StoreLaws
+pub mod Sums
+pub mod TakenLaws
+pub mod ValueLaws

@@ -1,0 +1,53 @@
+use Rattle.std.proofs.Common.{◌≡◌, sym, ap, subst, ◌∙◌}
+use Rattle.group_search.specs.Bounds.{IsOpen}
+use Rattle.group_search.specs.Halves.{IsSplit}
+use Rattle.group_search.specs.Questions.{cost_in, in_group}
+use Rattle.group_search.specs.Searches.{IsJudged}
+use Rattle.group_search.specs.declared.judge.Verdict.TheVariants.{Found}
+use Rattle.group_search.specs.declared.path_box.PathBox.{PathBox}
+use Rattle.group_search.proofs.SearchLaws.{Leads, cost_read, dropped_leads, found_leads, turned_back, turned_split}
+use Rattle.group_search.proofs.find.turn.Goals as goal
+use Rattle.group_search.proofs.find.turn.Goals.{in-Dropped, in-Found+in_ok-chosen-in-Found+in-Some-1, in-Found+in_ok-chosen-in-Found+in-None-1}
+
+pub returns-in-Split-clause-turned : goal.returns-in-Split-clause-turned
+returns-in-Split-clause-turned g c =
+    let q = g.P.Paths.means.question c.args.problem.now in let names = c.args.work.now.names in let group = c.args.group in
+    let boxed = c.args.work.now.boxed in let pair = c.in-Split.pair in let best = c.args.best.now in
+    let open_at : IsOpen q (in_group names group) boxed.masks pair =
+    subst (IsJudged q names group best.limit boxed.masks boxed.columns.values boxed.columns.costs) c.in-Split.is c.in_ok-judge.ensures.judged in
+    let is : IsSplit pair boxed.masks c.split.new.boxed.masks c.args.halves.now c.split.new.halves =
+    subst (λ (b : PathBox). IsSplit pair b.masks c.split.new.boxed.masks c.args.halves.now c.split.new.halves) c.in_ok-judge.ensures.kept.boxed c.in_ok-split-in-Split.ensures.split in
+    turned_split q names group pair boxed.masks c.split.new.boxed.masks c.args.halves.now c.split.new.halves best c.requires.work.ready.masks open_at is
+
+pub returns-clause-turned : goal.returns-clause-turned
+returns-clause-turned g c =
+    let q = g.P.Paths.means.question c.args.problem.now in let names = c.args.work.now.names in let group = c.args.group in
+    let boxed = c.args.work.now.boxed in let was = c.args.best.now in let best = c.match-branch-2.best in
+    let old = boxed.masks in let before = c.args.halves.now in
+    let kept : c.judge.new.work.boxed ≡ boxed = c.in_ok-judge.ensures.kept.boxed in
+    let leads : Leads q names group old before was best = elim c.match-branch-2.branch [
+      | in-Dropped w ↦ dropped_leads q names group old before was best w.best-is
+          (subst (IsJudged q names group was.limit old boxed.columns.values boxed.columns.costs) w.in-Dropped.is c.in_ok-judge.ensures.judged)
+      | in-Found+in_ok-chosen-in-Found+in-Some-1 w ↦
+          let x = w.in_ok-chosen-in-Found.field-0 in
+          let columns = c.judge.new.work.boxed.columns in
+          let judged : IsJudged q names group was.limit old columns.values columns.costs Found =
+          subst (λ (b : PathBox). IsJudged q names group was.limit old b.columns.values b.columns.costs Found) (sym kept)
+          (subst (IsJudged q names group was.limit old boxed.columns.values boxed.columns.costs) w.in-Found.is c.in_ok-judge.ensures.judged) in
+          let cost : w.group_cost-best.result ≡ cost_in q.count (in_group names group) columns.costs =
+          cost_read group q.count w.group_cost-best.result names w.as_slice.result.now columns.costs w.as_slice-in-Found.result.now (w.as_slice.ensures ∙ c.in_ok-judge.ensures.kept.names)
+          c.requires.work.names w.as_slice-in-Found.ensures w.group_cost-best.ensures.cost in
+          found_leads q names group old before was best columns.values columns.costs x w.group_cost-best.result judged w.in_ok-chosen-in-Found.ensures.0 w.in_ok-chosen-in-Found.ensures.1 cost w.best-is
+      | in-Found+in_ok-chosen-in-Found+in-None-1 w ↦
+          let x = w.in_ok-chosen-in-Found.field-0 in
+          let columns = c.judge.new.work.boxed.columns in
+          let judged : IsJudged q names group was.limit old columns.values columns.costs Found =
+          subst (λ (b : PathBox). IsJudged q names group was.limit old b.columns.values b.columns.costs Found) (sym kept)
+          (subst (IsJudged q names group was.limit old boxed.columns.values boxed.columns.costs) w.in-Found.is c.in_ok-judge.ensures.judged) in
+          let cost : w.group_cost-best.result ≡ cost_in q.count (in_group names group) columns.costs =
+          cost_read group q.count w.group_cost-best.result names w.as_slice.result.now columns.costs w.as_slice-in-Found.result.now (w.as_slice.ensures ∙ c.in_ok-judge.ensures.kept.names)
+          c.requires.work.names w.as_slice-in-Found.ensures w.group_cost-best.ensures.cost in
+          found_leads q names group old before was best columns.values columns.costs x w.group_cost-best.result judged w.in_ok-chosen-in-Found.ensures.0 w.in_ok-chosen-in-Found.ensures.1 cost w.best-is
+    ] in
+    turned_back q names group old c.go_back.new.boxed.masks before c.go_back.new.halves was best leads c.go_back.result c.judge.new.work.boxed.masks (ap (λ (b : PathBox). b.masks) kept)
+    c.go_back.ensures.back c.go_back.ensures.none c.go_back.ensures.end

@@ -1,0 +1,12 @@
+pub mod Questions
+pub mod Meanings
+pub mod Floors
+pub mod Columns
+pub mod Bounds
+pub mod Halves
+pub mod Works
+pub mod Takings
+pub mod Places
+pub mod Searches
+pub mod Answers
+pub mod Lowered

@@ -1,0 +1,34 @@
+-- What a search keeps.
+use Rattle.std.specs.Prelude.{◌≡◌, length, All}
+use Rattle.group_search.specs.Columns.{IsBox}
+use Rattle.group_search.specs.Questions.{Question, IsCut}
+use Rattle.group_search.specs.declared.spending.Spending.{Spending}
+use Rattle.group_search.specs.declared.work.Work.{Work}
+
+-- a number for each component
+pub record HasRoom (q : Question) (s : Spending) : Type 0 where
+  pub spent : length s.spent ≡ q.count
+  pub named : length s.named ≡ q.count
+
+-- a box, cuts of the question, and a name for each component
+pub record IsWork (q : Question) (w : Work) : Type 0 where
+  pub ready : IsBox q w.boxed
+  pub cuts : All (IsCut q) w.cuts.items
+  pub names : length w.names ≡ q.count
+  pub room : HasRoom q w.spending
+
+-- box, cuts and names are as before
+pub record KeepsBox (old new : Work) : Type 0 where
+  pub boxed : new.boxed ≡ old.boxed
+  pub cuts : new.cuts ≡ old.cuts
+  pub names : new.names ≡ old.names
+
+-- names are as before, and what places may have
+pub record KeepsMasks (old new : Work) : Type 0 where
+  pub masks : new.boxed.masks ≡ old.boxed.masks
+  pub names : new.names ≡ old.names
+
+-- box and names are as before
+pub record KeepsPaths (old new : Work) : Type 0 where
+  pub boxed : new.boxed ≡ old.boxed
+  pub names : new.names ≡ old.names

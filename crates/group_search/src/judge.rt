@@ -1,0 +1,127 @@
+//! What becomes of a box: it is dropped by its bound, or split where its least paths hold a cut, or these are asked for.
+
+ghost use Rattle.std.specs.Prelude.{◌≡◌, ◌<◌, ◌≤◌, ◌-◌, ℕ, IfOk, true, false, length, slice_index_or};
+ghost use Rattle.cca_base.specs.declared.limits.TheConstants.{MAX_ROWS};
+ghost use Rattle.group_search.specs.Bounds.{AllStand, EachPays};
+ghost use Rattle.group_search.specs.Questions.{cost_in, in_group};
+ghost use Rattle.group_search.specs.Searches.{IsJudged};
+ghost use Rattle.group_search.specs.Works.{IsWork, KeepsPaths};
+
+use crate::choose::{Place, choice_in, choose};
+use crate::groups::{group_cost, is_in_group};
+use crate::question::Paths;
+use crate::spending::spend_all;
+use crate::store::keep_cut;
+use crate::work::Work;
+use cca_base::Pair;
+use std::alloc::{AllocError, Global};
+
+/// What becomes of a box.
+#[derive(Clone, Copy, Debug)]
+pub enum Verdict {
+    /// No solution there costs less than the limit.
+    Dropped,
+    /// It is split at a pair.
+    Split(Pair),
+    /// Its least paths are the best so far.
+    Found,
+}
+
+/// Whether each component of the group has a path.
+pub(crate) fn all_stand(names: &[u16], group: Option<u16>, stands: &[bool]) -> bool
+    requires few { length names.now ≤ MAX_ROWS }
+    requires long { length stands.now ≡ length names.now }
+    ensures yes { result ≡ true → (c : ℕ) → c < length names.now → in_group names.now group c ≡ true →
+        slice_index_or stands.now c false ≡ true }
+    ensures no { result ≡ false → (c : ℕ) × (c < length names.now) × (in_group names.now group c ≡ true)
+        × (slice_index_or stands.now c false ≡ false) }
+{
+    for c in 0..names.len() {
+        if is_in_group(names, group, c as u16) && !stands[c] {
+            return false;
+        }
+    }
+    true
+}
+
+/// What becomes of a box whose least paths hold no cut that is known: they are asked for, and a clash of them is the next cut.
+fn ask_paths<P: Paths<S>, S>(
+    alloc: Global,
+    problem: &P,
+    space: &mut S,
+    work: &mut Work,
+    group: Option<u16>,
+    total: u64,
+    limit: u64,
+) -> Result<Verdict, AllocError>
+    requires space { P.means.is_space problem.now space.old }
+    requires work { IsWork (P.means.question problem.now) work.old }
+    requires stand { AllStand (P.means.question problem.now) (in_group work.old.names group) work.old.boxed }
+    requires base { cost_in (P.means.question problem.now).count (in_group work.old.names group) work.old.boxed.columns.costs ≤ total }
+    requires less { total < limit }
+    requires pays { EachPays (P.means.question problem.now) (in_group work.old.names group) work.old.boxed.masks work.old.boxed.columns.costs
+        work.old.spending.spent (total - cost_in (P.means.question problem.now).count (in_group work.old.names group) work.old.boxed.columns.costs) }
+    ensures space { P.means.is_space problem.now space.new }
+    ensures work { IsWork (P.means.question problem.now) work.new }
+    ensures kept { KeepsPaths work.old work.new }
+    ensures judged { IfOk result (IsJudged (P.means.question problem.now) work.old.names group limit work.old.boxed.masks
+        work.old.boxed.columns.values work.old.boxed.columns.costs) }
+{
+    let columns = &work.boxed.columns;
+    let (values, costs) = (columns.values.as_slice(), columns.costs.as_slice());
+    let names = work.names.as_slice();
+    let Some(cut) = problem.clash(alloc, space, values, costs, names, group)? else {
+        return Ok(Verdict::Found);
+    };
+    let pairs = cut.as_slice();
+    let choice = choice_in(
+        problem,
+        &work.boxed,
+        &work.spending,
+        names,
+        group,
+        pairs,
+        total,
+        limit,
+    );
+    keep_cut(&mut work.cuts, cut)?;
+    match choice {
+        None => Ok(Verdict::Dropped),
+        Some(choice) => Ok(Verdict::Split(choice.pair)),
+    }
+}
+
+/// What becomes of the box, where the group's components alone count. The error is out of memory.
+pub(crate) fn judge<P: Paths<S>, S>(
+    alloc: Global,
+    problem: &P,
+    space: &mut S,
+    work: &mut Work,
+    group: Option<u16>,
+    limit: u64,
+) -> Result<Verdict, AllocError>
+    requires space { P.means.is_space problem.now space.old }
+    requires work { IsWork (P.means.question problem.now) work.old }
+    ensures space { P.means.is_space problem.now space.new }
+    ensures work { IsWork (P.means.question problem.now) work.new }
+    ensures kept { KeepsPaths work.old work.new }
+    ensures judged { IfOk result (IsJudged (P.means.question problem.now) work.old.names group limit work.old.boxed.masks
+        work.old.boxed.columns.values work.old.boxed.columns.costs) }
+{
+    let names = work.names.as_slice();
+    if !all_stand(names, group, work.boxed.stands.as_slice()) {
+        return Ok(Verdict::Dropped);
+    }
+    let base = group_cost(names, group, work.boxed.columns.costs.as_slice());
+    if base >= limit {
+        return Ok(Verdict::Dropped);
+    }
+    let Some(total) = spend_all(problem, work, group, base, limit) else {
+        return Ok(Verdict::Dropped);
+    };
+    match choose(problem, work, group, total, limit) {
+        Place::Closed => Ok(Verdict::Dropped),
+        Place::At(pair) => Ok(Verdict::Split(pair)),
+        Place::Nowhere => ask_paths(alloc, problem, space, work, group, total, limit),
+    }
+}
