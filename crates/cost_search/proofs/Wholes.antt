@@ -14,7 +14,12 @@ use Rattle.std.proofs.lemmas.List.Sums.{sum_by_push}
 use Rattle.cca_base.specs.declared.choice.Choice.{Choice}
 use Rattle.cost_search.specs.declared.part.Span.{Span}
 use Rattle.cost_search.specs.SearchParts.{nothing, box, head_of, heads, IsSpan, AreSpans}
-use Rattle.cost_search.proofs.Spending.{zip_push}
+
+zip_push : {A B : Type 0} (R : A → B → Type 0) (xs : List A) (ys : List B) (x : A) (y : B) → AllZip R xs ys → R x y → AllZip R (xs ++ x ∷ []) (ys ++ y ∷ [])
+zip_push R [] [] x y h r = (r, tt)
+zip_push R [] (b ∷ ys) x y h r = absurd h
+zip_push R (a ∷ xs) [] x y h r = absurd h
+zip_push R (a ∷ xs) (b ∷ ys) x y h r = (h.0, zip_push R xs ys x y h.1 r)
 
 -- the first choices of a row have as many modes, so if each is below a number there are no more
 pub few_choices : (most : ℕ) (row : List Choice) (i : ℕ) → AllPairs (λ x y. x.mode ≢ y.mode) row → All (λ x. x.mode < most) (take i row) → i ≤ length row → i ≤ most

@@ -6,13 +6,14 @@ use Rattle.std.proofs.lemmas.List.Sums.{sum-map}
 use Rattle.std.proofs.lemmas.Slice.Zip.{AllZip-long}
 use Rattle.cca_base.specs.declared.cube.Pair.{Pair}
 use Rattle.cca_base.specs.PlantModel.{PlantModel}
-use Rattle.cca_base.specs.Model.{HasMode, CommandsFit}
+use Rattle.cca_base.specs.Model.{HasMode, CommandsFit, WellFormed}
 use Rattle.cca_base.specs.State.{IsState}
 use Rattle.cca_base.specs.Successors.{ChangeCosts, Costs}
 use Rattle.cca_base.specs.Estimates.{Consistent, Estimate}
 use Rattle.cca_base.specs.Estimates as estimates
 use Rattle.cca_base.specs.declared.choice.Choice.{Choice}
 use Rattle.cca_base.proofs.NominalLaws.{one_nominal}
+use Rattle.cca_base.proofs.NextModes.{few_modes}
 use Rattle.successors.specs.Choices.{AreChoices}
 use Rattle.cost_search.specs.Search.{IsPicked, IsUpTo}
 use Rattle.cost_search.proofs.Ranks.{upto_cost, not_earlier}
@@ -20,32 +21,33 @@ use Rattle.mode_estimator.specs.declared.answer.Estimate.{Estimate as Answer}
 use Rattle.mode_estimator.specs.declared.answer.Estimate.TheVariants.{Found, Unexplained}
 use Rattle.mode_estimator.specs.Estimated.{IsEstimate}
 use Rattle.mode_estimator.specs.First.{Shows, IsFirstShown}
+use Rattle.mode_estimator.specs.Ticks.{AreRowsOf}
 
-zip-at : (rows : List (List Choice)) (picks : List Choice) (c : ℕ) (d : Choice) → AllZip Contains rows picks → c < length rows → Contains (get_or rows c []) (get_or picks c d)
+pub zip-at : (rows : List (List Choice)) (picks : List Choice) (c : ℕ) (d : Choice) → AllZip Contains rows picks → c < length rows → Contains (get_or rows c []) (get_or picks c d)
 zip-at [] picks c d h k = absurd (omega arith)
 zip-at (row ∷ rows) [] c d h k = absurd h
 zip-at (row ∷ rows) (y ∷ picks) zero d h k = h.0
 zip-at (row ∷ rows) (y ∷ picks) (suc c) d h k = zip-at rows picks c d h.1 (omega arith)
 
-zip_from : (rows : List (List Choice)) (picks : List Choice) (d : Choice) → length rows ≡ length picks → ((c : ℕ) → c < length rows → Contains (get_or rows c []) (get_or picks c d)) → AllZip Contains rows picks
+pub zip_from : (rows : List (List Choice)) (picks : List Choice) (d : Choice) → length rows ≡ length picks → ((c : ℕ) → c < length rows → Contains (get_or rows c []) (get_or picks c d)) → AllZip Contains rows picks
 zip_from [] [] d e f = tt
 zip_from [] (y ∷ picks) d e f = absurd (omega arith)
 zip_from (row ∷ rows) [] d e f = absurd (omega arith)
 zip_from (row ∷ rows) (y ∷ picks) d e f = (f 0 (omega arith), zip_from rows picks d (omega arith) (λ c h. f (suc c) (omega arith)))
 
 -- modes and costs, choice by choice
-abbrev picks_of : List ℕ → List ℕ → List Choice
+abbrev pub picks_of : List ℕ → List ℕ → List Choice
 picks_of [] ks = []
 picks_of (m ∷ s) [] = []
 picks_of (m ∷ s) (k ∷ ks) = record { mode = m; cost = k } ∷ picks_of s ks
 
-modes-picks : (s ks : List ℕ) → length ks ≡ length s → map (λ (x : Choice). x.mode) (picks_of s ks) ≡ s
+pub modes-picks : (s ks : List ℕ) → length ks ≡ length s → map (λ (x : Choice). x.mode) (picks_of s ks) ≡ s
 modes-picks [] [] e = refl
 modes-picks [] (k ∷ ks) e = absurd (omega arith)
 modes-picks (m ∷ s) [] e = absurd (omega arith)
 modes-picks (m ∷ s) (k ∷ ks) e = ap (λ (l : List ℕ). m ∷ l) (modes-picks s ks (omega arith))
 
-costs-picks : (s ks : List ℕ) → length ks ≡ length s → map (λ (x : Choice). x.cost) (picks_of s ks) ≡ ks
+pub costs-picks : (s ks : List ℕ) → length ks ≡ length s → map (λ (x : Choice). x.cost) (picks_of s ks) ≡ ks
 costs-picks [] [] e = refl
 costs-picks [] (k ∷ ks) e = absurd (omega arith)
 costs-picks (m ∷ s) [] e = absurd (omega arith)
@@ -54,6 +56,14 @@ costs-picks (m ∷ s) (k ∷ ks) e = ap (λ (l : List ℕ). k ∷ l) (costs-pick
 module _ (m : PlantModel) (s : List ℕ) (k : Option ℕ) (rows : List (List Choice)) (a : AreChoices m s k rows) where
   abbrev none : Choice
   none = record { mode = 0; cost = 0 }
+
+  pub choice_rows : WellFormed m → AreRowsOf m rows
+  choice_rows well = record {
+    rows_fit = a.rows_fit;
+    full = a.full;
+    modes = λ c x within among. ((a.each c x within).0 among).0;
+    small = λ c x within among. omega (arith, ((a.each c x within).0 among).0, few_modes m well c (omega (arith, within, a.full)));
+  }
 
   -- what a chosen state's components change to
   change-at : (t : List ℕ) (cost : ℕ) (h : IsPicked rows t cost) (c : ℕ) → c < length rows
@@ -73,7 +83,7 @@ module _ (m : PlantModel) (s : List ℕ) (k : Option ℕ) (rows : List (List Cho
   length-chosen : (t : List ℕ) (cost : ℕ) → IsPicked rows t cost → length t ≡ length m.components
   length-chosen t cost h = ap length h.modes ∙ length-map h.picks (λ (x : Choice). x.mode) ∙ AllZip-long Contains rows h.picks h.each ∙ a.full
 
-  pub chosen_state : (t : List ℕ) (cost : ℕ) → IsPicked rows t cost → IsState m t
+  chosen_state : (t : List ℕ) (cost : ℕ) → IsPicked rows t cost → IsState m t
   chosen_state t cost h = record { full = length-chosen t cost h; modes = λ c within. (change-at t cost h c (omega (arith, a.full))).0 }
 
   chosen_costs : (t : List ℕ) (cost : ℕ) → IsPicked rows t cost → Costs m s k t cost

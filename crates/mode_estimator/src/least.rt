@@ -1,5 +1,5 @@
-//! The estimate of a tick. The nominal state is the only one that costs nothing, so it is asked for first; where it doesn't
-//! explain what is seen, a clash of it is the first cut.
+//! The estimate of a tick. The nominal state is the only one that costs nothing, so it is asked for first; the others are searched where
+//! it doesn't explain what is seen.
 
 ghost use Rattle.std.specs.Prelude.{IfOk, All};
 ghost use Rattle.cca_base.specs.Prelude.{HasValue, IsState};
@@ -9,8 +9,7 @@ ghost use Rattle.mode_estimator.specs.Estimated.{IsEstimate};
 
 use crate::answer::Estimate;
 use crate::first::first_shown;
-use crate::query::Query;
-use cca_base::{Compiled, List, Seen, State};
+use cca_base::{Compiled, Seen, State};
 use consistency::{Rules, WorldSpace, Worlds};
 use std::alloc::{AllocError, Global};
 use successors::{choices, obey};
@@ -36,25 +35,19 @@ pub fn estimate_by(
     let model = compiled.model();
     let mut nominal = state.copy(alloc)?;
     obey(compiled, &mut nominal, command);
-    let Some(clash) = worlds.clash(alloc, model, &nominal, seen, space)? else {
+    if worlds.clash(alloc, model, &nominal, seen, space)?.is_none() {
         return Ok(Estimate::Found {
             state: nominal,
             cost: 0,
         });
-    };
+    }
     let rows = choices(alloc, compiled, state, command)?;
-    let mut cuts = List::new(alloc);
-    cuts.push(clash)?;
     let rules = Rules {
         alloc,
         model,
         worlds,
     };
-    let query = Query {
-        rules: &rules,
-        seen,
-    };
-    first_shown(&query, rows, cuts, space)
+    first_shown(&rules, seen, rows, space)
 }
 
 /// The same for one tick alone.

@@ -3,12 +3,9 @@
 #![tactic(auto)]
 
 mod answer;
-mod find;
 mod first;
 mod least;
-mod lower;
-mod query;
-mod turn;
+mod tick;
 
 pub use answer::Estimate;
 pub use least::{estimate, estimate_by};

@@ -1,0 +1,148 @@
+//! A tick as a question of paths: each component chooses a mode from its row, and the state that they make is to have a world that
+//! agrees with what is seen.
+
+ghost use Rattle.std.specs.Prelude.{◌≡◌, ◌∷◌, ◌++◌, ◌<◌, ◌≤◌, ℕ, true, All, Contains, IfOk, IfSome, IsNone, length, slice_get, slice_index, slice_index_or, Some, false, filter, not};
+ghost use Rattle.cca_base.specs.Prelude.{HasMode, HasValue, IsCube};
+ghost use Rattle.cca_base.specs.Relations.{numbers_below};
+ghost use Rattle.cca_base.specs.Sets.{has};
+ghost use Rattle.cca_base.specs.declared.choice.Choice.{Choice};
+ghost use Rattle.cca_base.specs.declared.cube.Pair.{Pair};
+ghost use Rattle.cca_base.specs.declared.limits.TheConstants.{MAX_ROWS};
+ghost use Rattle.mode_estimator.specs.Ticks.{AreRowsOf, IsNextIn, ArePairsOf, is_fixed};
+
+use cca_base::{Choice, Cube, List, Pair, Seen};
+use consistency::{Rules, WorldSpace};
+use group_search::{Columns, Paths, has_value, is_in_group};
+use std::alloc::{AllocError, Global};
+
+/// What each component may choose at a tick, and what is seen.
+#[derive(Drop)]
+pub(crate) struct Tick<'a> {
+    pub rules: &'a Rules<'a>,
+    pub seen: &'a Seen,
+    pub rows: &'a [List<Choice>],
+    /// The component of each place: itself.
+    pub components: &'a [u16],
+    ghost values: { All (λ p. HasValue rules.now.model.now p.item p.value) seen.now.pairs },
+    ghost of_rows: { AreRowsOf rules.now.model.now rows.now },
+    ghost places: { components.now ≡ numbers_below (length rows.now) },
+}
+
+/// The place of the row's first choice from a place on whose mode is in the set.
+fn next_in(row: &[Choice], mask: u64, from: usize) -> Option<usize>
+    requires { from ≤ length row.now }
+    ensures { IsNextIn row.now mask from result }
+{
+    for at in from..row.len() {
+        if has_value(mask, row[at].mode) {
+            return Some(at);
+        }
+    }
+    None
+}
+
+/// The components of the group with their modes, and those with one choice with the mode of that choice.
+fn pairs_of_group(
+    alloc: Global,
+    rows: &[List<Choice>],
+    modes: &[u8],
+    names: &[u16],
+    group: Option<u16>,
+) -> Result<List<Pair>, AllocError>
+    requires rows { length rows.now ≡ length modes.now }
+    requires names { length names.now ≡ length modes.now }
+    requires few { length modes.now ≤ MAX_ROWS }
+    ensures cube { IfOk result IsCube }
+    ensures pairs { IfOk result (ArePairsOf rows.now names.now group modes.now) }
+{
+    let mut pairs = List::new(alloc);
+    for c in 0..modes.len() {
+        let item = c as u16;
+        let row = rows[c].as_slice();
+        if row.len() == 1 {
+            pairs.push(Pair {
+                item,
+                value: row[0].mode,
+            })?;
+        } else if is_in_group(names, group, item) {
+            pairs.push(Pair {
+                item,
+                value: modes[c],
+            })?;
+        }
+    }
+    Ok(pairs)
+}
+
+/// The pairs of components that have more than one choice: each state has the others.
+fn free_part(alloc: Global, rows: &[List<Choice>], cube: &Cube) -> Result<Cube, AllocError>
+    requires { All (λ p. p.item < length rows.now) cube.now }
+    ensures { IfOk result (λ part. part ≡ filter (λ p. not (is_fixed rows.now p.item)) cube.now) }
+{
+    let mut part = Cube::new(alloc);
+    for pair in cube.as_slice() {
+        if rows[pair.item as usize].len() != 1 {
+            part.push(*pair)?;
+        }
+    }
+    Ok(part)
+}
+
+impl<'a> Paths<WorldSpace> for Tick<'a> {
+    ghost use Rattle.mode_estimator.specs.TickLaws.{tick_few, tick_means, tick_own, tick_owned, tick_whole};
+
+    ghost means = { tick_means };
+
+    ghost owned = { tick_owned };
+
+    ghost few = { tick_few };
+
+    ghost whole = { tick_whole };
+
+    ghost own_places = { tick_own };
+
+    fn components(&self) -> &[u16] {
+        self.components
+    }
+
+    fn count(&self) -> usize {
+        self.rows.len()
+    }
+
+    fn column(&self, component: u16, masks: &[u64], columns: &mut Columns) -> bool {
+        let at = component as usize;
+        let row = self.rows[at].as_slice();
+        let Some(first) = next_in(row, masks[at], 0) else {
+            return false;
+        };
+        let price = match next_in(row, masks[at], first + 1) {
+            None => None,
+            Some(next) => Some(row[next].cost.saturating_sub(row[first].cost)),
+        };
+        columns.values.set(at, row[first].mode);
+        columns.prices.set(at, price);
+        columns.costs.set(at, row[first].cost);
+        true
+    }
+
+    fn clash(
+        &self,
+        alloc: Global,
+        space: &mut WorldSpace,
+        values: &[u8],
+        costs: &[u64],
+        names: &[u16],
+        group: Option<u16>,
+    ) -> Result<Option<Cube>, AllocError> {
+        let pairs = pairs_of_group(alloc, self.rows, values, names, group)?;
+        let rules = self.rules;
+        let (model, asked) = (rules.model, pairs.as_slice());
+        match rules
+            .worlds
+            .clash_among(alloc, model, asked, self.seen, space)?
+        {
+            Some(cube) => Ok(Some(free_part(alloc, self.rows, &cube)?)),
+            None => Ok(None),
+        }
+    }
+}
