@@ -7,7 +7,7 @@ use Rattle.std.proofs.lemmas.List.Elements.{All-set}
 use Rattle.list_laws.proofs.Orders.{below_next}
 use Rattle.cca_base.specs.Relations.{numbers_below}
 use Rattle.cca_base.specs.Sets.{has}
-use Rattle.group_search.specs.Questions.{Question, IsInside, IsSolution}
+use Rattle.group_search.specs.Questions.{Question, IsInside, IsSolution, IsWithin}
 use Rattle.group_search.specs.Columns.{CostsMore, IsBox, IsColumn, KeepsOthers, NoColumn, StandsOrNot, itself}
 use Rattle.group_search.specs.declared.columns.Columns.{Columns}
 use Rattle.group_search.specs.declared.path_box.PathBox.{PathBox}
@@ -104,6 +104,50 @@ put_read q own few old place mask components seen wrote columns stands stood is 
     let ready = put_box q own old place mask c columns stood is within fits at (subst (λ k. k < q.count) at (few place 0 within)) kept
     (λ s. subst (λ m. IsColumn q m c columns) (shown ∙ put) (column s)) (λ s. subst (λ m. NoColumn q m c) (shown ∙ put) (none s)) in
     subst (λ m. IsBox q (boxed columns m stands)) (sym put) (subst (λ s. IsBox q (boxed columns (set old.masks place mask) s)) (sym set_there) ready)
+
+-- ---- a place that may have less
+
+module _ (q : Question) (old : PathBox) (place mask : ℕ) (is : IsBox q old) (within : place < length q.of) (less : IsWithin mask (slice_index old.masks place)) where
+  abbrev narrowed : List ℕ
+  narrowed = set old.masks place mask
+
+  -- what the place may have it might have before
+  wider : (p a : ℕ) → has (slice_index narrowed p) a ≡ true → has (slice_index old.masks p) a ≡ true
+  wider p a h = elim (same_or_other p place) [
+    | inl e ↦
+        let here : slice_index narrowed p ≡ mask = ap (λ k. get_or narrowed k 0) e ∙ get_or-set_same old.masks place mask 0 (omega (arith, within, is.masks)) in
+        ap (λ k. has (slice_index old.masks k) a) e ∙ less a (sym (ap (λ m. has m a) here) ∙ h)
+    | inr differs ↦ sym (ap (λ m. has m a) (get_or-set_other old.masks place p mask 0 differs)) ∙ h
+  ]
+
+  wider_solution : (d : ℕ) (values costs : List ℕ) → IsSolution q (itself d) narrowed values costs → IsSolution q (itself d) old.masks values costs
+  wider_solution d values costs s = record { solves = s.solves; inside = λ p under own. wider p (slice_index values p) (s.inside p under own) }
+
+  -- its column stays where it keeps its value
+  pub narrow_box : mask < 2 ^ 64 → has mask (slice_index old.columns.values place) ≡ true → IsBox q (boxed old.columns narrowed old.stands)
+  narrow_box fits keeps = record {
+    masks = length-set old.masks place mask ∙ is.masks;
+    words = All-set (λ w. w < 2 ^ 64) old.masks place mask fits is.words;
+    shape = is.shape;
+    stands = is.stands;
+    each = λ d under. record {
+      stands = λ s.
+          let column = (is.each d under).stands s in
+          record {
+            inside = λ p here own. elim (same_or_other p place) [
+              | inl e ↦
+                  ap (λ k. has (get_or narrowed k 0) (slice_index old.columns.values k)) e
+                  ∙ (ap (λ m. has m (slice_index old.columns.values place)) (get_or-set_same old.masks place mask 0 (omega (arith, within, is.masks))) ∙ keeps)
+              | inr differs ↦ ap (λ m. has m (slice_index old.columns.values p)) (get_or-set_other old.masks place p mask 0 differs) ∙ column.inside p here own
+            ];
+            cost = column.cost;
+            cheap = column.cheap;
+            least = λ values costs h. column.least values costs (wider_solution d values costs h);
+            more = λ p values costs here own h other. column.more p values costs here own (wider_solution d values costs h) other;
+          };
+      none = λ s values costs h. (is.each d under).none s values costs (wider_solution d values costs h);
+    };
+  }
 
 -- as many components as there are have their columns, or none
 abbrev pub EachBelow : Question → List ℕ → Columns → List Bool → ℕ → Type 0

@@ -7,11 +7,13 @@ pub mod JudgeLaws
 pub mod LeastLaws
 pub mod LowerLaws
 pub mod LowerValues
+pub mod MemberLaws
 pub mod PayLaws
 pub mod PriceLaws
 pub mod SearchLaws
 pub mod SpendLaws
-pub mod StoreLaws
+pub mod StayLaws
+mod StoreLaws
 pub mod Sums
 pub mod TakenLaws
 pub mod ValueLaws

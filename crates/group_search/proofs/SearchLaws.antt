@@ -224,8 +224,3 @@ turned_split q names group p old new before after best long open_at is base star
   (λ _. split_lighter q names group base start p old new before after best long open_at is sought),
   (λ e. absurd (false≢true (sym e))),
 )
-
--- what the group costs, by what a call was given
-pub cost_read : (group : Option ℕ) (count cost : ℕ) (names seen costs read : List ℕ) → seen ≡ names → length names ≡ count → read ≡ costs → cost ≡ cost_in (length seen) (in_group seen group) read → cost ≡ cost_in count (in_group names group) costs
-cost_read group count cost names seen costs read same long shown is =
-    is ∙ ap (λ s. cost_in (length s) (in_group s group) read) same ∙ ap (λ n. cost_in n (in_group names group) read) long ∙ ap (cost_in count (in_group names group)) shown

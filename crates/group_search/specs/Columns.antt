@@ -9,11 +9,13 @@ use Rattle.group_search.specs.declared.columns.TheConstants.{MAX_PATH}
 abbrev pub itself : ℕ → ℕ → Bool
 itself c d = d == c
 
--- as many values and prices as there are places, and as many costs as components
+-- as many values and prices as there are places, as many costs as components, and the room that is wanted
 pub record AreColumns (q : Question) (x : Columns) : Type 0 where
   pub values : length x.values ≡ length q.of
   pub prices : length x.prices ≡ length q.of
   pub costs : length x.costs ≡ q.count
+  pub behind : length x.behind ≡ q.room
+  pub before : length x.before ≡ q.room
 
 -- a solution that has another value costs this more at least; None: there is none
 abbrev pub CostsMore : Option ℕ → ℕ → ℕ → Type 0

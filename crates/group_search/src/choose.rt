@@ -9,7 +9,7 @@ ghost use Rattle.group_search.specs.Works.{HasRoom, IsWork};
 
 use crate::path_box::PathBox;
 use crate::question::Paths;
-use crate::spending::{Spending, is_held, price_of};
+use crate::spending::{Spending, held_cut, price_of};
 use crate::work::Work;
 use cca_base::Pair;
 
@@ -127,11 +127,11 @@ pub(crate) fn choose<P: Paths<S>, S>(
         work.now.spending.spent (total - cost_in (P.means.question problem.now).count (in_group work.now.names group) work.now.boxed.columns.costs) }
     ensures { IsPlace (P.means.question problem.now) (in_group work.now.names group) work.now.boxed.masks limit result }
 {
-    let names = work.names.as_slice();
+    let (names, cuts) = (work.names.as_slice(), work.cuts.as_slice());
     let mut best: Option<Choice> = None;
-    for at in 0..work.cuts.len() {
-        let cut = work.cuts[at].as_slice();
-        if is_held(problem, &work.boxed, names, group, cut) {
+    for at in 0..work.focus.cuts.len() {
+        let place = *work.focus.cuts.get(at) as usize;
+        if let Some(cut) = held_cut(problem, &work.boxed, names, group, cuts, place) {
             let Some(choice) = choice_in(
                 problem,
                 &work.boxed,

@@ -17,6 +17,10 @@ pub struct Columns {
     pub prices: List<Option<u64>>,
     /// What the path of each component costs.
     pub costs: List<u64>,
+    /// Room for what comes behind a path's values, while it is found.
+    pub behind: List<Option<u64>>,
+    /// Room for what comes before them.
+    pub before: List<Option<u64>>,
 }
 
 /// Values of all places, with what each component costs.

@@ -6,10 +6,10 @@ ghost use Rattle.group_search.specs.Columns.{IsBox};
 ghost use Rattle.group_search.specs.Halves.{IsBack, IsSplit, SplitOwn, left_of, undone};
 ghost use Rattle.group_search.specs.Questions.{CostsAtLeast, cost_in, in_group};
 ghost use Rattle.group_search.specs.Searches.{IsFind, IsTurned};
-ghost use Rattle.group_search.specs.Works.{IsWork};
+ghost use Rattle.group_search.specs.Works.{AreMembers, IsWork};
 
 use crate::columns::Chosen;
-use crate::groups::group_cost;
+use crate::focus::{Focus, cost_of};
 use crate::halves::{Half, Halves};
 use crate::judge::{Verdict, judge};
 use crate::path_box::PathBox;
@@ -96,8 +96,10 @@ fn turn<P: Paths<S>, S>(
 ) -> Result<bool, AllocError>
     requires space { P.means.is_space problem.now space.old }
     requires work { IsWork (P.means.question problem.now) work.old }
+    requires members { AreMembers (P.means.question problem.now) work.old.names group work.old.focus.members }
     requires own { SplitOwn (P.means.question problem.now) (λ c. true) halves.old }
     ensures space { P.means.is_space problem.now space.new }
+    ensures members { work.new.focus.members ≡ work.old.focus.members }
     ensures work { IsWork (P.means.question problem.now) work.new }
     ensures names { work.new.names ≡ work.old.names }
     ensures turned { IfOk result (IsTurned (P.means.question problem.now) work.old.names group work.old.boxed.masks work.new.boxed.masks
@@ -111,7 +113,7 @@ fn turn<P: Paths<S>, S>(
         }
         Verdict::Found => {
             let columns = &work.boxed.columns;
-            best.limit = group_cost(work.names.as_slice(), group, columns.costs.as_slice());
+            best.limit = cost_of(work.focus.members.as_slice(), columns.costs.as_slice());
             best.found = Some(columns.chosen(alloc)?);
         }
     }
@@ -147,6 +149,8 @@ pub(crate) fn find<P: Paths<S>, S>(
     ensures none { IfOk result (λ o. IsNone o →
         CostsAtLeast (P.means.question problem.now) (in_group work.old.names group) work.old.boxed.masks limit) }
 {
+    let (names, cuts) = (work.names.as_slice(), work.cuts.as_slice());
+    work.focus = Focus::on(alloc, names, group, problem.components(), cuts)?;
     let mut halves = Halves::new(alloc);
     let mut best = Best { found: None, limit };
     'boxes: loop {

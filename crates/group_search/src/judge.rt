@@ -1,14 +1,13 @@
 //! What becomes of a box: it is dropped by its bound, or split where its least paths hold a cut, or these are asked for.
 
-ghost use Rattle.std.specs.Prelude.{◌≡◌, ◌<◌, ◌≤◌, ◌-◌, ℕ, IfOk, true, false, length, slice_index_or};
-ghost use Rattle.cca_base.specs.declared.limits.TheConstants.{MAX_ROWS};
+ghost use Rattle.std.specs.Prelude.{◌≡◌, ◌<◌, ◌≤◌, ◌-◌, ℕ, All, Contains, IfOk, true, false, length, slice_index_or};
 ghost use Rattle.group_search.specs.Bounds.{AllStand, EachPays};
 ghost use Rattle.group_search.specs.Questions.{cost_in, in_group};
 ghost use Rattle.group_search.specs.Searches.{IsJudged};
-ghost use Rattle.group_search.specs.Works.{IsWork, KeepsPaths};
+ghost use Rattle.group_search.specs.Works.{AreMembers, IsWork, KeepsPaths};
 
 use crate::choose::{Place, choice_in, choose};
-use crate::groups::{group_cost, is_in_group};
+use crate::focus::{cost_of, cuts_of};
 use crate::question::Paths;
 use crate::spending::spend_all;
 use crate::store::keep_cut;
@@ -27,17 +26,14 @@ pub enum Verdict {
     Found,
 }
 
-/// Whether each component of the group has a path.
-pub(crate) fn all_stand(names: &[u16], group: Option<u16>, stands: &[bool]) -> bool
-    requires few { length names.now ≤ MAX_ROWS }
-    requires long { length stands.now ≡ length names.now }
-    ensures yes { result ≡ true → (c : ℕ) → c < length names.now → in_group names.now group c ≡ true →
-        slice_index_or stands.now c false ≡ true }
-    ensures no { result ≡ false → (c : ℕ) × (c < length names.now) × (in_group names.now group c ≡ true)
-        × (slice_index_or stands.now c false ≡ false) }
+/// Whether each of the components has a path.
+pub(crate) fn all_stand(members: &[u16], stands: &[bool]) -> bool
+    requires { All (λ c. c < length stands.now) members.now }
+    ensures yes { result ≡ true → All (λ c. slice_index_or stands.now c false ≡ true) members.now }
+    ensures no { result ≡ false → (c : ℕ) × Contains members.now c × (slice_index_or stands.now c false ≡ false) }
 {
-    for c in 0..names.len() {
-        if is_in_group(names, group, c as u16) && !stands[c] {
+    for c in members {
+        if !stands[*c as usize] {
             return false;
         }
     }
@@ -85,6 +81,8 @@ fn ask_paths<P: Paths<S>, S>(
         limit,
     );
     keep_cut(&mut work.cuts, cut)?;
+    let (names, cuts) = (work.names.as_slice(), work.cuts.as_slice());
+    work.focus.cuts = cuts_of(alloc, names, group, problem.components(), cuts)?;
     match choice {
         None => Ok(Verdict::Dropped),
         Some(choice) => Ok(Verdict::Split(choice.pair)),
@@ -102,17 +100,18 @@ pub(crate) fn judge<P: Paths<S>, S>(
 ) -> Result<Verdict, AllocError>
     requires space { P.means.is_space problem.now space.old }
     requires work { IsWork (P.means.question problem.now) work.old }
+    requires members { AreMembers (P.means.question problem.now) work.old.names group work.old.focus.members }
     ensures space { P.means.is_space problem.now space.new }
     ensures work { IsWork (P.means.question problem.now) work.new }
     ensures kept { KeepsPaths work.old work.new }
     ensures judged { IfOk result (IsJudged (P.means.question problem.now) work.old.names group limit work.old.boxed.masks
         work.old.boxed.columns.values work.old.boxed.columns.costs) }
 {
-    let names = work.names.as_slice();
-    if !all_stand(names, group, work.boxed.stands.as_slice()) {
+    let members = work.focus.members.as_slice();
+    if !all_stand(members, work.boxed.stands.as_slice()) {
         return Ok(Verdict::Dropped);
     }
-    let base = group_cost(names, group, work.boxed.columns.costs.as_slice());
+    let base = cost_of(members, work.boxed.columns.costs.as_slice());
     if base >= limit {
         return Ok(Verdict::Dropped);
     }

@@ -29,7 +29,7 @@ pub fn least_solution<P: Paths<S>, S>(
 {
     let mut work = Work::of(alloc, problem, masks)?;
     let names = work.names.as_slice();
-    if !all_stand(names, None, work.boxed.stands.as_slice()) {
+    if !all_stand(names, work.boxed.stands.as_slice()) {
         return Ok(None);
     }
     let chosen = work.boxed.columns.chosen(alloc)?;

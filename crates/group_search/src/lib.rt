@@ -5,6 +5,7 @@
 mod choose;
 mod columns;
 mod find;
+mod focus;
 mod groups;
 mod halves;
 mod judge;
@@ -13,8 +14,10 @@ mod lower;
 mod marks;
 mod path_box;
 mod question;
+mod rising;
 mod settle;
 mod spending;
+mod staying;
 mod store;
 mod values;
 mod work;

@@ -10,6 +10,7 @@ use crate::columns::Chosen;
 use crate::groups::group_cost;
 use crate::question::Paths;
 use crate::settle::{search_group, settle};
+use crate::staying::keeps_value;
 use crate::values::{below, only};
 use crate::work::Work;
 use std::alloc::{AllocError, Global};
@@ -78,7 +79,7 @@ fn lower_once<P: Paths<S>, S>(
 {
     let before = *work.boxed.masks.get(place as usize);
     let lower = below(before, *chosen.values.get(place as usize));
-    if lower == 0 {
+    if lower == 0 || keeps_value(problem, work, chosen, limit, place) {
         return Ok(None);
     }
     work.boxed.put(problem, place, lower);
@@ -116,7 +117,7 @@ fn lower_at<P: Paths<S>, S>(
         chosen = other;
     }
     let value = *chosen.values.get(place as usize);
-    work.boxed.put(problem, place, only(value));
+    work.boxed.narrow(problem, place, only(value));
     Ok(chosen)
 }
 

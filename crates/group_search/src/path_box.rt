@@ -1,10 +1,12 @@
 //! A box: what each place may have, with the columns of its components.
 
-ghost use Rattle.std.specs.Prelude.{◌≡◌, ◌<◌, ◌^◌, ℕ, All, IfOk, length, slice_set};
+ghost use Rattle.std.specs.Prelude.{◌≡◌, ◌<◌, ◌^◌, ℕ, All, IfOk, length, slice_index, slice_set};
 ghost use Rattle.group_search.specs.Columns.{IsBox};
+ghost use Rattle.group_search.specs.Questions.{IsWithin};
 
 use crate::columns::Columns;
 use crate::question::Paths;
+use crate::values::has_value;
 use cca_base::List;
 use std::alloc::{AllocError, Global};
 
@@ -19,25 +21,24 @@ pub struct PathBox {
 }
 
 /// Columns of so many places and components, with nothing in them. The error is out of memory.
-fn no_columns(alloc: Global, places: usize, components: usize) -> Result<Columns, AllocError>
+fn no_columns(
+    alloc: Global,
+    places: usize,
+    components: usize,
+    room: usize,
+) -> Result<Columns, AllocError>
     ensures values { IfOk result (λ x. length x.values ≡ places) }
     ensures prices { IfOk result (λ x. length x.prices ≡ places) }
     ensures costs { IfOk result (λ x. length x.costs ≡ components) }
+    ensures behind { IfOk result (λ x. length x.behind ≡ room) }
+    ensures before { IfOk result (λ x. length x.before ≡ room) }
 {
-    let mut values = List::new(alloc);
-    let mut prices = List::new(alloc);
-    for _ in 0..places {
-        values.push(0)?;
-        prices.push(None)?;
-    }
-    let mut costs = List::new(alloc);
-    for _ in 0..components {
-        costs.push(0)?;
-    }
     Ok(Columns {
-        values,
-        prices,
-        costs,
+        values: List::of(vec![in alloc; 0; places]?),
+        prices: List::of(vec![in alloc; None; places]?),
+        costs: List::of(vec![in alloc; 0; components]?),
+        behind: List::of(vec![in alloc; None; room]?),
+        before: List::of(vec![in alloc; None; room]?),
     })
 }
 
@@ -62,7 +63,7 @@ impl PathBox {
     {
         let places = problem.components().len();
         let words = words_of(masks.as_slice());
-        let mut columns = no_columns(alloc, places, problem.count())?;
+        let mut columns = no_columns(alloc, places, problem.count(), problem.room())?;
         let mut stands = List::new(alloc);
         for component in 0..problem.count() {
             let stand = problem.column(component as u16, words, &mut columns);
@@ -86,5 +87,20 @@ impl PathBox {
         let component = problem.components()[place as usize];
         let stands = problem.column(component, self.masks.as_slice(), &mut self.columns);
         self.stands.set(component as usize, stands);
+    }
+
+    /// From now on the place may have these values, of those that it might have before. The column stays where its value is one of them.
+    pub fn narrow<P: Paths<S>, S>(&mut self, problem: &P, place: u16, mask: u64)
+        requires ready { IsBox (P.means.question problem.now) self.old }
+        requires place { place < length (P.means.question problem.now).of }
+        requires within { IsWithin mask (slice_index self.old.masks place) }
+        ensures ready { IsBox (P.means.question problem.now) self.new }
+        ensures masks { self.new.masks ≡ slice_set self.old.masks place mask }
+    {
+        if has_value(mask, *self.columns.values.get(place as usize)) {
+            self.masks.set(place as usize, mask);
+        } else {
+            self.put(problem, place, mask);
+        }
     }
 }

@@ -25,6 +25,10 @@ pub trait Paths<S> {
     fn count(&self) -> usize
         ensures { result ≡ (means.question self.now).count };
 
+    /// How much room is wanted to find a path.
+    fn room(&self) -> usize
+        ensures { result ≡ (means.question self.now).room };
+
     /// Writes the component's path of least cost whose values are in the sets, with what it costs more to leave each of
     /// them. False comes only where no solution has such values there.
     fn column(&self, component: u16, masks: &[u64], columns: &mut Columns) -> bool

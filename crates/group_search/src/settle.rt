@@ -8,10 +8,10 @@ ghost use Rattle.group_search.specs.Questions.{CostsAtLeast, IsInside, IsWhole, 
 ghost use Rattle.group_search.specs.Works.{IsWork};
 
 use crate::columns::Chosen;
-use crate::find::find;
 use crate::groups::{group_cost, join, join_all, take_paths};
 use crate::marks::{mark, no_marks, unmark};
 use crate::question::Paths;
+use crate::rising::find_rising;
 use crate::store::keep_cut;
 use crate::work::Work;
 use cca_base::{Cube, List};
@@ -45,7 +45,7 @@ pub(crate) fn search_group<P: Paths<S>, S>(
 {
     let floor = group_cost(work.names.as_slice(), Some(group), chosen.costs.as_slice());
     let total = group_cost(work.names.as_slice(), None, chosen.costs.as_slice());
-    let found = find(
+    let found = find_rising(
         alloc,
         problem,
         space,

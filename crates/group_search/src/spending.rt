@@ -5,7 +5,7 @@ ghost use Rattle.std.specs.Prelude.{◌≡◌, ◌≢◌, ◌<◌, ◌≤◌, �
 ghost use Rattle.cca_base.specs.Sets.{has};
 ghost use Rattle.group_search.specs.Bounds.{AllStand, EachPays, IsHeld, LeavesAt, Leaves};
 ghost use Rattle.group_search.specs.Columns.{IsBox};
-ghost use Rattle.group_search.specs.Questions.{CostsAtLeast, cost_in, in_group};
+ghost use Rattle.group_search.specs.Questions.{CostsAtLeast, IsCut, cost_in, in_group};
 ghost use Rattle.group_search.specs.Works.{IsWork, KeepsBox};
 
 use crate::groups::is_in_group;
@@ -13,7 +13,7 @@ use crate::path_box::PathBox;
 use crate::question::Paths;
 use crate::values::without;
 use crate::work::Work;
-use cca_base::{List, Pair};
+use cca_base::{Cube, List, Pair};
 use std::alloc::{AllocError, Global};
 
 /// What cuts have taken from each component, and how many of them name it.
@@ -38,16 +38,18 @@ impl Spending {
         Ok(Spending { spent, named })
     }
 
-    /// Nothing was spent.
-    fn clear(&mut self)
+    /// Nothing was spent at these components.
+    fn clear(&mut self, members: &[u16])
         requires { length self.old.named ≡ length self.old.spent }
-        ensures zeros { (c : ℕ) → slice_index self.new.spent c ≡ 0 }
         ensures spent { length self.new.spent ≡ length self.old.spent }
         ensures named { length self.new.named ≡ length self.old.named }
     {
-        for c in 0..self.spent.len() {
-            self.spent.set(c, 0);
-            self.named.set(c, 0);
+        for c in members {
+            let at = *c as usize;
+            if at < self.spent.len() {
+                self.spent.set(at, 0);
+                self.named.set(at, 0);
+            }
         }
     }
 }
@@ -156,6 +158,32 @@ pub(crate) fn is_held<P: Paths<S>, S>(
     true
 }
 
+/// The pairs of the cut at a place, if the least paths of the group have them.
+pub(crate) fn held_cut<'a, P: Paths<S>, S>(
+    problem: &P,
+    boxed: &PathBox,
+    names: &[u16],
+    group: Option<u16>,
+    cuts: &'a [Cube],
+    at: usize,
+) -> Option<&'a [Pair]>
+    requires ready { IsBox (P.means.question problem.now) boxed.now }
+    requires names { length names.now ≡ (P.means.question problem.now).count }
+    requires cuts { All (IsCut (P.means.question problem.now)) cuts.now }
+    ensures held { IfSome result (λ cut. All (IsHeld (P.means.question problem.now) (in_group names.now group) boxed.now) cut.now) }
+    ensures cut { IfSome result (λ cut. IsCut (P.means.question problem.now) cut.now) }
+{
+    if at >= cuts.len() {
+        return None;
+    }
+    let cut = cuts[at].as_slice();
+    if is_held(problem, boxed, names, group, cut) {
+        Some(cut)
+    } else {
+        None
+    }
+}
+
 /// Spends for each cut that the least paths of the group hold. None comes only where no solution costs less than the limit; else
 /// this is what each costs at least.
 pub(crate) fn spend_all<P: Paths<S>, S>(
@@ -176,19 +204,14 @@ pub(crate) fn spend_all<P: Paths<S>, S>(
         × EachPays (P.means.question problem.now) (in_group work.old.names group) work.old.boxed.masks work.old.boxed.columns.costs
         work.new.spending.spent (total - base)) }
 {
-    work.spending.clear();
+    work.spending.clear(work.focus.members.as_slice());
     let mut total = base;
-    for at in 0..work.cuts.len() {
-        let cut = work.cuts[at].as_slice();
-        if is_held(problem, &work.boxed, work.names.as_slice(), group, cut) {
-            let amount = least_left(
-                problem,
-                &work.boxed,
-                work.names.as_slice(),
-                group,
-                work.spending.spent.as_slice(),
-                cut,
-            )?;
+    for at in 0..work.focus.cuts.len() {
+        let (names, cuts) = (work.names.as_slice(), work.cuts.as_slice());
+        let place = *work.focus.cuts.get(at) as usize;
+        if let Some(cut) = held_cut(problem, &work.boxed, names, group, cuts, place) {
+            let spent = work.spending.spent.as_slice();
+            let amount = least_left(problem, &work.boxed, names, group, spent, cut)?;
             if amount >= limit - total {
                 return None;
             }

@@ -4,6 +4,7 @@ ghost use Rattle.std.specs.Prelude.{◌≡◌, IfOk, length};
 ghost use Rattle.cca_base.specs.Prelude.{numbers_below};
 ghost use Rattle.group_search.specs.Works.{IsWork};
 
+use crate::focus::Focus;
 use crate::path_box::PathBox;
 use crate::question::Paths;
 use crate::spending::Spending;
@@ -18,6 +19,8 @@ pub struct Work {
     pub cuts: Vec<Cube>,
     pub names: List<u16>,
     pub spending: Spending,
+    /// What the search of a group looks at.
+    pub focus: Focus,
 }
 
 impl Work {
@@ -40,6 +43,7 @@ impl Work {
             cuts: Vec::new(alloc),
             names,
             spending,
+            focus: Focus::none(alloc),
         })
     }
 }

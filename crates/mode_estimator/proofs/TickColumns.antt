@@ -89,6 +89,8 @@ pub record IsWritten (c mode cost : ℕ) (price : Option ℕ) (old new : Columns
   pub values : new.values ≡ set old.values c mode
   pub prices : new.prices ≡ set old.prices c price
   pub costs : new.costs ≡ set old.costs c cost
+  pub behind : new.behind ≡ old.behind
+  pub before : new.before ≡ old.before
 
 module _ (t : Tick) (c : ℕ) (within : c < length t.rows.now) where
   abbrev q : Question
@@ -110,6 +112,8 @@ module _ (t : Tick) (c : ℕ) (within : c < length t.rows.now) where
       values = ap length put.values ∙ length-set old.values c mode ∙ shape.values;
       prices = ap length put.prices ∙ length-set old.prices c price ∙ shape.prices;
       costs = ap length put.costs ∙ length-set old.costs c cost ∙ shape.costs;
+      behind = ap length put.behind ∙ shape.behind;
+      before = ap length put.before ∙ shape.before;
     };
     values = λ place inside other. ap (λ l. get_or l place 0) put.values ∙ get_or-set_other old.values c place mode 0 (other_place place other);
     prices = λ place inside other. ap (λ l. get_or l place None) put.prices ∙ get_or-set_other old.prices c place price None (other_place place other);

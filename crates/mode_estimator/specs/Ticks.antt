@@ -27,6 +27,7 @@ abbrev pub tick_of : PlantModel → List (List Choice) → List Pair → Questio
 tick_of m rows seen = record {
   of = numbers_below (length rows);
   count = length rows;
+  room = 0;
   has_cost = λ c modes cost. IsChoice rows c (slice_index modes c) cost;
   solves = IsTick m rows seen;
 }

@@ -109,6 +109,10 @@ impl<'a> Paths<WorldSpace> for Tick<'a> {
         self.rows.len()
     }
 
+    fn room(&self) -> usize {
+        0
+    }
+
     fn column(&self, component: u16, masks: &[u64], columns: &mut Columns) -> bool {
         let at = component as usize;
         let row = self.rows[at].as_slice();

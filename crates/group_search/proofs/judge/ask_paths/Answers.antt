@@ -44,3 +44,7 @@ returns-in-None-clause-work g c =
 pub returns-in-Some-choice-clause-work : goal.returns-in-Some-choice-clause-work
 returns-in-Some-choice-clause-work g c =
     work_keeps (g.P.Paths.means.question c.args.problem.now) c.args.work.now _ c.in-Some.cut c.requires.work refl refl refl (rw c.in-Some.is at c.in_ok-cut.ensures.cut) c.keep_cut.ensures
+
+pub returns-in_err-work-clause-work : goal.returns-in_err-work-clause-work
+returns-in_err-work-clause-work g c =
+    work_keeps (g.P.Paths.means.question c.args.problem.now) c.args.work.now _ c.in-Some.cut c.requires.work refl refl refl (rw c.in-Some.is at c.in_ok-cut.ensures.cut) c.keep_cut.ensures

@@ -35,9 +35,9 @@ pub returns-clause-settled : goal.returns-clause-settled
 returns-clause-settled g c =
     let i = c.loop-chosen.invariant in
     let same = rw c.in_default.is at c.in_ok-other.ensures.same in
-    alone_settled (g.P.Paths.means.question c.args.problem.now) c.loop-chosen.work.boxed.masks c.lower_once.new.work.boxed.masks c.put.new.self.masks c.loop-chosen.work.names
+    alone_settled (g.P.Paths.means.question c.args.problem.now) c.loop-chosen.work.boxed.masks c.lower_once.new.work.boxed.masks c.narrow.new.self.masks c.loop-chosen.work.names
     c.lower_once.new.work.names c.loop-chosen.chosen c.args.place c.args.limit c.get-value.result.now c.only.result i.work.ready.masks c.requires.place i.settled c.get-value.ensures.item
-    (same refl) c.put.ensures.masks i.work.names c.lower_once.ensures.joined c.only.ensures.has c.only.ensures.alone
+    (same refl) c.narrow.ensures.masks i.work.names c.lower_once.ensures.joined c.only.ensures.has c.only.ensures.alone
 
 pub returns-clause-lowest : goal.returns-clause-lowest
 returns-clause-lowest g c =
@@ -49,9 +49,9 @@ pub returns-clause-masks : goal.returns-clause-masks
 returns-clause-masks g c =
     let i = c.loop-chosen.invariant in
     let same = rw c.in_default.is at c.in_ok-other.ensures.same in
-    alone_put (g.P.Paths.means.question c.args.problem.now) c.loop-chosen.work.boxed.masks c.lower_once.new.work.boxed.masks c.put.new.self.masks c.loop-chosen.work.names
+    alone_put (g.P.Paths.means.question c.args.problem.now) c.loop-chosen.work.boxed.masks c.lower_once.new.work.boxed.masks c.narrow.new.self.masks c.loop-chosen.work.names
     c.lower_once.new.work.names c.loop-chosen.chosen c.args.place c.args.limit c.get-value.result.now c.only.result i.work.ready.masks c.requires.place i.settled c.get-value.ensures.item
-    (same refl) c.put.ensures.masks c.args.work.now.boxed.masks c.requires.work.ready.masks i.lowering c.only.ensures.word
+    (same refl) c.narrow.ensures.masks c.args.work.now.boxed.masks c.requires.work.ready.masks i.lowering c.only.ensures.word
 
 pub returns-clause-inside : goal.returns-clause-inside
 returns-clause-inside g c =

@@ -16,8 +16,8 @@ overflow_sub-total g c =
     let all = cost_said c.group_cost-total.result q.count names costs c.as_slice-3.result.now c.as_slice-4.result.now None c.group_cost-total.ensures.cost c.as_slice-3.ensures c.as_slice-4.ensures c.requires.work.names in
     omega (arith, own, all, parts q.count names c.args.group costs)
 
-pub find-requires-clause-floor : goal.find-requires-clause-floor
-find-requires-clause-floor g c =
+pub find_rising-requires-clause-floor : goal.find_rising-requires-clause-floor
+find_rising-requires-clause-floor g c =
     let q = g.P.Paths.means.question c.args.problem.now in
     let names = c.args.work.now.names in
     let costs = c.args.chosen.now.costs in
@@ -55,7 +55,7 @@ returns-clause-found g c = λ yes.
     let less = subst (λ o. IfSome o (λ x. cost_in q.count (in_group names (Some c.args.group)) x.costs < c.args.limit - (total - floor))) c.in-Some.is c.in_ok-found.ensures.less in
     let low = subst (λ o. IfSome o (λ x. (cost_in q.count (in_group names (Some c.args.group)) x.costs ≤ floor) ⊎ CostsAtLeast q (in_group names (Some c.args.group)) masks (cost_in q.count (in_group names (Some c.args.group)) x.costs))) c.in-Some.is c.in_ok-found.ensures.least in
     let taken : IsTaken q.of names (Some c.args.group) found old new =
-    subst (λ l. IsTaken q.of l (Some c.args.group) found old new) (c.as_slice-5.ensures ∙ c.find.ensures.names) (subst (λ of. IsTaken of c.as_slice-5.result.now (Some c.args.group) found old new) c.components.ensures c.take_paths.ensures) in
+    subst (λ l. IsTaken q.of l (Some c.args.group) found old new) (c.as_slice-5.ensures ∙ c.find_rising.ensures.names) (subst (λ of. IsTaken of c.as_slice-5.result.now (Some c.args.group) found old new) c.components.ensures c.take_paths.ensures) in
     taken_floored q masks names c.args.group c.args.limit total floor found old new c.requires.work.names (g.met.P.Paths.own_places c.args.problem.now) taken find c.requires.floors c.requires.inside all own less low
 
 pub returns-clause-whole : goal.returns-clause-whole
@@ -68,5 +68,5 @@ returns-clause-whole g c = λ yes whole.
     let new = c.take_paths.new.chosen in
     let find = subst (λ o. IfSome o (IsFind q names (Some c.args.group) masks)) c.in-Some.is c.in_ok-found.ensures.find in
     let taken : IsTaken q.of names (Some c.args.group) found old new =
-    subst (λ l. IsTaken q.of l (Some c.args.group) found old new) (c.as_slice-5.ensures ∙ c.find.ensures.names) (subst (λ of. IsTaken of c.as_slice-5.result.now (Some c.args.group) found old new) c.components.ensures c.take_paths.ensures) in
+    subst (λ l. IsTaken q.of l (Some c.args.group) found old new) (c.as_slice-5.ensures ∙ c.find_rising.ensures.names) (subst (λ of. IsTaken of c.as_slice-5.result.now (Some c.args.group) found old new) c.components.ensures c.take_paths.ensures) in
     taken_solves q names (Some c.args.group) found old new taken c.requires.work.names (g.met.P.Paths.owned c.args.problem.now) whole find.paths c.requires.floors.paths (find.whole whole)

@@ -1,9 +1,8 @@
-use Rattle.std.proofs.Common.{◌≡◌, ◌<◌, ℕ, length, slice_index}
+use Rattle.std.proofs.Common.{◌≡◌, length}
 use Rattle.group_search.proofs.spending.Spending.clear.Given as goal
 
 abbrev pub invariant-loop-c : goal.invariant-loop-c
 invariant-loop-c l = record {
   spent : length l.self.spent ≡ length l.fn.self.spent;
   named : length l.self.named ≡ length l.fn.self.named;
-  zeros : (k : ℕ) → k < l.c → slice_index l.self.spent k ≡ 0;
 }

@@ -1,4 +1,4 @@
-use Rattle.std.proofs.Common.{◌∙◌, ℕ, List, Some, length, get_or, sym, ap, subst, arith}
+use Rattle.std.proofs.Common.{◌∙◌, refl, ℕ, List, Some, length, get_or, sym, ap, subst, arith}
 use Rattle.cca_base.specs.Choices.{IsRow}
 use Rattle.cca_base.specs.declared.choice.Choice.{Choice}
 use Rattle.cca_base.proofs.PathLaws.{length-numbers}
@@ -20,8 +20,8 @@ pub returns-clause-others : goal.returns-clause-others
 returns-clause-others c =
     let x : Choice = get_or c.as_slice-row.result.now c.in-Some.first nothing in
     keeps_others c.args.self.now c.args.component c.requires.component x.mode x.cost c.match-next_in-2.price c.args.columns.now
-    (record { values = c.set.new.self; prices = c.set-2.new.self; costs = c.set-3.new.self }) c.requires.shape
-    (record { values = c.set.ensures; prices = c.set-2.ensures; costs = c.set-3.ensures })
+    (record { values = c.set.new.self; prices = c.set-2.new.self; costs = c.set-3.new.self; behind = c.args.columns.now.behind; before = c.args.columns.now.before }) c.requires.shape
+    (record { values = c.set.ensures; prices = c.set-2.ensures; costs = c.set-3.ensures; behind = refl; before = refl })
 
 pub returns-clause-stands : goal.returns-clause-stands
 returns-clause-stands c = λ e.
@@ -36,5 +36,5 @@ returns-clause-stands c = λ e.
           subst (PaysOther row mask first) (sym (w.price-is ∙ ap Some w.saturating_sub.ensures)) (other_pays row mask first is found.3 w.in-Some-next_in.next next.3 next.0 next.1)
     ] in
     is_column c.args.self.now c.args.component c.requires.component c.args.masks.now c.index-self-at.result row c.as_slice-row.ensures first c.match-next_in-2.price c.args.columns.now
-    (record { values = c.set.new.self; prices = c.set-2.new.self; costs = c.set-3.new.self }) c.requires.shape
-    (record { values = c.set.ensures; prices = c.set-2.ensures; costs = c.set-3.ensures }) found pays
+    (record { values = c.set.new.self; prices = c.set-2.new.self; costs = c.set-3.new.self; behind = c.args.columns.now.behind; before = c.args.columns.now.before }) c.requires.shape
+    (record { values = c.set.ensures; prices = c.set-2.ensures; costs = c.set-3.ensures; behind = refl; before = refl }) found pays

@@ -1,0 +1,63 @@
+//! The search of a group by limits that rise from its floor (iterative deepening): boxes far above the least cost are never asked for.
+
+ghost use Rattle.std.specs.Prelude.{◌≡◌, ◌⊎◌, ◌<◌, ◌≤◌, IfOk, IfSome, IsNone};
+ghost use Rattle.group_search.specs.Questions.{CostsAtLeast, cost_in, in_group};
+ghost use Rattle.group_search.specs.Searches.{IsFind};
+ghost use Rattle.group_search.specs.Works.{IsWork};
+
+use crate::columns::Chosen;
+use crate::find::find;
+use crate::question::Paths;
+use crate::work::Work;
+use std::alloc::{AllocError, Global};
+
+/// The limit behind one that was too low, twice as far above the floor, up to the last one.
+fn next_limit(floor: u64, low: u64, limit: u64) -> u64
+    requires floor { floor ≤ low }
+    requires low { low < limit }
+    ensures more { low < result }
+    ensures within { result ≤ limit }
+{
+    limit.min(low.saturating_add(low - floor).saturating_add(1))
+}
+
+/// The same as `find`, by limits that rise.
+pub(crate) fn find_rising<P: Paths<S>, S>(
+    alloc: Global,
+    problem: &P,
+    space: &mut S,
+    work: &mut Work,
+    group: Option<u16>,
+    floor: u64,
+    limit: u64,
+) -> Result<Option<Chosen>, AllocError>
+    requires space { P.means.is_space problem.now space.old }
+    requires work { IsWork (P.means.question problem.now) work.old }
+    requires floor { floor < limit }
+    ensures space { P.means.is_space problem.now space.new }
+    ensures work { IsWork (P.means.question problem.now) work.new }
+    ensures names { work.new.names ≡ work.old.names }
+    ensures masks { IfOk result (λ o. work.new.boxed.masks ≡ work.old.boxed.masks) }
+    ensures find { IfOk result (λ o.
+        IfSome o (IsFind (P.means.question problem.now) work.old.names group work.old.boxed.masks)) }
+    ensures less { IfOk result (λ o.
+        IfSome o (λ x. cost_in (P.means.question problem.now).count (in_group work.old.names group) x.costs < limit)) }
+    ensures least { IfOk result (λ o. IfSome o (λ x.
+        (cost_in (P.means.question problem.now).count (in_group work.old.names group) x.costs ≤ floor)
+        ⊎ CostsAtLeast (P.means.question problem.now) (in_group work.old.names group) work.old.boxed.masks
+        (cost_in (P.means.question problem.now).count (in_group work.old.names group) x.costs))) }
+    ensures none { IfOk result (λ o. IsNone o →
+        CostsAtLeast (P.means.question problem.now) (in_group work.old.names group) work.old.boxed.masks limit) }
+{
+    let mut low = floor;
+    'limits: loop {
+        let next = next_limit(floor, low, limit);
+        if let Some(found) = find(alloc, problem, space, work, group, floor, next)? {
+            return Ok(Some(found));
+        }
+        if next == limit {
+            return Ok(None);
+        }
+        low = next;
+    }
+}
