@@ -11,8 +11,7 @@ use Rattle.cca_base.specs.PlantModel.{PlantModel}
 use Rattle.cca_base.specs.declared.model.Component.{Component}
 use Rattle.cca_base.specs.State.{IsState}
 use Rattle.successors.specs.Choices.{AreAllLeast, AreLeast}
-use Rattle.trajectory_estimator.specs.Changes.{AreChangesOf, HasChanges}
-use Rattle.trajectory_estimator.specs.Columns.{AreNear}
+use Rattle.trajectory_estimator.specs.Changes.{AreChangesOf, AreNear, HasChanges}
 
 -- what failures cost from the modes below a bound, mode by mode
 pub record HaveBelow (m : PlantModel) (rows : List (List (List (Option ℕ)))) (bound : ℕ) : Type 0 where

@@ -1,128 +1,74 @@
--- One component's best modes, from the first record on.
-use Rattle.std.proofs.Common.{◌≡◌, ℕ, ◌+◌, ◌-◌, ◌<◌, ◌≤◌, Bool, List, [], ◌∷◌, ◌++◌, length, map, slice_get, slice_index, slice_index_or, All, Option, Some, None, IfSome, IsNone, IfOk, Result, refl, sym, ap, subst, ◌∙◌, arith}
-use Rattle.std.proofs.lemmas.List.{append_assoc, append-nil}
-use Rattle.std.proofs.lemmas.Option.{slice_get-get_or}
-use Rattle.std.proofs.lemmas.Result.{IfOk-weaker}
-use Rattle.cca_base.specs.Model.{HasMode, WellFormed}
-use Rattle.cca_base.specs.Relations.{numbers_below}
+-- A component's least walk inside the sets, as its column.
+use Rattle.std.proofs.Common.{◌≡◌, ℕ, ◌≤◌, true, List, length, slice_index, slice_index_or, Option, None, sym, ap, subst, ◌∙◌, inl, inr, arith}
+use Rattle.std.proofs.lemmas.Bool.{eq-eqb}
+use Rattle.cca_base.specs.Sets.{has}
+use Rattle.group_search.specs.Columns.{CostsMore, IsColumn, NoColumn, itself}
+use Rattle.group_search.specs.Questions.{IsInside, IsSolution}
+use Rattle.group_search.specs.declared.columns.Columns.{Columns}
 use Rattle.trajectory_estimator.specs.Asked.{Asked}
-use Rattle.trajectory_estimator.specs.Boxes.{IsColumn, NoColumn}
-use Rattle.trajectory_estimator.specs.Limits.{can_be, may_stand}
-use Rattle.trajectory_estimator.specs.Columns.{AreAllLandings, AreLandings, IsBestColumn, IsBestRest, LeadsTo, LeaveTheSame, NoBest, StepsOn, may_take, with_step}
-use Rattle.trajectory_estimator.specs.declared.column.Column.{Column}
-use Rattle.trajectory_estimator.specs.declared.limit.Limit.{Limit}
-use Rattle.trajectory_estimator.specs.declared.step.Landing.{Landing}
-use Rattle.trajectory_estimator.specs.declared.step.Step.{Step}
-use Rattle.trajectory_estimator.proofs.Rests.{may_from, path_modes, rest_end, takes, within_by}
-use Rattle.window_laws.specs.Columns.{IsWithin, Path, Priced}
+use Rattle.trajectory_estimator.specs.PlaceLaws.{IsOwnPlace, gate_own, length-places, mode_own, own_places}
+use Rattle.trajectory_estimator.specs.Rests.{AreInside, ArePricedTo, AreRests, IsFollowed, KeepsPrices, NoWalk, whole_cost}
+use Rattle.trajectory_estimator.specs.Walks.{IsWalk, gate_place, mode_place}
+use Rattle.trajectory_estimator.specs.Windows.{window_of}
+use Rattle.trajectory_estimator.specs.declared.component_query.ComponentQuery.{ComponentQuery}
+use Rattle.trajectory_estimator.specs.declared.record.TheConstants.{MAX_WINDOW}
 
-module _ (q : Asked) (c : ℕ) (limits : List Limit) where
-  abbrev from : ℕ
-  from = slice_index q.anchor c
+module _ (x : ComponentQuery) where
+  abbrev q : Asked
+  q = x.query.now
 
-  -- these are the best modes, with these gates
-  abbrev Whole : List Bool → Priced → Type 0
-  Whole gates x = (all : IsBestRest q c limits 0 from x) × (all.gates ≡ gates)
+  abbrev c : ℕ
+  c = x.component
 
-  pub leads_none : (x : Column) → HasMode q.model c from → x.modes ≡ [] → x.gates ≡ [] → x.cost ≡ 0 → LeadsTo q c limits 0 from x
-  leads_none x own modes gates cost = record {
-    own = own;
-    joins = λ rest its. (
-        let same : rest ≡ record { modes = x.modes ++ rest.modes; cost = x.cost + rest.cost } =
-        (λ d. record { modes = ap (λ l. l ++ rest.modes) (sym modes) d; cost = whole rest d }) in
-        subst (λ g. Whole (g ++ its.gates) (record { modes = x.modes ++ rest.modes; cost = x.cost + rest.cost })) (sym gates) (subst (Whole its.gates) same (its, refl)));
-    none = λ h. h;
-  }
-    where
-      whole : (rest : Priced) → rest.cost ≡ x.cost + rest.cost
-      whole rest = omega (arith, cost)
+  -- a solution inside has a walk inside
+  walk_inside : (values costs : List ℕ) → IsSolution (window_of q) (itself c) x.masks.now values costs → (own : ℕ → ℕ) × AreInside x values own × (slice_index costs c ≡ whole_cost x own)
+  walk_inside values costs h =
+      let walk : IsWalk q c values (slice_index costs c) = h.solves.walks c x.within in
+      let stands : (place : ℕ) → IsOwnPlace q c place → has (slice_index x.masks.now place) (slice_index values place) ≡ true =
+      λ place own. h.inside place (omega (arith, own.within, length-places q)) (eq-eqb (slice_index (window_of q).of place) c own.own) in
+      let inside : AreInside x values walk.own = record {
+        steps = walk.steps;
+        modes = λ at below. stands (mode_place q c at) (mode_own q c at x.within below);
+        gates = λ at below. stands (gate_place q c at) (gate_own q c at x.within below);
+      } in
+      (walk.own, inside, walk.total)
 
-  pub leads_more : (at mode : ℕ) (x : Column) (s : Step) → LeadsTo q c limits at mode x → StepsOn q c limits at mode s → LeadsTo q c limits (at + 1) s.to (with_step x s)
-  leads_more at mode x s h step = record {
-    own = step.mode;
-    joins = λ rest its.
-        let behind = step.joins rest its in
-        let all = h.joins (record { modes = s.to ∷ rest.modes; cost = s.own + rest.cost }) behind.0 in
-        let modes : x.modes ++ (s.to ∷ rest.modes) ≡ x.modes ++ s.to ∷ [] ++ rest.modes = sym (append_assoc x.modes (s.to ∷ []) rest.modes) in
-        let cost : x.cost + (s.own + rest.cost) ≡ x.cost + s.own + rest.cost = omega arith in
-        let gates : x.gates ++ behind.0.gates ≡ x.gates ++ s.gate ∷ [] ++ its.gates = ap (λ g. x.gates ++ g) behind.1 ∙ sym (append_assoc x.gates (s.gate ∷ []) its.gates) in
-        subst (Whole (x.gates ++ s.gate ∷ [] ++ its.gates)) (λ d. record { modes = modes d; cost = cost d }) (all.0, all.1 ∙ gates);
-    none = λ h. absurd (h step.best.gates step.rest.modes step.rest.cost step.best.path step.best.within);
-  }
+  pub no_column : (room : List (Option ℕ)) → AreRests x room → NoWalk x → NoColumn (window_of q) x.masks.now c
+  no_column room rests none values costs h =
+      let walk = walk_inside values costs h in
+      none values walk.0 walk.1
 
-  -- the table of a record, of those from the last one to the first
-  pub table_at : (tables : List (List Landing)) (at place : ℕ) (landings : List Landing) → AreAllLandings q c limits tables → at < length tables → place ≡ length tables - 1 - at
-      → landings ≡ slice_index_or tables place landings → AreLandings q c limits at landings
-  table_at tables at place landings h inside spot is =
-      let within : place < length tables = omega (arith, spot, inside) in
-      let there : slice_get tables place ≡ Some landings = slice_get-get_or tables place landings within ∙ ap Some (sym is) in
-      let back : length q.records - 1 - place ≡ at = omega (arith, spot, inside, h.full) in
-      subst (λ n. AreLandings q c limits n landings) back (h.each place landings there)
+  module _ (old walked given new : Columns) (followed : IsFollowed x old walked) (same_values : given.values ≡ walked.values) (same_costs : given.costs ≡ walked.costs)
+      (kept : KeepsPrices x given new) (priced : ArePricedTo x (length q.records) new) where
+    all_values : new.values ≡ walked.values
+    all_values = kept.values ∙ same_values
 
-  pub leads_all : (at mode : ℕ) (x : Column) → length q.records ≤ at → LeadsTo q c limits at mode x → IsBestColumn q c limits x
-  leads_all at mode x past h =
-      let nothing = rest_end q c limits at mode past in
-      let all = h.joins (record { modes = []; cost = 0 }) nothing.0 in
-      let modes : x.modes ++ [] ≡ x.modes = append-nil x.modes in
-      let cost : x.cost + 0 ≡ x.cost = omega arith in
-      let gates : x.gates ++ nothing.0.gates ≡ x.gates = ap (λ g. x.gates ++ g) nothing.1 ∙ append-nil x.gates in
-      let whole = subst (Whole x.gates) (λ d. record { modes = modes d; cost = cost d }) (all.0, all.1 ∙ gates) in
-      record { best = whole.0; gates = whole.1 }
+    costs_same : slice_index new.costs c ≡ slice_index walked.costs c
+    costs_same = ap (λ l. slice_index l c) (kept.costs ∙ same_costs)
 
--- what holds of a column that is there
-some_weaker : (P Q : Column → Type 0) → ((x : Column) → P x → Q x) → (o : Option Column) → IfSome o P → IfSome o Q
-some_weaker P Q f None h = tt
-some_weaker P Q f (Some x) h = f x h
+    -- a solution that leaves a value of the walk pays its price
+    pays : (place : ℕ) (values costs : List ℕ) → IsOwnPlace q c place → IsSolution (window_of q) (itself c) x.masks.now values costs → (slice_index values place ≡ slice_index new.values place → ⊥)
+        → CostsMore (slice_index_or new.prices place None) (slice_index new.costs c) (slice_index costs c)
+    pays place values costs own h differs =
+        let walk = walk_inside values costs h in
+        let found = own_places q c place own in
+        let at : ℕ = found.0 in
+        subst (CostsMore (slice_index_or new.prices place None) (slice_index new.costs c)) (sym walk.2) (elim found.2 [
+          | inl e ↦
+              subst (λ k. CostsMore (slice_index_or new.prices k None) (slice_index new.costs c) (whole_cost x walk.0)) (sym e)
+              ((priced values walk.0 walk.1 at found.1).0 (λ s. differs (ap (slice_index values) e ∙ s ∙ sym (ap (slice_index new.values) e))))
+          | inr e ↦
+              subst (λ k. CostsMore (slice_index_or new.prices k None) (slice_index new.costs c) (whole_cost x walk.0)) (sym e)
+              ((priced values walk.0 walk.1 at found.1).1 (λ s. differs (ap (slice_index values) e ∙ s ∙ sym (ap (slice_index new.values) e))))
+        ])
 
--- ---- the limits that bear on a component
-
-module _ (q : Asked) (fits : WellFormed q.model) (c : ℕ) (limits : List Limit) {own_limits kept : List Limit} (read : kept ≡ own_limits) (bears : LeaveTheSame c limits own_limits)
-    (own : HasMode q.model c (slice_index q.anchor c)) where
-  same : LeaveTheSame c limits kept
-  same = subst (LeaveTheSame c limits) (sym read) bears
-
-  abbrev places : List ℕ
-  places = numbers_below (length q.records)
-
-  to_kept : (gates : List Bool) (modes : List ℕ) (cost : ℕ) → Path q.model c (slice_index q.anchor c) q.records gates modes cost
-      → IsWithin (map (may_stand limits c) places) (map (can_be limits) places) modes gates → IsWithin (map (may_take q.model c kept) places) (map (can_be kept) places) modes gates
-  to_kept gates modes cost path =
-      within_by (HasMode q.model c) (may_stand limits c) (may_take q.model c kept) (can_be limits) (can_be kept)
-      (λ at x mode may. may_from q.model c kept at x mode (same.modes at x ∙ may)) (λ at b can. same.gates at b ∙ can)
-      places modes gates (path_modes q.model fits c (slice_index q.anchor c) q.records gates modes cost own path)
-
-  of_kept : (gates : List Bool) (modes : List ℕ) (cost : ℕ) → Path q.model c (slice_index q.anchor c) q.records gates modes cost
-      → IsWithin (map (may_take q.model c kept) places) (map (can_be kept) places) modes gates → IsWithin (map (may_stand limits c) places) (map (can_be limits) places) modes gates
-  of_kept gates modes cost path =
-      within_by (HasMode q.model c) (may_take q.model c kept) (may_stand limits c) (can_be kept) (can_be limits)
-      (λ at x mode may. sym (same.modes at x) ∙ (takes q.model c kept at x may).1) (λ at b can. sym (same.gates at b) ∙ can)
-      places modes gates (path_modes q.model fits c (slice_index q.anchor c) q.records gates modes cost own path)
-
-  -- the best modes within the limits that bear on a component are those within all
-  column_is : (x : Column) → IsBestColumn q c kept x → IsColumn q c limits x
-  column_is x h = record {
-    least = record {
-      gates = h.best.gates;
-      path = h.best.path;
-      within = of_kept h.best.gates x.modes x.cost h.best.path h.best.within;
-      least = λ others modes more path within. h.best.least others modes more path (to_kept others modes more path within);
-    };
-    gates = h.gates;
-  }
-
-  column_modes : (x : Column) → IsBestColumn q c kept x → All (HasMode q.model c) x.modes
-  column_modes x h = path_modes q.model fits c (slice_index q.anchor c) q.records h.best.gates x.modes x.cost own h.best.path
-
-  column_none : NoBest q c kept → NoColumn q c limits
-  column_none none gates modes cost path within = none gates modes cost path (to_kept gates modes cost path within)
-
-  -- so the answer within those limits is one within all
-  pub some_column : {E : Type 0} (r : Result (Option Column) E) → IfOk r (λ o. IfSome o (IsBestColumn q c kept)) → IfOk r (λ o. IfSome o (IsColumn q c limits))
-  some_column r = IfOk-weaker r (λ o. IfSome o (IsBestColumn q c kept)) (λ o. IfSome o (IsColumn q c limits)) (some_weaker (IsBestColumn q c kept) (IsColumn q c limits) column_is)
-
-  pub modes_column : {E : Type 0} (r : Result (Option Column) E) → IfOk r (λ o. IfSome o (IsBestColumn q c kept)) → IfOk r (λ o. IfSome o (λ x. All (HasMode q.model c) x.modes))
-  modes_column r = IfOk-weaker r (λ o. IfSome o (IsBestColumn q c kept)) (λ o. IfSome o (λ x. All (HasMode q.model c) x.modes))
-      (some_weaker (IsBestColumn q c kept) (λ x. All (HasMode q.model c) x.modes) column_modes)
-
-  pub no_column : {E : Type 0} (r : Result (Option Column) E) → IfOk r (λ o. IsNone o → NoBest q c kept) → IfOk r (λ o. IsNone o → NoColumn q c limits)
-  no_column r = IfOk-weaker r (λ o. IsNone o → NoBest q c kept) (λ o. IsNone o → NoColumn q c limits) (λ o h none. column_none (h none))
+    pub is_column : length q.records ≤ MAX_WINDOW → IsColumn (window_of q) x.masks.now c new
+    is_column few = record {
+      inside = subst (IsInside (window_of q) (itself c) x.masks.now) (sym all_values) followed.inside;
+      cost = subst (λ l. IsWalk q c l (slice_index new.costs c)) (sym all_values) (subst (IsWalk q c walked.values) (sym costs_same) followed.walk);
+      cheap = omega (arith, costs_same, followed.cheap, few);
+      least = λ values costs h.
+          let walk = walk_inside values costs h in
+          omega (arith, costs_same, followed.least values walk.0 walk.1, walk.2);
+      more = λ place values costs within at h differs. pays place values costs (record { within = omega (arith, within, length-places q); own = at }) h differs;
+    }

@@ -6,7 +6,7 @@ use Rattle.cca_base.specs.declared.model.Move.{Move}
 use Rattle.cca_base.specs.MoveIndex.{IsMoveBy}
 use Rattle.cca_base.specs.PlantModel.{PlantModel}
 use Rattle.cca_base.specs.Relations.{AreExactly}
-use Rattle.trajectory_estimator.specs.Columns.{IsOwnTarget, NoOwn}
+use Rattle.trajectory_estimator.specs.Steps.{IsOwnTarget, NoOwn}
 
 -- none of the first moves of a row is of the component and leaves the mode
 abbrev pub NoneOf : PlantModel → ℕ → ℕ → List ℕ → ℕ → Type 0

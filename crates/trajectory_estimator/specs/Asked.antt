@@ -1,8 +1,7 @@
 -- What is asked of a window, and what is answered.
-use Rattle.std.specs.Prelude.{◌≡◌, ℕ, List, map, All, Contains, Option, Some, None}
+use Rattle.std.specs.Prelude.{ℕ, List, map, All, Option, Some, None}
 use Rattle.cca_base.specs.PlantModel.{PlantModel}
 use Rattle.cca_base.specs.State.{HasValue}
-use Rattle.cca_base.specs.declared.model.Move.{Move}
 use Rattle.cca_base.specs.declared.state.State.{State}
 use Rattle.clause_form.specs.declared.clause.Clauses.{Clauses}
 use Rattle.trajectory_estimator.specs.declared.record.Record.{Record}
@@ -32,7 +31,3 @@ modes_of states = map (λ s. s.modes) states
 abbrev pub IsBestOf : PlantModel → List ℕ → List Entry → Option Trajectory → Type 0
 IsBestOf m anchor records None = NoTrajectory m anchor records
 IsBestOf m anchor records (Some t) = Best m anchor records (modes_of t.states) t.cost
-
--- a move of the component has the command
-abbrev pub IsCommandOf : PlantModel → Option ℕ → ℕ → Type 0
-IsCommandOf m command c = (move : Move) × Contains m.moves move × (command ≡ Some move.command) × (move.component ≡ c)

@@ -1,8 +1,13 @@
 -- What failures cost from each mode.
-use Rattle.std.specs.Prelude.{◌≡◌, ◌<◌, ℕ, List, [], length, Option, slice_index, slice_index_or}
+use Rattle.std.specs.Prelude.{◌≡◌, ◌<◌, ℕ, List, [], length, map, min, ◌-◌, Option, slice_index, slice_index_or}
 use Rattle.cca_base.specs.Model.{HasMode, mode_counts}
 use Rattle.cca_base.specs.PlantModel.{PlantModel}
+use Rattle.cca_base.specs.declared.model.Component.{Component}
 use Rattle.successors.specs.Choices.{AreLeast}
+
+-- each component in the mode of this number, or in its last one where it has fewer
+abbrev pub AreNear : List Component → ℕ → List ℕ → Type 0
+AreNear components mode modes = modes ≡ map (λ x. min mode (length x.modes - 1)) components
 
 -- what stands at a mode and a component
 abbrev pub row_at : List (List (List (Option ℕ))) → ℕ → ℕ → List (Option ℕ)

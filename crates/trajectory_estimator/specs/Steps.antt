@@ -1,61 +1,65 @@
--- Steps of a component at a record, and the least of them.
-use Rattle.std.specs.Prelude.{◌≡◌, ◌≢◌, ◌⊎◌, ◌<◌, ◌≤◌, ◌+◌, ◌*◌, ℕ, Bool, true, false, List, Option, Some, None, IfSome, slice_get, slice_index_or}
+-- Steps of a component from one mode at a record, and the least of them.
+use Rattle.std.specs.Prelude.{◌≡◌, ◌<◌, ◌≤◌, ◌+◌, ℕ, true, List, length, Option, Some, None, slice_index, slice_index_or}
+use Rattle.cca_base.specs.Model.{HasMode, WellFormed, mode_counts}
+use Rattle.cca_base.specs.PlantModel.{PlantModel}
+use Rattle.cca_base.specs.Sets.{has}
 use Rattle.cca_base.specs.declared.limits.TheConstants.{MAX_COST}
-use Rattle.trajectory_estimator.specs.declared.record.TheConstants.{MAX_WINDOW}
-use Rattle.trajectory_estimator.specs.declared.step.Landing.{Landing}
+use Rattle.cca_base.specs.declared.model.Move.{Move}
+use Rattle.successors.specs.Choices.{AreLeast}
+use Rattle.trajectory_estimator.specs.Asked.{Asked}
+use Rattle.trajectory_estimator.specs.Walks.{StepBy, record_at}
+use Rattle.trajectory_estimator.specs.declared.leaving.Leaving.{Leaving}
+use Rattle.trajectory_estimator.specs.declared.step.Ahead.{Ahead}
 use Rattle.trajectory_estimator.specs.declared.step.Step.{Step}
-use Rattle.trajectory_estimator.specs.declared.step.Targets.{Targets}
+use Rattle.window_laws.specs.Columns.{IsOwn, Sends}
 
--- where the gate sends the component, if it may be so
-abbrev pub target_by : Targets → Bool → Option ℕ
-target_by x false = x.shut
-target_by x true = x.open
+-- ---- own moves
 
--- what the change to a mode costs itself, where it is sent to a target, and failures to the mode cost this
-abbrev pub IsOwnCost : Option ℕ → ℕ → Option ℕ → ℕ → Type 0
-IsOwnCost target to failure own = (nominal : ℕ) × (target ≡ Some nominal) × (((to ≡ nominal) × (own ≡ 0)) ⊎ ((to ≢ nominal) × (failure ≡ Some own)))
+-- an own move of the component by the command leads from the mode to this one
+abbrev pub IsOwnTarget : PlantModel → ℕ → Option ℕ → ℕ → ℕ → Type 0
+IsOwnTarget m c k from to = (move : Move) × IsOwn m c k from move × (to ≡ move.target)
 
--- a step to the mode by a gate, at its own cost, and what comes behind it
-pub record IsStep (x : Targets) (to : ℕ) (failure : Option ℕ) (landing : Landing) (gate : Bool) (own rest : ℕ) : Type 0 where
-  pub may : landing.may ≡ true
-  pub costs : IsOwnCost (target_by x gate) to failure own
-  pub behind : landing.rest ≡ Some rest
+-- there is no such move
+abbrev pub NoOwn : PlantModel → ℕ → Option ℕ → ℕ → Type 0
+NoOwn m c k from = (move : Move) → IsOwn m c k from move → ⊥
 
--- the step by this gate to this mode, at these costs, where they are known
-abbrev pub IsStepBy : Bool → ℕ → Option ℕ → Option ℕ → Bool → ℕ → ℕ → ℕ → Type 0
-IsStepBy gate to own rest is mode cost behind = (is ≡ gate) × (mode ≡ to) × (own ≡ Some cost) × (rest ≡ Some behind)
+-- ---- what steps cost
 
--- a step to this mode
-abbrev pub IsStepTo : Targets → ℕ → Option ℕ → Landing → Bool → ℕ → ℕ → ℕ → Type 0
-IsStepTo x to failure landing gate mode own rest = (mode ≡ to) × IsStep x to failure landing gate own rest
+-- where an open gate sends the component from its mode at a record, and what its failures from there cost at least, mode by mode
+pub record IsLeaving (q : Asked) (c at : ℕ) (l : Leaving) : Type 0 where
+  pub model : WellFormed q.model
+  pub mode : HasMode q.model c l.from
+  pub sends : Sends q.model c (record_at q at).command true l.from l.open
+  pub full : length l.failures.now ≡ slice_index (mode_counts q.model) c
+  pub least : AreLeast q.model.failures c l.from l.failures.now
 
--- a step to one of these modes, by the costs of failures to each of them
-abbrev pub IsStepIn : Targets → List (Option ℕ) → List Landing → Bool → ℕ → ℕ → ℕ → Type 0
-IsStepIn x failures landings gate to own rest = (landing : Landing) × (slice_get landings to ≡ Some landing) × IsStep x to (slice_index_or failures to None) landing gate own rest
+-- what the step by this value costs, or that there is none
+abbrev pub IsStepCost : Asked → ℕ → ℕ → ℕ → ℕ → ℕ → Option ℕ → Type 0
+IsStepCost q c at value from to None = (own : ℕ) → StepBy q c at value from to own → ⊥
+IsStepCost q c at value from to (Some own) = StepBy q c at value from to own × (own ≤ MAX_COST)
 
--- the step comes no later than one to this mode at this cost with all that comes behind
-abbrev pub ComesFirst : Step → ℕ → ℕ → Type 0
-ComesFirst s to total = (s.total < total) ⊎ ((s.total ≡ total) × (s.to ≤ to))
-
--- one of these steps, at its whole cost; none of them comes before it, and by an open gate only where the shut one costs more
-pub record IsLeastStep (Steps : Bool → ℕ → ℕ → ℕ → Type 0) (s : Step) : Type 0 where
+-- a step from the mode to one of the modes, by one of the gates, with what comes behind it
+pub record IsStep (q : Asked) (c at from : ℕ) (ahead : Ahead) (s : Step) : Type 0 where
+  pub to : has ahead.modes s.to ≡ true
+  pub gate : has ahead.gates s.gate ≡ true
+  pub costs : StepBy q c at s.gate from s.to s.own
   pub rest : ℕ
-  pub step : Steps s.gate s.to s.own rest
+  pub behind : slice_index_or ahead.rests.now s.to None ≡ Some rest
   pub total : s.total ≡ s.own + rest
-  pub first : (gate : Bool) (to own more : ℕ) → Steps gate to own more → ComesFirst s to (own + more)
-  pub shut : s.gate ≡ true → (own more : ℕ) → Steps false s.to own more → s.total < own + more
 
 -- the least of these steps, or that there are none
-abbrev pub IsLeastOf : (Bool → ℕ → ℕ → ℕ → Type 0) → Option Step → Type 0
-IsLeastOf Steps None = (gate : Bool) (to own rest : ℕ) → Steps gate to own rest → ⊥
-IsLeastOf Steps (Some s) = IsLeastStep Steps s
+abbrev pub IsLeastOf : (Step → Type 0) → Option Step → Type 0
+IsLeastOf Steps None = (s : Step) → Steps s → ⊥
+IsLeastOf Steps (Some s) = Steps s × ((t : Step) → Steps t → s.total ≤ t.total)
 
--- of two steps the one of less cost, the first where both cost the same
-abbrev pub IsLesser : Option Step → Option Step → Option Step → Type 0
-IsLesser None second result = result ≡ second
-IsLesser (Some a) None result = result ≡ Some a
-IsLesser (Some a) (Some b) result = ((b.total < a.total) × (result ≡ Some b)) ⊎ ((a.total ≤ b.total) × (result ≡ Some a))
+-- a step to this mode
+abbrev pub IsStepTo : Asked → ℕ → ℕ → ℕ → Ahead → ℕ → Step → Type 0
+IsStepTo q c at from ahead to s = IsStep q c at from ahead s × (s.to ≡ to)
 
--- what comes behind costs no more than a window may
-abbrev pub IsCheap : Landing → Type 0
-IsCheap landing = IfSome landing.rest (λ rest. rest ≤ MAX_WINDOW * MAX_COST)
+-- a step to this mode by this gate
+abbrev pub IsStepToBy : Asked → ℕ → ℕ → ℕ → Ahead → ℕ → ℕ → Step → Type 0
+IsStepToBy q c at from ahead to gate s = IsStepTo q c at from ahead to s × (s.gate ≡ gate)
+
+-- what stands for the modes below a number costs at most this
+abbrev pub AreCheap : ℕ → ℕ → List (Option ℕ) → Type 0
+AreCheap modes most row = (mode rest : ℕ) → mode < modes → slice_index_or row mode None ≡ Some rest → rest ≤ most

@@ -1,68 +1,50 @@
-//! The best trajectory of a window: best-first search over boxes of the whole window. The first box's states are tried; where they are no
-//! trajectory, the box is split by the reason.
+//! The best trajectory of a window, as the least solution of its question.
 
 ghost use Rattle.std.specs.Prelude.{◌≡◌, ◌≤◌, All, IfOk, length, map};
 ghost use Rattle.cca_base.specs.Prelude.{IsState};
 ghost use Rattle.consistency.specs.Spaces.{IsWorldSpace};
+ghost use Rattle.group_search.specs.Floors.{every};
+ghost use Rattle.group_search.specs.Questions.{cost_in};
 ghost use Rattle.trajectory_estimator.specs.Asked.{AreValues, IsBestOf, entry_of, modes_of};
-ghost use Rattle.trajectory_estimator.specs.Reasons.{AreNoted};
-ghost use Rattle.trajectory_estimator.specs.Splits.{IsBestBox};
+ghost use Rattle.trajectory_estimator.specs.Windows.{IsWindow, states_of};
 ghost use Rattle.trajectory_estimator.specs.declared.record.TheConstants.{MAX_WINDOW};
 
 use crate::changes::Changes;
-use crate::first_box::first_boxes;
+use crate::paths::WindowPaths;
+use crate::places::{components_of, first_masks};
 use crate::query::Query;
-use crate::reason::reason_against;
 use crate::record::Record;
-use crate::split::push_pieces;
 use crate::trajectory::Trajectory;
-use crate::window_box::WindowBox;
-use cca_base::{Compiled, Cube, List, State};
+use cca_base::{Compiled, List, State, numbers_below};
 use consistency::{WorldSpace, Worlds};
+use group_search::{Chosen, group_cost, least_solution};
 use std::alloc::{AllocError, Global};
 
-/// No clash is noted at any record.
-fn no_clashes(alloc: Global, query: &Query) -> Result<Vec<List<Cube>>, AllocError>
-    ensures { IfOk result (λ v. AreNoted query.now v.items) }
+/// The modes of so many components from a place on, as a state. The error is out of memory.
+fn state_of(alloc: Global, modes: &[u8]) -> Result<State, AllocError>
+    ensures { IfOk result (λ s. s.modes ≡ modes.now) }
 {
-    let mut clashes = Vec::new(alloc);
-    for at in 0..query.records().len() {
-        clashes.push(List::new(alloc))?;
-    }
-    Ok(clashes)
+    Ok(State {
+        modes: List::of(Vec::from_slice(alloc, modes)?),
+    })
 }
 
-/// The box whose first states are the best trajectory. None comes exactly where there is no trajectory.
-fn best_box(query: &Query, space: &mut WorldSpace) -> Result<Option<WindowBox>, AllocError>
-    requires space { IsWorldSpace query.now.worlds space.old }
-    ensures best { IfOk result (IsBestBox query.now) }
-    ensures space { IsWorldSpace query.now.worlds space.new }
+/// The states of a solution, with what they cost. The error is out of memory.
+fn trajectory_of(query: &Query, chosen: &Chosen) -> Result<Trajectory, AllocError>
+    requires { IsWindow query.now chosen.now.values chosen.now.costs }
+    ensures states { IfOk result (λ t. modes_of t.states ≡ states_of query.now chosen.now.values) }
+    ensures cost { IfOk result (λ t. t.cost ≡ cost_in (length query.now.model.components) every chosen.now.costs) }
 {
     let alloc = query.alloc();
-    let mut clashes = no_clashes(alloc, query)?;
-    let mut boxes = first_boxes(query)?;
-    while let Some(first) = boxes.pop() {
-        match reason_against(query, &first, &mut clashes, space)? {
-            None => return Ok(Some(first)),
-            Some(reason) => push_pieces(query, &mut boxes, &first, reason.as_slice())?,
-        }
-    }
-    Ok(None)
-}
-
-/// The first states of the box, with what they cost.
-fn trajectory_of(alloc: Global, whole: &WindowBox) -> Result<Trajectory, AllocError>
-    ensures states { IfOk result (λ t. modes_of t.states ≡ whole.now.states) }
-    ensures cost { IfOk result (λ t. t.cost ≡ whole.now.cost) }
-{
+    let count = query.model().components().len();
     let mut states = List::new(alloc);
-    for state in whole.states.as_slice() {
-        states.push(state.state().copy(alloc)?)?;
+    for at in 0..query.records().len() {
+        let modes = &chosen.values.as_slice()[at * count..at * count + count];
+        states.push(state_of(alloc, modes)?)?;
     }
-    Ok(Trajectory {
-        states,
-        cost: whole.cost,
-    })
+    let components = numbers_below(alloc, count)?;
+    let cost = group_cost(components.as_slice(), None, chosen.costs.as_slice());
+    Ok(Trajectory { states, cost })
 }
 
 /// The same as `best_trajectory`, with what is made once for many windows.
@@ -74,8 +56,16 @@ pub(crate) fn best_of(
     ensures best { IfOk result (IsBestOf query.now.model query.now.anchor query.now.records) }
     ensures space { IsWorldSpace query.now.worlds space.new }
 {
-    match best_box(query, space)? {
-        Some(best) => Ok(Some(trajectory_of(query.alloc(), &best)?)),
+    let alloc = query.alloc();
+    let components = components_of(query)?;
+    let paths = WindowPaths {
+        query,
+        components: components.as_slice(),
+    };
+    let masks = first_masks(query)?;
+    let modes = query.records().len() * query.model().components().len();
+    match least_solution(alloc, &paths, space, masks, modes)? {
+        Some(chosen) => Ok(Some(trajectory_of(query, &chosen)?)),
         None => Ok(None),
     }
 }

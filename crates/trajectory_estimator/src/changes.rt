@@ -3,8 +3,7 @@
 ghost use Rattle.std.specs.Prelude.{◌≡◌, ◌<◌, ◌≤◌, [], All, IfOk, length, slice_index_or};
 ghost use Rattle.cca_base.specs.Prelude.{IsComponent};
 ghost use Rattle.cca_base.specs.declared.limits.TheConstants.{MAX_CHOICES};
-ghost use Rattle.trajectory_estimator.specs.Changes.{AreChangesOf, row_at};
-ghost use Rattle.trajectory_estimator.specs.Columns.{AreNear};
+ghost use Rattle.trajectory_estimator.specs.Changes.{AreChangesOf, AreNear, row_at};
 
 use cca_base::{Component, List, Model};
 use std::alloc::{AllocError, Global};

@@ -1,136 +1,107 @@
-//! Gates of a box that are other than those that its first states really have.
+//! A gate that is other than the one that a walk goes by, and the modes that make it so.
 
-ghost use Rattle.std.specs.Prelude.{◌≡◌, ◌↔◌, ◌<◌, ℕ, All, Contains, IfOk, IfSome, IsNone, IsTrue, length};
-ghost use Rattle.cca_base.specs.Prelude.{HasMode, IsMove, IsState};
-ghost use Rattle.trajectory_estimator.specs.Boxes.{IsBox, IsReason};
-ghost use Rattle.trajectory_estimator.specs.Reasons.{AtEach, CostsAlike, IsCauseBefore, IsGoodAt, IsNamedBy, sent_to, state_before};
-ghost use Rattle.trajectory_estimator.specs.declared.record.TheConstants.{MAX_WINDOW};
-ghost use Rattle.window_laws.specs.Columns.{IsGate};
+ghost use Rattle.std.specs.Prelude.{◌≡◌, ◌<◌, ℕ, List, IfOk, IfSome, IsNone, true, length, slice_get, slice_index, Some};
+ghost use Rattle.cca_base.specs.MoveIndex.{IsMoveNamed};
+ghost use Rattle.cca_base.specs.State.{Extends};
+ghost use Rattle.group_search.specs.Questions.{IsWhole, in_group};
+ghost use Rattle.trajectory_estimator.specs.Clashes.{AreOwn, AreWalks, Blames, IsClashOf, IsGateOf, IsNamedAt};
+ghost use Rattle.trajectory_estimator.specs.Walks.{gate_place, record_at};
+ghost use Rattle.trajectory_estimator.specs.Windows.{HasGate, window_of};
 
-use crate::cause::cause_of;
-use crate::limit::Limit;
-use crate::query::Query;
-use crate::step_cost::step_cost;
-use crate::window_box::WindowBox;
-use cca_base::{List, Model, Move, State};
-use std::alloc::AllocError;
-use successors::nominal;
+use crate::before::Before;
+use crate::group_paths::GroupPaths;
+use crate::leaving::{OPEN, SHUT};
+use cca_base::{Cube, Move, Pair};
+use std::alloc::{AllocError, Global};
 
-/// The number of the move that the command, if there is one, names in the state. None comes exactly where it names none.
-fn named(model: &Model, state: &State, command: Option<u16>) -> Option<u16>
-    requires { IsState model.now state.now.modes }
-    ensures some { IfSome result (IsNamedBy model.now state.now.modes command) }
-    ensures none { IsNone result →
-        (number : ℕ) → IsNamedBy model.now state.now.modes command number → ⊥ }
+/// Where the component's gate at the record stands.
+fn gate_place(before: &Before<'_>, component: u16) -> usize
+    requires { component < length before.now.modes.now }
+    ensures { result ≡ gate_place before.now.paths.query.now component before.now.at }
 {
-    model.named(state, command?)
+    let paths = &before.paths;
+    (paths.query.records().len() + before.at) * paths.count() + component as usize
 }
 
-/// Whether the command moves something in the state.
-fn real_gate(query: &Query, state: &State, command: Option<u16>) -> bool
-    requires { IsState query.now.model state.now.modes }
-    ensures { IsGate query.now.model state.now.modes command result }
+/// The value of the move's gate, and that its source stands. The error is out of memory.
+fn gate_cut(alloc: Global, before: &Before<'_>, step: &Move) -> Result<Cube, AllocError>
+    requires component { step.now.component < length before.now.modes.now }
+    requires own { in_group before.now.paths.names.now before.now.paths.group step.now.component ≡ true }
+    requires source { slice_get before.now.modes.now step.now.component ≡ Some step.now.source }
+    ensures own { IfOk result (AreOwn before.now.paths) }
+    ensures gate { IfOk result (λ cut. (values : List ℕ) → Extends values cut → IsGateOf before.now step.now.component values) }
+    ensures source { IfOk result (λ cut. Blames before.now cut (record { item = step.now.component; value = step.now.source })) }
 {
-    nominal(query.compiled(), state, command).is_some()
-}
-
-/// The state before a record.
-fn state_before<'a>(query: &Query<'a>, whole: &'a WindowBox, at: usize) -> &'a State
-    requires whole { IsBox query.now whole.now }
-    requires at { at < length query.now.records }
-    ensures value { result.now.modes ≡ state_before query.now whole.now.states at }
-    ensures state { IsState query.now.model result.now.modes }
-{
-    if at == 0 {
-        return query.anchor();
-    }
-    whole.states.get(at - 1).state()
-}
-
-/// Where the move's component goes by a gate.
-fn sent_to(step: &Move, gate: bool) -> u8
-    ensures { result ≡ sent_to step.now gate }
-{
-    if gate { step.target } else { step.source }
-}
-
-/// Whether the step of the move's component from its source to the mode costs the same by both gates.
-fn costs_alike(query: &Query, step: &Move, to: u8, gate: bool, other: bool) -> bool
-    requires moves { All (IsMove query.now.model) query.now.model.moves }
-    requires step { Contains query.now.model.moves step.now }
-    requires to { HasMode query.now.model step.now.component to }
-    ensures { IsTrue result ↔ CostsAlike query.now.model step.now to gate other }
-{
-    step_cost(query, step.component, step.source, sent_to(step, gate), to)
-        == step_cost(query, step.component, step.source, sent_to(step, other), to)
-}
-
-/// Limits on the state before a record by which its gate is as it really is there; at the first record none, since that state
-/// is fixed. The error is out of memory.
-fn cause_before(
-    query: &Query,
-    number: u16,
-    before: &State,
-    at: usize,
-) -> Result<List<Limit>, AllocError>
-    requires at { at < length query.now.records }
-    requires few { at < MAX_WINDOW }
-    requires state { IsState query.now.model before.now.modes }
-    requires number { number < length query.now.model.moves }
-    ensures { IfOk result (IsCauseBefore query.now number at before.now.modes) }
-{
-    if at == 0 {
-        return Ok(List::new(query.alloc()));
-    }
-    cause_of(query, number, before, (at - 1) as u8)
-}
-
-/// Why the box's gate at a record is wrong. None comes exactly where it may be replaced by the real one. The error is out of
-/// memory.
-fn gate_reason(
-    query: &Query,
-    whole: &WindowBox,
-    at: usize,
-) -> Result<Option<List<Limit>>, AllocError>
-    requires whole { IsBox query.now whole.now }
-    requires at { at < length query.now.records }
-    ensures some { IfOk result (λ o. IfSome o (IsReason query.now whole.now)) }
-    ensures none { IfOk result (λ o. IsNone o → IsGoodAt query.now whole.now at) }
-{
-    let before = state_before(query, whole, at);
-    let command = query.records()[at].command;
-    let Some(number) = named(query.model(), before, command) else {
-        return Ok(None);
-    };
-    let step = query.model().moves().get(number as usize);
-    let to = whole.states.get(at).mode(step.component);
-    let open = *whole.gates.get(at);
-    if costs_alike(query, step, to, open, real_gate(query, before, command)) {
-        return Ok(None);
-    }
-    let mut limits = cause_before(query, number, before, at)?;
-    limits.push(Limit::Gate {
-        record: at as u8,
-        component: step.component,
-        open,
+    let paths = &before.paths;
+    let row = paths.query.records().len() + before.at;
+    let place = row * paths.count() + step.component as usize;
+    let mut cut = Cube::new(alloc);
+    cut.push(Pair {
+        item: place as u16,
+        value: paths.values[place],
     })?;
-    Ok(Some(limits))
+    let source = Pair {
+        item: step.component,
+        value: step.source,
+    };
+    before.blame(&mut cut, source)?;
+    Ok(cut)
 }
 
-/// Why the first wrong gate of the box is wrong. None comes exactly where each gate may be replaced by the real one. The error is
-/// out of memory.
-pub(crate) fn wrong_gate(
-    query: &Query,
-    whole: &WindowBox,
-) -> Result<Option<List<Limit>>, AllocError>
-    requires { IsBox query.now whole.now }
-    ensures some { IfOk result (λ o. IfSome o (IsReason query.now whole.now)) }
-    ensures none { IfOk result (λ o. IsNone o → AtEach query.now (IsGoodAt query.now whole.now)) }
+/// Why the gate of the move that is named isn't the one that its walk goes by. None says of a group of all components that it is. The
+/// error is out of memory.
+fn cause_against(
+    alloc: Global,
+    before: &Before<'_>,
+    number: u16,
+) -> Result<Option<Cube>, AllocError>
+    requires walks { AreWalks before.now.paths }
+    requires named { IsNamedAt before.now number }
+    ensures clash { IfOk result (λ o. IfSome o (IsClashOf before.now.paths)) }
+    ensures none { IfOk result (λ o. IsNone o → IsWhole (window_of before.now.paths.query.now) before.now.paths.names.now before.now.paths.group →
+        HasGate before.now.paths.query.now before.now.paths.values.now before.now.at) }
 {
-    for at in 0..query.records().len() {
-        if let Some(reason) = gate_reason(query, whole, at)? {
-            return Ok(Some(reason));
+    let query = before.paths.query;
+    let ways = query.compiled().ways().get(number as usize).as_slice();
+    let step = query.model().moves().get(number as usize);
+    let mut cut = gate_cut(alloc, before, step)?;
+    let value = before.paths.values[gate_place(before, step.component)];
+    if value == OPEN {
+        if before.blame_each(&mut cut, ways)? {
+            return Ok(Some(cut));
+        }
+    } else if value == SHUT {
+        if let Some(cube) = before.standing(ways) {
+            before.blame_all(&mut cut, cube)?;
+            return Ok(Some(cut));
         }
     }
     Ok(None)
+}
+
+/// Values of the group by which a gate at the record isn't the one that its walk goes by. None says of a group of all components that
+/// the walks go by the real gate. The error is out of memory.
+pub(crate) fn gate_clash(
+    alloc: Global,
+    paths: &GroupPaths<'_>,
+    at: usize,
+) -> Result<Option<Cube>, AllocError>
+    requires walks { AreWalks paths.now }
+    requires at { at < length paths.now.query.now.records }
+    ensures clash { IfOk result (λ o. IfSome o (IsClashOf paths.now)) }
+    ensures none { IfOk result (λ o. IsNone o → IsWhole (window_of paths.now.query.now) paths.now.names.now paths.now.group →
+        HasGate paths.now.query.now paths.now.values.now at) }
+{
+    let query = paths.query;
+    let before = Before::of(*paths, at);
+    let Some(command) = query.records()[at].command else {
+        return Ok(None);
+    };
+    let Some(number) = before.named(command) else {
+        return Ok(None);
+    };
+    if !paths.has(query.model().moves().get(number as usize).component) {
+        return Ok(None);
+    }
+    cause_against(alloc, &before, number)
 }

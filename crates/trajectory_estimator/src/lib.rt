@@ -2,31 +2,29 @@
 //! open over many ticks, and says from which tick on it has revised them.
 #![tactic(auto)]
 
+mod before;
 mod best;
-mod cause;
 mod changes;
-mod clash;
-mod column;
 mod component_query;
-mod first_box;
+mod follow;
 mod gate;
-mod kept;
-mod limit;
+mod group_paths;
+mod heads;
+mod leaving;
 mod moved;
 mod next_window;
-mod ordered_state;
-mod piece;
+mod paths;
+mod places;
+mod prices;
 mod query;
-mod reason;
 mod record;
+mod rests;
 mod revised;
-mod split;
+mod shown;
 mod step;
-mod step_cost;
 mod tracker;
 mod trajectory;
 mod window;
-mod window_box;
 
 pub use best::best_trajectory;
 pub use record::{MAX_WINDOW, Record, window_is_fixed};

@@ -1,22 +1,10 @@
 //! Where a command's own moves send a component.
 
-ghost use Rattle.std.specs.Prelude.{◌≡◌, ◌<◌, ◌↔◌, IfSome, IsNone, IsTrue, length};
-ghost use Rattle.cca_base.specs.Prelude.{IsCompiled, WellFormed};
-ghost use Rattle.trajectory_estimator.specs.Asked.{IsCommandOf};
-ghost use Rattle.trajectory_estimator.specs.Columns.{IsOwnTarget, NoOwn};
+ghost use Rattle.std.specs.Prelude.{IfSome, IsNone};
+ghost use Rattle.cca_base.specs.Prelude.{WellFormed};
+ghost use Rattle.trajectory_estimator.specs.Steps.{IsOwnTarget, NoOwn};
 
-use cca_base::{Compiled, Model};
-
-/// Whether the command is one of the component.
-pub(crate) fn is_command_of(compiled: &Compiled, command: Option<u16>, component: u16) -> bool
-    ensures { IsTrue result ↔ IsCommandOf compiled.now.model command component }
-{
-    let model = compiled.model();
-    let Some(command) = command else {
-        return false;
-    };
-    (command as usize) < model.commands().len() && model.component_of(command) == component
-}
+use cca_base::Model;
 
 /// Where the command's own move leads the component from the mode. None comes exactly where it has no such move.
 pub(crate) fn own_target(

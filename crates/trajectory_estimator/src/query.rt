@@ -101,7 +101,8 @@ impl<'a> Query<'a> {
 
     /// The model.
     pub fn model(&self) -> &'a Model
-        ensures { result.now ≡ self.now.model }
+        ensures value { result.now ≡ self.now.model }
+        ensures asked { IsAsked self.now }
     {
         self.model
     }
@@ -125,6 +126,7 @@ impl<'a> Query<'a> {
     pub fn anchor(&self) -> &'a State
         ensures value { result.now.modes ≡ self.now.anchor }
         ensures state { IsState self.now.model self.now.anchor }
+        ensures asked { IsAsked self.now }
     {
         self.anchor
     }
@@ -132,6 +134,7 @@ impl<'a> Query<'a> {
     /// What is known of each tick, the oldest first.
     pub fn records(&self) -> &'a [Record]
         ensures value { map entry_of result.now ≡ self.now.records }
+        ensures asked { IsAsked self.now }
         ensures few { length result.now ≤ MAX_WINDOW }
         ensures values { All (AreValues self.now.model) self.now.records }
     {

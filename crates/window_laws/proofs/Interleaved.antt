@@ -1,99 +1,20 @@
 -- Columns: states component by component, and all components together.
-use Rattle.std.proofs.Common.{◌≡◌, ◌⊎◌, inl, inr, ℕ, zero, suc, ◌+◌, ◌<◌, ◌≤◌, Bool, true, false, List, [], ◌∷◌, length, sum, drop, get_or, slice_get, slice_index, Option, Some, All, refl, sym, ap, ◌∙◌, arith}
-use Rattle.std.specs.Ordering.{nat_cmp, ordering_then, ordering_reverse}
-use Rattle.std.specs.Cmp.Lexicographic.{slice_cmp}
-use Rattle.std.specs.declared.cmp.Ordering.TheVariants.{Less, Equal, Greater}
+use Rattle.std.proofs.Common.{◌≡◌, inl, inr, ℕ, zero, suc, ◌+◌, ◌<◌, Bool, true, false, List, [], ◌∷◌, length, sum, slice_get, slice_index, Option, Some, refl, sym, ap, ◌∙◌, arith}
 use Rattle.std.proofs.lemmas.Bool.{cases_eq}
-use Rattle.std.proofs.lemmas.Cmp.{nat_list_cmp_total, tied_itself}
 use Rattle.std.proofs.lemmas.Grind.{get_or-set_at}
 use Rattle.std.proofs.lemmas.List.{get_or-set_other}
-use Rattle.std.proofs.lemmas.List.Elements.{All-head, All-tail, All-nil, All-cons}
 use Rattle.std.proofs.lemmas.List.Sums.{sum_by-cons}
-use Rattle.std.proofs.lemmas.Map.Lookups.{exact_bytes, exact_unsigned}
 use Rattle.std.proofs.lemmas.Option.{same_Some, get_or_from_slice_get}
-use Rattle.list_laws.proofs.Orders.{then_cases, cmp_less}
 use Rattle.cca_base.specs.declared.model.Move.{Move}
 use Rattle.cca_base.specs.PlantModel.{PlantModel}
 use Rattle.cca_base.specs.Model.{WellFormed, CommandsFit}
 use Rattle.cca_base.specs.State.{IsState}
 use Rattle.cca_base.specs.Successors.{Nominal}
 use Rattle.cca_base.proofs.Commands.{same_component}
-use Rattle.window_laws.specs.Trajectories.{Entry, Trajectory, path_cmp, IsEarlierPath, IsUpTo, Best}
-use Rattle.window_laws.specs.Columns.{IsGate, AreGates, Sends, Path, column, Box, AreLeast, AreBoxes}
-use Rattle.window_laws.proofs.Paths.{upto_trans, upto_cost, upto_first, length-trajectory}
-
--- ---- lists of states, by their columns
-
--- a column comes no later than another
-abbrev NotLater : List ℕ → List ℕ → Type 0
-NotLater xs ys = (xs ≡ ys) ⊎ (slice_cmp nat_cmp xs ys ≡ Less)
-
-later_cases : (x y : ℕ) (xs ys : List ℕ) → NotLater (x ∷ xs) (y ∷ ys) → (x < y) ⊎ ((x ≡ y) × NotLater xs ys)
-later_cases x y xs ys (inl e) = inr (ap (λ l. get_or l 0 0) e, inl (ap (drop 1) e))
-later_cases x y xs ys (inr h) = elim (then_cases (nat_cmp x y) (slice_cmp nat_cmp xs ys) h) [
-  | inl less ↦ inl (cmp_less x y less)
-  | inr both ↦ inr (exact_unsigned x y both.0, inr both.1)
-]
-
--- where one list of numbers is earlier than another, it is less at some place
-less_place : (a b : List ℕ) → length a ≡ length b → slice_cmp nat_cmp a b ≡ Less → (c : ℕ) × (c < length a) × (slice_index a c < slice_index b c)
-less_place [] [] e h = absurd (cc)
-less_place [] (y ∷ b) e h = absurd (omega arith)
-less_place (x ∷ a) [] e h = absurd (omega arith)
-less_place (x ∷ a) (y ∷ b) e h = elim (then_cases (nat_cmp x y) (slice_cmp nat_cmp a b) h) [
-  | inl less ↦ (0, omega arith, cmp_less x y less)
-  | inr both ↦ (let (c, within, lt) = less_place a b (omega arith) both.1 in (suc c, omega arith, lt))
-]
-
-state_cases : (s t : List ℕ) → (slice_cmp nat_cmp s t ≡ Less) ⊎ ((s ≡ t) ⊎ (slice_cmp nat_cmp t s ≡ Less))
-state_cases s t =
-    elim (slice_cmp nat_cmp s t) as (λ o. slice_cmp nat_cmp s t ≡ o → (slice_cmp nat_cmp s t ≡ Less) ⊎ ((s ≡ t) ⊎ (slice_cmp nat_cmp t s ≡ Less))) [
-      | Less ↦ λ e. inl e
-      | Equal ↦ λ e. inr (inl (exact_bytes s t e))
-      | Greater ↦ λ e. inr (inr (nat_list_cmp_total.antisymm t s ∙ ap ordering_reverse e))
-    ] refl
-
--- where each column comes no later, the states come no later
-not_later : (n : ℕ) (a b : List (List ℕ)) → length a ≡ length b → All (λ s. length s ≡ n) a → All (λ s. length s ≡ n) b
-    → ((c : ℕ) → c < n → NotLater (column c a) (column c b)) → (a ≡ b) ⊎ IsEarlierPath a b
-not_later n [] [] e h k f = inl refl
-not_later n [] (t ∷ b) e h k f = absurd (omega arith)
-not_later n (s ∷ a) [] e h k f = absurd (omega arith)
-not_later n (s ∷ a) (t ∷ b) e h k f =
-    let own : length s ≡ n = All-head (λ (l : List ℕ). length l ≡ n) s a h in
-    let other : length t ≡ n = All-head (λ (l : List ℕ). length l ≡ n) t b k in
-    let at : (c : ℕ) → c < n → (slice_index s c < slice_index t c) ⊎ ((slice_index s c ≡ slice_index t c) × NotLater (column c a) (column c b)) =
-    λ c within. later_cases (slice_index s c) (slice_index t c) (column c a) (column c b) (f c within) in
-    elim (state_cases s t) [
-      | inl less ↦ inr (ap (λ o. ordering_then o (path_cmp a b)) less)
-      | inr (inl same) ↦ (let rest = not_later n a b (omega arith) (All-tail (λ (l : List ℕ). length l ≡ n) s a h) (All-tail (λ (l : List ℕ). length l ≡ n) t b k)
-          (λ c within. elim (at c within) [
-            | inl lt ↦ absurd (let alike : slice_index s c ≡ slice_index t c = ap (λ l. slice_index l c) same in omega arith)
-            | inr both ↦ both.1
-          ]) in
-          elim rest [
-            | inl alike ↦ inl (cc)
-            | inr earlier ↦ inr (ap (λ o. ordering_then o (path_cmp a b)) (ap (λ l. slice_cmp nat_cmp s l) (sym same) ∙ tied_itself nat_list_cmp_total s) ∙ earlier)
-          ])
-      | inr (inr more) ↦ (let (c, within, lt) = less_place t s (other ∙ sym own) more in
-          absurd (elim (at c (omega arith)) [ inl less ↦ omega arith | inr both ↦ omega (arith, both.0) ]))
-    ]
+use Rattle.window_laws.specs.Trajectories.{Entry, Trajectory}
+use Rattle.window_laws.specs.Columns.{IsGate, AreGates, Sends, Path, column}
 
 -- ---- costs, component by component
-
-sums_upto : (ks ls : List ℕ) → length ks ≡ length ls → ((c : ℕ) → c < length ks → slice_index ks c ≤ slice_index ls c) → (sum ks < sum ls) ⊎ (ks ≡ ls)
-sums_upto [] [] e h = inr refl
-sums_upto [] (l ∷ ls) e h = absurd (omega arith)
-sums_upto (k ∷ ks) [] e h = absurd (omega arith)
-sums_upto (k ∷ ks) (l ∷ ls) e h =
-    let first : k ≤ l = h 0 (omega arith) in
-    let a : sum (k ∷ ks) ≡ k + sum ks = sum_by-cons (λ (n : ℕ). n) k ks in
-    let b : sum (l ∷ ls) ≡ l + sum ls = sum_by-cons (λ (n : ℕ). n) l ls in
-    let cases : (k < l) ⊎ (k ≡ l) = grind (arith, first) in
-    elim (sums_upto ks ls (omega arith) (λ c within. h (suc c) (omega arith))) [
-      | inl less ↦ inl (omega arith)
-      | inr same ↦ (let alike : sum ks ≡ sum ls = ap sum same in elim cases [ inl lt ↦ inl (omega arith) | inr eq ↦ inr (cc) ])
-    ]
 
 -- numbers added place by place
 abbrev pub plus : List ℕ → List ℕ → List ℕ
@@ -205,48 +126,10 @@ gates_of m anchor (r ∷ records) (s ∷ states) cost (own, rest, consistent, ta
       | inr (none, f) ↦ (false ∷ gates, (none, are))
     ]
 
-widths : (m : PlantModel) (anchor : List ℕ) (records : List Entry) (states : List (List ℕ)) (cost : ℕ) → Trajectory m anchor records states cost → All (λ s. length s ≡ length m.components) states
-widths m anchor [] [] cost t = All-nil (λ s. length s ≡ length m.components)
-widths m anchor [] (s ∷ states) cost t = absurd t
-widths m anchor (r ∷ records) [] cost t = absurd t
-widths m anchor (r ∷ records) (s ∷ states) cost (own, rest, consistent, tail, e) =
-    All-cons (λ (l : List ℕ). length l ≡ length m.components) s states consistent.costs.state.full (widths m s records states rest tail)
-
-column_upto : (k l : ℕ) (xs ys : List ℕ) → IsUpTo (slice_cmp nat_cmp) k xs l ys → (k ≤ l) × (k ≡ l → NotLater xs ys)
-column_upto k l xs ys (inl less) = (omega arith, λ e. absurd (omega arith))
-column_upto k l xs ys (inr (e, first)) = (omega arith, λ f. first)
-
-pub columns_less : (m : PlantModel) (anchor : List ℕ) (records : List Entry) (box : Box) (states : List (List ℕ)) (costs : List ℕ)
-    → WellFormed m → IsState m anchor → AreLeast m anchor records box states costs
-    → (gates : List Bool) (others : List (List ℕ)) (more : ℕ) → AreGates m anchor records gates others → box gates others ≡ true
-    → Trajectory m anchor records others more → IsUpTo path_cmp (sum costs) states more others
-columns_less m anchor records box states costs good state its gates others more g inside t =
-    let (ls, full, total, each) = paths_of m anchor records gates others more good state.full g t in
-    let n = length m.components in
-    let at : (c : ℕ) → c < n → (slice_index costs c ≤ slice_index ls c) × (slice_index costs c ≡ slice_index ls c → NotLater (column c states) (column c others)) =
-    λ c within. column_upto (slice_index costs c) (slice_index ls c) (column c states) (column c others)
-    (its.least c within gates others (slice_index ls c) inside (each c within)) in
-    elim (sums_upto costs ls (its.full ∙ sym full) (λ c within. (at c (let f = its.full in omega arith)).0)) [
-      | inl less ↦ inl (omega (arith, total))
-      | inr same ↦ inr (
-        (ap sum same ∙ total),
-        not_later n states others (its.long ∙ sym (length-trajectory m anchor records others more t)) its.wide (widths m anchor records others more t)
-            (λ c within. (at c within).1 (ap (λ l. slice_index l c) same)),
-      )
-    ]
-
-pub boxes_best : (m : PlantModel) (anchor : List ℕ) (records : List Entry) (count : ℕ) (box : ℕ → Box) (states : ℕ → List (List ℕ)) (costs : ℕ → List ℕ)
-    → WellFormed m → IsState m anchor → AreBoxes m anchor records count box states costs
-    → Trajectory m anchor records (states 0) (sum (costs 0)) → Best m anchor records (states 0) (sum (costs 0))
-boxes_best m anchor records count box states costs good state its t =
-    let upto : (others : List (List ℕ)) (more : ℕ) → Trajectory m anchor records others more → IsUpTo path_cmp (sum (costs 0)) (states 0) more others =
-    λ others more u.
-    let (gates, g) = gates_of m anchor records others more u in
-    let (i, within, inside) = its.covers gates others more g u in
-    upto_trans (sum (costs 0)) (sum (costs i)) more (states 0) (states i) others (its.head i within)
-    (columns_less m anchor records (box i) (states i) (costs i) good state (its.least i within) gates others more g inside u) in
-    record {
-      trajectory = t;
-      least = λ others more u. upto_cost (sum (costs 0)) more (states 0) others (upto others more u);
-      first = λ others u earlier. upto_first (sum (costs 0)) (states 0) others (upto others (sum (costs 0)) u) earlier;
-    }
+pub trajectory_paths : (m : PlantModel) (anchor : List ℕ) (records : List Entry) (states : List (List ℕ)) (cost : ℕ) → WellFormed m → IsState m anchor → Trajectory m anchor records states cost
+    → (gates : List Bool) × (costs : List ℕ) × AreGates m anchor records gates states × (length costs ≡ length m.components) × (sum costs ≡ cost)
+    × ((c : ℕ) → c < length m.components → Path m c (slice_index anchor c) records gates (column c states) (slice_index costs c))
+trajectory_paths m anchor records states cost good state t =
+    let (gates, are) = gates_of m anchor records states cost t in
+    let (costs, full, total, each) = paths_of m anchor records gates states cost good state.full are t in
+    (gates, costs, are, full, total, each)

@@ -2,8 +2,6 @@ pub mod Paths
 pub mod Tracked
 pub mod Interleaved
 pub mod Joining
-pub mod Stepping
-pub mod Counting
 mod ShortPaths
 pub mod Windows
 mod TickNumbers

@@ -12,7 +12,7 @@ use Rattle.cca_base.specs.PlantModel.{PlantModel}
 use Rattle.cca_base.specs.State.{Extends}
 use Rattle.cca_base.specs.Estimates.{Consistent}
 use Rattle.cca_base.specs.Shown.{Clash}
-use Rattle.window_laws.specs.Trajectories.{Entry, Trajectory, path_cmp, IsEarlierPath, IsUpTo, Best}
+use Rattle.window_laws.specs.Trajectories.{Entry, Trajectory, path_cmp, IsEarlierPath, Best}
 
 -- ---- the order of lists of states
 
@@ -39,23 +39,6 @@ path_cases a b =
       | Equal ↦ λ e. inr (inl (same_path a b e))
       | Greater ↦ λ e. inr (inr (path_total.antisymm b a ∙ ap ordering_reverse e))
     ] refl
-
-pub upto_trans : (a b c : ℕ) (x y z : List (List ℕ)) → IsUpTo path_cmp a x b y → IsUpTo path_cmp b y c z → IsUpTo path_cmp a x c z
-upto_trans a b c x y z (inl h) (inl k) = inl (omega arith)
-upto_trans a b c x y z (inl h) (inr k) = inl (omega (arith, k.0))
-upto_trans a b c x y z (inr h) (inl k) = inl (omega (arith, h.0))
-upto_trans a b c x y z (inr (e, inl same)) (inr (f, k)) = inr (e ∙ f, subst (λ l. (l ≡ z) ⊎ (path_cmp l z ≡ Less)) (sym same) k)
-upto_trans a b c x y z (inr (e, inr less)) (inr (f, inl same)) = inr (e ∙ f, inr (subst (λ l. path_cmp x l ≡ Less) same less))
-upto_trans a b c x y z (inr (e, inr less)) (inr (f, inr more)) = inr (e ∙ f, inr (path_total.trans x y z less more))
-
-pub upto_cost : (a b : ℕ) (x y : List (List ℕ)) → IsUpTo path_cmp a x b y → a ≤ b
-upto_cost a b x y (inl h) = omega arith
-upto_cost a b x y (inr h) = omega (arith, h.0)
-
-pub upto_first : (a : ℕ) (x y : List (List ℕ)) → IsUpTo path_cmp a x a y → IsEarlierPath y x → ⊥
-upto_first a x y (inl h) k = absurd (omega arith)
-upto_first a x y (inr (e, inl same)) k = not_itself y (subst (λ l. IsEarlierPath y l) same k)
-upto_first a x y (inr (e, inr less)) k = not_itself x (path_total.trans x y x less k)
 
 -- ---- the best trajectory
 

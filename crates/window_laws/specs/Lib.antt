@@ -4,5 +4,4 @@ pub mod Laws
 pub mod TrackerLaws
 pub mod LatestTicks
 pub mod Columns
-pub mod Counts
 pub mod Examples

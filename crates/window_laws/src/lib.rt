@@ -1,12 +1,11 @@
 //! Laws of trajectories over a window of records.
 #![tactic(auto)]
 
-ghost use Rattle.window_laws.specs.Counts.{CountsAdd, CountsSome};
 ghost use Rattle.window_laws.specs.Examples.{Examples};
 ghost use Rattle.window_laws.specs.LatestTicks.{AnswersAreOfLatest};
 ghost use Rattle.window_laws.specs.Laws.{OneBest, TailsAreBest, OneRecord, AddsAtEnd, OldestDecides, ClashesCut};
 ghost use Rattle.window_laws.specs.TrackerLaws.{TicksKeep, OneTick, SlidesKeepBest, WindowFills, ShowsLatest, RevisedByTick, NothingToRevise, StartsAwake, HoldsOn, HoldsBehind, OneTracking, ResetsForget, KeepsLatest, TracksOn, StartKeeps, AnswersAreBest, NumbersGoOn};
-ghost use Rattle.window_laws.specs.Columns.{ColumnsAreLess, BoxesGiveBest, PathsAreTrajectory, GatesAreHeld, GatesAreShut, BestStep, NoStep};
+ghost use Rattle.window_laws.specs.Columns.{PathsAreTrajectory, TrajectoriesArePaths, GatesAreHeld, GatesAreShut};
 
 /// What best trajectories are.
 pub fn best_trajectories()
@@ -49,24 +48,15 @@ pub fn examples()
     ensures { Examples }
 {}
 
-/// How a search by boxes finds the best trajectory.
+/// How trajectories come of columns, and columns of trajectories.
 pub fn searches()
     ensures clashes { ClashesCut }
-    ensures less { ColumnsAreLess }
-    ensures boxes { BoxesGiveBest }
     ensures paths { PathsAreTrajectory }
-    ensures counts { CountsAdd }
-    ensures some { CountsSome }
+    ensures each { TrajectoriesArePaths }
 {}
 
 /// When a command moves something.
 pub fn gates()
     ensures held { GatesAreHeld }
     ensures shut { GatesAreShut }
-{}
-
-/// How a component's best modes are found, from the last record to the first.
-pub fn columns()
-    ensures step { BestStep }
-    ensures none { NoStep }
 {}

@@ -1,5 +1,5 @@
 use Rattle.std.proofs.Common.{take}
-use Rattle.trajectory_estimator.specs.Columns.{AreNear}
+use Rattle.trajectory_estimator.specs.Changes.{AreNear}
 use Rattle.trajectory_estimator.proofs.changes.modes_near.Given as goal
 
 abbrev pub invariant-loop-component : goal.invariant-loop-component

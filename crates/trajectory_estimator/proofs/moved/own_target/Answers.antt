@@ -1,7 +1,7 @@
 use Rattle.std.proofs.Common.{◌≡◌, ◌<◌, List, length, slice_get, slice_index, Some, sym, ap, subst, ◌∙◌, arith}
 use Rattle.cca_base.specs.declared.model.Move.{Move}
 use Rattle.cca_base.proofs.MoveIndexLaws.{in_row, row_command}
-use Rattle.trajectory_estimator.specs.Columns.{IsOwnTarget, NoOwn}
+use Rattle.trajectory_estimator.specs.Steps.{IsOwnTarget, NoOwn}
 use Rattle.trajectory_estimator.proofs.OwnMoves.{none_more, none_all, own_here}
 use Rattle.trajectory_estimator.proofs.moved.own_target.Goals.{else-own-component-via-then-own-component+else-own-from, else-own-component-via-else-own-component}
 use Rattle.trajectory_estimator.proofs.moved.own_target.Goals as goal

@@ -1,8 +1,11 @@
-use Rattle.trajectory_estimator.proofs.LeastSteps.{both_gates}
+use Rattle.trajectory_estimator.proofs.LeastSteps.{by_two, by_all}
 use Rattle.trajectory_estimator.proofs.step.step_to.Goals as goal
 
 pub returns : goal.returns
-returns c =
-    both_gates c.args.targets.now c.args.to c.args.failure c.own_cost-shut.result c.own_cost-open.result c.args.landing.now c.step_by.result c.step_by-2.result c.lesser.result
-    c.if-not-landing.false c.own_cost-shut.ensures.some c.own_cost-shut.ensures.none c.own_cost-open.ensures.some c.own_cost-open.ensures.none
-    c.step_by.ensures c.step_by-2.ensures c.lesser.ensures
+returns c = λ q n at h.
+    let from = c.args.leaving.now.from in
+    let ahead = c.args.ahead.now in
+    by_all q n at from ahead c.args.to c.lesser.result c.step_by-shut.result c.lesser-2.result
+    (by_two q n at from ahead c.args.to c.step_by-either.result c.step_by-open.result c.lesser.result (c.step_by-either.ensures q n at h) (c.step_by-open.ensures q n at h)
+    c.lesser.ensures.none c.lesser.ensures.one c.lesser.ensures.least)
+    (c.step_by-shut.ensures q n at h) c.lesser-2.ensures.none c.lesser-2.ensures.one c.lesser-2.ensures.least

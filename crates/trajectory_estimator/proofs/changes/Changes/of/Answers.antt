@@ -2,7 +2,7 @@ use Rattle.std.proofs.Common.{◌≤◌, ◌+◌, ◌∷◌, [], List, Option, �
 use Rattle.std.proofs.lemmas.List.{map-append}
 use Rattle.cca_base.specs.declared.model.Component.{Component}
 use Rattle.cca_base.specs.State.{IsState}
-use Rattle.trajectory_estimator.specs.Columns.{AreNear}
+use Rattle.trajectory_estimator.specs.Changes.{AreNear}
 use Rattle.trajectory_estimator.proofs.ChangeTables.{HaveBelow, near_state, tables_none, tables_more, tables_all}
 use Rattle.trajectory_estimator.proofs.changes.Changes.of.Goals as goal
 

@@ -1,0 +1,158 @@
+-- The states of a list of values, and pairs at the places of their components' modes behind a record.
+use Rattle.std.proofs.Common.{◌≡◌, ◌≢◌, [], ℕ, suc, ◌+◌, ◌*◌, ◌<◌, ◌≤◌, true, List, length, map, take, drop, get_or, slice_get, slice_index, All, Contains, Some, sym, ap, subst, ◌∙◌, arith}
+use Rattle.std.proofs.Math.Nat.{mul-le-mul_left}
+use Rattle.std.proofs.lemmas.List.{ext_get_or, get_or-drop, get_or-map, get_or-take, length-drop, length-map, length-take-le}
+use Rattle.std.proofs.lemmas.List.Elements.{All-contains, All-get_or, All-map, All-weaker}
+use Rattle.std.proofs.lemmas.Option.{get_or_from_slice_get, slice_get-get_or}
+use Rattle.list_laws.proofs.Elements.{contains_map}
+use Rattle.list_laws.proofs.Members.{all_from}
+use Rattle.list_laws.proofs.Places.{value_at}
+use Rattle.cca_base.specs.Cube.{IsCube, IsPart, Lacks}
+use Rattle.cca_base.specs.Model.{HasMode}
+use Rattle.cca_base.specs.PlantModel.{PlantModel}
+use Rattle.cca_base.specs.Shown.{CanShow, Clash}
+use Rattle.cca_base.specs.State.{Extends, HasValue, IsState}
+use Rattle.cca_base.specs.declared.cube.Pair.{Pair}
+use Rattle.cca_base.proofs.Trying.{lacks_at}
+use Rattle.consistency.specs.Cores.{IsShowable}
+use Rattle.group_search.specs.Questions.{AreOf, IsWhole, in_group}
+use Rattle.trajectory_estimator.specs.Asked.{Asked, AreValues, entry_of}
+use Rattle.trajectory_estimator.specs.Clashes.{ArePairsAt, AreWalks, IsClashOf}
+use Rattle.trajectory_estimator.specs.PlaceLaws.{length-places, mode_own}
+use Rattle.trajectory_estimator.specs.Queries.{IsAsked}
+use Rattle.trajectory_estimator.specs.WalkLaws.{walk_modes}
+use Rattle.trajectory_estimator.specs.Walks.{IsWalk, mode_place, nothing_known, places, record_at}
+use Rattle.trajectory_estimator.specs.Windows.{IsWindow, state_at, window_of}
+use Rattle.trajectory_estimator.specs.declared.group_paths.GroupPaths.{GroupPaths}
+use Rattle.trajectory_estimator.specs.declared.record.Record.{Record}
+use Rattle.window_laws.specs.Trajectories.{Entry}
+
+-- ---- a state of the values
+
+module _ (q : Asked) (values : List ℕ) (full : length values ≡ places q) (at : ℕ) (within : at < length q.records) where
+  abbrev count : ℕ
+  count = length q.model.components
+
+  row_fits : count ≤ length (drop (at * count) values)
+  row_fits =
+      let up : count * (at + 1) ≤ count * (length q.records + length q.records) = mul-le-mul_left count (omega arith) in
+      omega (arith, length-drop (at * count) values, up, full)
+
+  -- a mode for each component
+  pub length-state : length (state_at q values at) ≡ count
+  length-state = length-take-le count (drop (at * count) values) row_fits
+
+  -- which stands at its place
+  pub mode_in : (c d : ℕ) → c < count → get_or (state_at q values at) c d ≡ get_or values (mode_place q c at) d
+  mode_in c d inside = get_or-take count (drop (at * count) values) c d inside ∙ get_or-drop (at * count) values c d
+
+  pub place_inside : (c : ℕ) → c < count → mode_place q c at < length values
+  place_inside c inside = omega (arith, (mode_own q c at inside within).within, full)
+
+  pub stands_in : (c mode : ℕ) → c < count → slice_get values (mode_place q c at) ≡ Some mode → slice_get (state_at q values at) c ≡ Some mode
+  stands_in c mode inside there =
+      slice_get-get_or (state_at q values at) c 0 (omega (arith, inside, length-state)) ∙ ap Some (mode_in c 0 inside ∙ value_at values (mode_place q c at) mode there)
+
+  -- walks lead to a state
+  pub walked_state : IsAsked q → ((c : ℕ) → c < count → (cost : ℕ) × IsWalk q c values cost) → IsState q.model (state_at q values at)
+  walked_state asked walks = record {
+    full = length-state;
+    modes = λ c inside.
+        let (cost, walk) = walks c inside in
+        subst (HasMode q.model c) (sym (mode_in c 0 inside)) (walk_modes q c values walk.own asked.model asked.anchor walk.steps (suc at) (omega (arith, within)));
+  }
+
+-- ---- what was seen at a record
+
+module _ (q : Asked) (records : List Record) (same : map entry_of records ≡ q.records) (at : ℕ) (within : at < length q.records) (r : Record) where
+  pub seen_here : (get_or records at r).seen.pairs ≡ (record_at q at).seen
+  seen_here =
+      let inside : at < length records = omega (arith, length-map records entry_of, ap length same) in
+      ap (λ (e : Entry). e.seen) (sym (get_or-map entry_of records at r nothing_known inside) ∙ ap (λ (entries : List Entry). get_or entries at nothing_known) same)
+
+  -- are values of the model
+  pub seen_values : (m : PlantModel) → m ≡ q.model → All (AreValues q.model) q.records → All (λ p. HasValue m p.item p.value) (get_or records at r).seen.pairs
+  seen_values m is values =
+      subst (λ (n : PlantModel). All (λ p. HasValue n p.item p.value) (get_or records at r).seen.pairs) (sym is)
+      (subst (All (λ p. HasValue q.model p.item p.value)) (sym seen_here) (All-get_or (AreValues q.model) q.records at nothing_known within values))
+
+-- ---- pairs of a group
+
+-- pairs of other components have other places
+pub moved_lacks : (q : Asked) (at : ℕ) (pairs : List Pair) (i : ℕ) (p : Pair) (place : ℕ) → IsCube pairs → i < length pairs → get_or pairs i p ≡ p → place ≡ mode_place q p.item at
+    → Lacks place (map (λ (p : Pair). record { item = mode_place q p.item at; value = p.value }) (take i pairs))
+moved_lacks q at pairs i p place cube within here is =
+    All-map (λ (other : Pair). other.item ≢ place) (λ (p : Pair). record { item = mode_place q p.item at; value = p.value }) (take i pairs)
+    (All-weaker (λ (other : Pair). other.item ≢ p.item) (λ (other : Pair). mode_place q other.item at ≢ place) (λ other apart e. apart (omega (arith, e, is))) (take i pairs)
+    (lacks_at [] pairs i p cube within here))
+
+module _ (x : GroupPaths) (asked : IsAsked x.query.now) (at : ℕ) (within : at < length x.query.now.records) where
+  abbrev q : Asked
+  q = x.query.now
+
+  abbrev move_pair : Pair → Pair
+  move_pair p = record { item = mode_place q p.item at; value = p.value }
+
+  abbrev moved : List Pair → List Pair
+  moved cube = map move_pair cube
+
+  -- a solution that has the moved pairs has the pairs in its state
+  extends_state : (values costs : List ℕ) (cube : List Pair) → All (λ p. p.item < length q.model.components) cube → IsWindow q values costs → Extends values (moved cube)
+      → Extends (state_at q values at) cube
+  extends_state values costs cube inside h extends = all_from (λ p. slice_get (state_at q values at) p.item ≡ Some p.value) cube (λ p among.
+      stands_in q values h.places at within p.item p.value (All-contains (λ p. p.item < length q.model.components) cube p inside among)
+      (All-contains (λ p. slice_get values p.item ≡ Some p.value) (moved cube) (move_pair p) extends (contains_map move_pair cube p among)))
+
+  module _ (pairs : List Pair) (are : ArePairsAt x at pairs) where
+    own : (p : Pair) → Contains pairs p → (p.item < length q.model.components) × (in_group x.names.now x.group p.item ≡ true) × (p.value ≡ slice_index x.values.now (mode_place q p.item at))
+    own p among =
+        All-contains (λ (p : Pair). (p.item < length q.model.components) × (in_group x.names.now x.group p.item ≡ true) × (p.value ≡ slice_index x.values.now (mode_place q p.item at))) pairs p are.own among
+
+    -- they are modes of their components
+    pub pairs_have_modes : AreWalks x → All (λ p. HasMode q.model p.item p.value) pairs
+    pairs_have_modes walks = all_from (λ p. HasMode q.model p.item p.value) pairs (λ p among.
+        let mine = own p among in
+        let (cost, walk) = walks p.item mine.0 mine.1 in
+        subst (HasMode q.model p.item) (sym mine.2) (walk_modes q p.item x.values.now walk.own asked.model asked.anchor walk.steps (suc at) (omega (arith, within))))
+
+    module _ (cube : List Pair) (part : IsPart cube pairs) where
+      in_pairs : (p : Pair) → Contains cube p → Contains pairs p
+      in_pairs p among = All-contains (Contains pairs) cube p part among
+
+      pub part_within : All (λ p. p.item < length q.model.components) cube
+      part_within = all_from (λ p. p.item < length q.model.components) cube (λ p among. (own p (in_pairs p among)).0)
+
+      -- at their places they stand
+      moved_held : Extends x.values.now (moved cube)
+      moved_held = All-map (λ p. slice_get x.values.now p.item ≡ Some p.value) move_pair cube (all_from (λ p. slice_get x.values.now (mode_place q p.item at) ≡ Some p.value) cube (λ p among.
+          let mine = own p (in_pairs p among) in
+          slice_get-get_or x.values.now (mode_place q p.item at) 0 (place_inside q x.values.now x.full at within p.item mine.0) ∙ ap Some (sym mine.2)))
+
+      moved_own : AreOf (window_of q) (in_group x.names.now x.group) (moved cube)
+      moved_own = All-map (λ p. (p.item < length (window_of q).of) × (in_group x.names.now x.group (slice_index (window_of q).of p.item) ≡ true)) move_pair cube
+          (all_from (λ p. (mode_place q p.item at < length (window_of q).of) × (in_group x.names.now x.group (slice_index (window_of q).of (mode_place q p.item at)) ≡ true)) cube (λ p among.
+          let mine = own p (in_pairs p among) in
+          let place = mode_own q p.item at mine.0 within in
+          (omega (arith, place.within, length-places q), ap (in_group x.names.now x.group) place.own ∙ mine.1)))
+
+      -- and if they clash, no trajectory has them
+      pub moved_clash : Clash q.model (record_at q at).seen cube → IsClashOf x (moved cube)
+      moved_clash clash = record {
+        own = record { held = moved_held; own = moved_own };
+        clash = λ values costs h extends.
+            clash (state_at q values at) (walked_state q values h.places at within asked (λ c inside. (slice_index costs c, h.walks c inside)))
+            (extends_state values costs cube part_within h extends) (h.shows at within);
+      }
+
+    -- a state that extends the pairs of all components is the one behind the record
+    shown_state : (s : List ℕ) → IsState q.model s → Extends s pairs → IsWhole (window_of q) x.names.now x.group → s ≡ state_at q x.values.now at
+    shown_state s state extends whole =
+        let as_long : length s ≡ length (state_at q x.values.now at) = state.full ∙ sym (length-state q x.values.now x.full at within) in
+        ext_get_or 0 s (state_at q x.values.now at) as_long (λ c below.
+        let inside : c < length q.model.components = omega (arith, below, state.full) in
+        let mode : ℕ = slice_index x.values.now (mode_place q c at) in
+        get_or_from_slice_get s c mode 0 (All-contains (λ p. slice_get s p.item ≡ Some p.value) pairs (record { item = c; value = mode }) extends (are.whole c inside (whole c inside)))
+        ∙ sym (mode_in q x.values.now x.full at within c 0 inside))
+
+    pub none_shows : IsShowable q.model (record_at q at).seen pairs → IsWhole (window_of q) x.names.now x.group → CanShow q.model (state_at q x.values.now at) (record_at q at).seen
+    none_shows shown whole = subst (λ s. CanShow q.model s (record_at q at).seen) (shown_state shown.0 shown.1 shown.2 whole) shown.3

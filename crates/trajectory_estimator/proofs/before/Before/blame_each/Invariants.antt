@@ -1,0 +1,7 @@
+use Rattle.std.proofs.Common.{All, take}
+use Rattle.cca_base.specs.declared.cube.Pair.{Pair}
+use Rattle.trajectory_estimator.specs.Clashes.{Blames, IsAgainst, IsCutWith}
+use Rattle.trajectory_estimator.proofs.before.Before.blame_each.Given as goal
+
+abbrev pub invariant-loop-cube : goal.invariant-loop-cube
+invariant-loop-cube l = record { cut : IsCutWith l.self l.initial.cut l.cut; blames : All (λ cube. (p : Pair) × IsAgainst cube p × Blames l.self l.cut p) (take l.cube-index l.ways) }
