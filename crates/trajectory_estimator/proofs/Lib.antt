@@ -22,6 +22,7 @@ mod Revising
 mod RowLaws
 mod Solutions
 mod StatesAt
+mod StillLaws
 mod Ticking
 mod TrajectoryValues
 mod WindowClashes

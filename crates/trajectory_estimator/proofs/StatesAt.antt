@@ -1,11 +1,13 @@
 -- The states of a list of values, and pairs at the places of their components' modes behind a record.
-use Rattle.std.proofs.Common.{◌≡◌, ◌≢◌, [], ℕ, suc, ◌+◌, ◌*◌, ◌<◌, ◌≤◌, true, List, length, map, take, drop, get_or, slice_get, slice_index, All, Contains, Some, sym, ap, subst, ◌∙◌, arith}
+use Rattle.std.proofs.Common.{◌≡◌, ◌≢◌, [], ℕ, suc, ◌+◌, ◌*◌, ◌<◌, ◌≤◌, true, false, not, inl, inr, List, filter, length, map, take, drop, get_or, slice_get, slice_index, All, Contains, Some, sym, ap, subst, ◌∙◌, arith}
+use Rattle.std.proofs.lemmas.Bool.{both_ways, cases_Bool, cond-false, cond-true, not-true, or_left}
 use Rattle.std.proofs.Math.Nat.{mul-le-mul_left}
 use Rattle.std.proofs.lemmas.List.{ext_get_or, get_or-drop, get_or-map, get_or-take, length-drop, length-map, length-take-le}
-use Rattle.std.proofs.lemmas.List.Elements.{All-contains, All-get_or, All-map, All-weaker}
+use Rattle.std.proofs.lemmas.List.Elements.{All-contains, All-filter, All-get_or, All-map, All-weaker}
 use Rattle.std.proofs.lemmas.Option.{get_or_from_slice_get, slice_get-get_or}
 use Rattle.list_laws.proofs.Elements.{contains_map}
-use Rattle.list_laws.proofs.Members.{all_from}
+use Rattle.list_laws.proofs.Members.{all_from, from_filter, to_filter}
+use Rattle.list_laws.proofs.Tests.{either}
 use Rattle.list_laws.proofs.Places.{value_at}
 use Rattle.cca_base.specs.Cube.{IsCube, IsPart, Lacks}
 use Rattle.cca_base.specs.Model.{HasMode}
@@ -17,7 +19,7 @@ use Rattle.cca_base.proofs.Trying.{lacks_at}
 use Rattle.consistency.specs.Cores.{IsShowable}
 use Rattle.group_search.specs.Questions.{AreOf, IsWhole, in_group}
 use Rattle.trajectory_estimator.specs.Asked.{Asked, AreValues, entry_of}
-use Rattle.trajectory_estimator.specs.Clashes.{ArePairsAt, AreWalks, IsClashOf}
+use Rattle.trajectory_estimator.specs.Clashes.{ArePairsAt, AreWalks, IsClashOf, is_asked, mode_asked, stands_still}
 use Rattle.trajectory_estimator.specs.PlaceLaws.{length-places, mode_own}
 use Rattle.trajectory_estimator.specs.Queries.{IsAsked}
 use Rattle.trajectory_estimator.specs.WalkLaws.{walk_modes}
@@ -96,24 +98,32 @@ module _ (x : GroupPaths) (asked : IsAsked x.query.now) (at : ℕ) (within : at 
   abbrev moved : List Pair → List Pair
   moved cube = map move_pair cube
 
-  -- a solution that has the moved pairs has the pairs in its state
-  extends_state : (values costs : List ℕ) (cube : List Pair) → All (λ p. p.item < length q.model.components) cube → IsWindow q values costs → Extends values (moved cube)
-      → Extends (state_at q values at) cube
-  extends_state values costs cube inside h extends = all_from (λ p. slice_get (state_at q values at) p.item ≡ Some p.value) cube (λ p among.
-      stands_in q values h.places at within p.item p.value (All-contains (λ p. p.item < length q.model.components) cube p inside among)
-      (All-contains (λ p. slice_get values p.item ≡ Some p.value) (moved cube) (move_pair p) extends (contains_map move_pair cube p among)))
+  -- where it stands still its mode is the anchor's, and else the one that stands behind the record
+  still_mode : (c : ℕ) → stands_still x c ≡ true → mode_asked x at c ≡ slice_index q.anchor c
+  still_mode c still = cond-true (stands_still x c) (slice_index q.anchor c) (slice_index x.values.now (mode_place q c at)) still
+
+  moving_mode : (c : ℕ) → stands_still x c ≡ false → mode_asked x at c ≡ slice_index x.values.now (mode_place q c at)
+  moving_mode c moving = cond-false (stands_still x c) (slice_index q.anchor c) (slice_index x.values.now (mode_place q c at)) moving
+
+  -- one that is asked for and doesn't stand still is of the group
+  in_the_group : (c : ℕ) → is_asked x c ≡ true → stands_still x c ≡ false → in_group x.names.now x.group c ≡ true
+  in_the_group c asks moving = either (in_group x.names.now x.group c) (stands_still x c) asks (λ e. e) (λ still. absurd (both_ways (stands_still x c) moving still))
 
   module _ (pairs : List Pair) (are : ArePairsAt x at pairs) where
-    own : (p : Pair) → Contains pairs p → (p.item < length q.model.components) × (in_group x.names.now x.group p.item ≡ true) × (p.value ≡ slice_index x.values.now (mode_place q p.item at))
-    own p among =
-        All-contains (λ (p : Pair). (p.item < length q.model.components) × (in_group x.names.now x.group p.item ≡ true) × (p.value ≡ slice_index x.values.now (mode_place q p.item at))) pairs p are.own among
+    own : (p : Pair) → Contains pairs p → (p.item < length q.model.components) × (is_asked x p.item ≡ true) × (p.value ≡ mode_asked x at p.item)
+    own p among = All-contains (λ (p : Pair). (p.item < length q.model.components) × (is_asked x p.item ≡ true) × (p.value ≡ mode_asked x at p.item)) pairs p are.own among
 
     -- they are modes of their components
     pub pairs_have_modes : AreWalks x → All (λ p. HasMode q.model p.item p.value) pairs
     pairs_have_modes walks = all_from (λ p. HasMode q.model p.item p.value) pairs (λ p among.
         let mine = own p among in
-        let (cost, walk) = walks p.item mine.0 mine.1 in
-        subst (HasMode q.model p.item) (sym mine.2) (walk_modes q p.item x.values.now walk.own asked.model asked.anchor walk.steps (suc at) (omega (arith, within))))
+        elim (cases_Bool (stands_still x p.item)) [
+          | inl still ↦ subst (HasMode q.model p.item) (sym (mine.2 ∙ still_mode p.item still)) (asked.anchor.modes p.item mine.0)
+          | inr moving ↦
+              let (cost, walk) = walks p.item mine.0 (in_the_group p.item mine.1 moving) in
+              subst (HasMode q.model p.item) (sym (mine.2 ∙ moving_mode p.item moving))
+              (walk_modes q p.item x.values.now walk.own asked.model asked.anchor walk.steps (suc at) (omega (arith, within)))
+        ])
 
     module _ (cube : List Pair) (part : IsPart cube pairs) where
       in_pairs : (p : Pair) → Contains cube p → Contains pairs p
@@ -122,37 +132,69 @@ module _ (x : GroupPaths) (asked : IsAsked x.query.now) (at : ℕ) (within : at 
       pub part_within : All (λ p. p.item < length q.model.components) cube
       part_within = all_from (λ p. p.item < length q.model.components) cube (λ p among. (own p (in_pairs p among)).0)
 
+      -- the pairs of components that don't stand still
+      abbrev moving : List Pair
+      moving = filter (λ p. not (stands_still x p.item)) cube
+
+      pub moving_within : All (λ p. p.item < length q.model.components) moving
+      moving_within = All-filter (λ p. not (stands_still x p.item)) (λ p. p.item < length q.model.components) cube part_within
+
+      moving_own : (p : Pair) → Contains moving p → (p.item < length q.model.components) × (in_group x.names.now x.group p.item ≡ true) × (p.value ≡ slice_index x.values.now (mode_place q p.item at))
+      moving_own p among =
+          let kept = from_filter (λ p. not (stands_still x p.item)) cube p among in
+          let mine = own p (in_pairs p kept.1) in
+          let moves : stands_still x p.item ≡ false = not-true (stands_still x p.item) kept.0 in
+          (mine.0, in_the_group p.item mine.1 moves, mine.2 ∙ moving_mode p.item moves)
+
       -- at their places they stand
-      moved_held : Extends x.values.now (moved cube)
-      moved_held = All-map (λ p. slice_get x.values.now p.item ≡ Some p.value) move_pair cube (all_from (λ p. slice_get x.values.now (mode_place q p.item at) ≡ Some p.value) cube (λ p among.
-          let mine = own p (in_pairs p among) in
+      moved_held : Extends x.values.now (moved moving)
+      moved_held = All-map (λ p. slice_get x.values.now p.item ≡ Some p.value) move_pair moving (all_from (λ p. slice_get x.values.now (mode_place q p.item at) ≡ Some p.value) moving (λ p among.
+          let mine = moving_own p among in
           slice_get-get_or x.values.now (mode_place q p.item at) 0 (place_inside q x.values.now x.full at within p.item mine.0) ∙ ap Some (sym mine.2)))
 
-      moved_own : AreOf (window_of q) (in_group x.names.now x.group) (moved cube)
-      moved_own = All-map (λ p. (p.item < length (window_of q).of) × (in_group x.names.now x.group (slice_index (window_of q).of p.item) ≡ true)) move_pair cube
-          (all_from (λ p. (mode_place q p.item at < length (window_of q).of) × (in_group x.names.now x.group (slice_index (window_of q).of (mode_place q p.item at)) ≡ true)) cube (λ p among.
-          let mine = own p (in_pairs p among) in
+      moved_own : AreOf (window_of q) (in_group x.names.now x.group) (moved moving)
+      moved_own = All-map (λ p. (p.item < length (window_of q).of) × (in_group x.names.now x.group (slice_index (window_of q).of p.item) ≡ true)) move_pair moving
+          (all_from (λ p. (mode_place q p.item at < length (window_of q).of) × (in_group x.names.now x.group (slice_index (window_of q).of (mode_place q p.item at)) ≡ true)) moving (λ p among.
+          let mine = moving_own p among in
           let place = mode_own q p.item at mine.0 within in
           (omega (arith, place.within, length-places q), ap (in_group x.names.now x.group) place.own ∙ mine.1)))
 
+      -- a solution that has the moved pairs has all pairs in its state
+      extends_state : (values costs : List ℕ) → IsWindow q values costs → Extends values (moved moving) → Extends (state_at q values at) cube
+      extends_state values costs h extends = all_from (λ p. slice_get (state_at q values at) p.item ≡ Some p.value) cube (λ p among.
+          let mine = own p (in_pairs p among) in
+          stands_in q values h.places at within p.item p.value mine.0 (elim (cases_Bool (stands_still x p.item)) [
+            | inl still ↦
+                slice_get-get_or values (mode_place q p.item at) 0 (place_inside q values h.places at within p.item mine.0)
+                ∙ ap Some (x.stands.each p.item mine.0 still values (slice_index costs p.item) (h.walks p.item mine.0) at within ∙ sym (mine.2 ∙ still_mode p.item still))
+            | inr moves ↦
+                All-contains (λ p. slice_get values p.item ≡ Some p.value) (moved moving) (move_pair p) extends
+                (contains_map move_pair moving p (to_filter (λ p. not (stands_still x p.item)) cube p (ap not moves) among))
+          ]))
+
       -- and if they clash, no trajectory has them
-      pub moved_clash : Clash q.model (record_at q at).seen cube → IsClashOf x (moved cube)
+      pub moved_clash : Clash q.model (record_at q at).seen cube → IsClashOf x (moved moving)
       moved_clash clash = record {
         own = record { held = moved_held; own = moved_own };
         clash = λ values costs h extends.
             clash (state_at q values at) (walked_state q values h.places at within asked (λ c inside. (slice_index costs c, h.walks c inside)))
-            (extends_state values costs cube part_within h extends) (h.shows at within);
+            (extends_state values costs h extends) (h.shows at within);
       }
 
     -- a state that extends the pairs of all components is the one behind the record
-    shown_state : (s : List ℕ) → IsState q.model s → Extends s pairs → IsWhole (window_of q) x.names.now x.group → s ≡ state_at q x.values.now at
-    shown_state s state extends whole =
+    shown_state : AreWalks x → (s : List ℕ) → IsState q.model s → Extends s pairs → IsWhole (window_of q) x.names.now x.group → s ≡ state_at q x.values.now at
+    shown_state walks s state extends whole =
         let as_long : length s ≡ length (state_at q x.values.now at) = state.full ∙ sym (length-state q x.values.now x.full at within) in
         ext_get_or 0 s (state_at q x.values.now at) as_long (λ c below.
         let inside : c < length q.model.components = omega (arith, below, state.full) in
-        let mode : ℕ = slice_index x.values.now (mode_place q c at) in
-        get_or_from_slice_get s c mode 0 (All-contains (λ p. slice_get s p.item ≡ Some p.value) pairs (record { item = c; value = mode }) extends (are.whole c inside (whole c inside)))
-        ∙ sym (mode_in q x.values.now x.full at within c 0 inside))
+        let (cost, walk) = walks c inside (whole c inside) in
+        let among = are.whole c inside (or_left (in_group x.names.now x.group c) (stands_still x c) (whole c inside)) in
+        let there : mode_asked x at c ≡ slice_index x.values.now (mode_place q c at) = elim (cases_Bool (stands_still x c)) [
+          | inl still ↦ still_mode c still ∙ sym (x.stands.each c inside still x.values.now cost walk at within)
+          | inr moves ↦ moving_mode c moves
+        ] in
+        get_or_from_slice_get s c (mode_asked x at c) 0 (All-contains (λ p. slice_get s p.item ≡ Some p.value) pairs (record { item = c; value = mode_asked x at c }) extends among)
+        ∙ there ∙ sym (mode_in q x.values.now x.full at within c 0 inside))
 
-    pub none_shows : IsShowable q.model (record_at q at).seen pairs → IsWhole (window_of q) x.names.now x.group → CanShow q.model (state_at q x.values.now at) (record_at q at).seen
-    none_shows shown whole = subst (λ s. CanShow q.model s (record_at q at).seen) (shown_state shown.0 shown.1 shown.2 whole) shown.3
+    pub none_shows : AreWalks x → IsShowable q.model (record_at q at).seen pairs → IsWhole (window_of q) x.names.now x.group → CanShow q.model (state_at q x.values.now at) (record_at q at).seen
+    none_shows walks shown whole = subst (λ s. CanShow q.model s (record_at q at).seen) (shown_state walks shown.0 shown.1 shown.2 whole) shown.3

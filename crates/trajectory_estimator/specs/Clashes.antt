@@ -1,5 +1,5 @@
 -- Clashes of walks: values of a group's components that no trajectory has together.
-use Rattle.std.specs.Prelude.{◌≡◌, ◌≢◌, ◌<◌, ◌==◌, ◌||◌, ℕ, Bool, true, List, length, map, All, Contains, Some, slice_get, slice_index}
+use Rattle.std.specs.Prelude.{◌≡◌, ◌≢◌, ◌<◌, ◌==◌, ◌||◌, ℕ, Bool, true, false, cond, List, length, map, All, Contains, Some, slice_get, slice_index, slice_index_or}
 use Rattle.cca_base.specs.declared.cube.Pair.{Pair}
 use Rattle.cca_base.specs.declared.model.Move.{Move}
 use Rattle.cca_base.specs.MoveIndex.{IsMoveNamed}
@@ -15,12 +15,22 @@ use Rattle.trajectory_estimator.specs.declared.group_paths.GroupPaths.{GroupPath
 abbrev pub AreWalks : GroupPaths → Type 0
 AreWalks x = (c : ℕ) → c < length x.query.now.model.components → in_group x.names.now x.group c ≡ true → (cost : ℕ) × IsWalk x.query.now c x.values.now cost
 
--- exactly the group's components, each with its mode behind the record
+-- whether the component stands still
+abbrev pub stands_still : GroupPaths → ℕ → Bool
+stands_still x c = slice_index_or x.still.now c false
+
+-- whether a mode of the component is asked for: those of the group's components are, and those of components that stand still
+abbrev pub is_asked : GroupPaths → ℕ → Bool
+is_asked x c = in_group x.names.now x.group c || stands_still x c
+
+-- the mode of the anchor where it stands still, and else the one behind the record
+abbrev pub mode_asked : GroupPaths → ℕ → ℕ → ℕ
+mode_asked x at c = cond (stands_still x c) (slice_index x.query.now.anchor c) (slice_index x.values.now (mode_place x.query.now c at))
+
+-- exactly the components that are asked for, each with that mode
 pub record ArePairsAt (x : GroupPaths) (at : ℕ) (pairs : List Pair) : Type 0 where
-  pub own : All (λ p. (p.item < length x.query.now.model.components) × (in_group x.names.now x.group p.item ≡ true)
-      × (p.value ≡ slice_index x.values.now (mode_place x.query.now p.item at))) pairs
-  pub whole : (c : ℕ) → c < length x.query.now.model.components → in_group x.names.now x.group c ≡ true
-      → Contains pairs (record { item = c; value = slice_index x.values.now (mode_place x.query.now c at) })
+  pub own : All (λ p. (p.item < length x.query.now.model.components) × (is_asked x p.item ≡ true) × (p.value ≡ mode_asked x at p.item)) pairs
+  pub whole : (c : ℕ) → c < length x.query.now.model.components → is_asked x c ≡ true → Contains pairs (record { item = c; value = mode_asked x at c })
 
 -- the pairs, at the places of their components' modes behind the record
 abbrev pub AreMoved : Asked → ℕ → List Pair → List Pair → Type 0

@@ -82,7 +82,7 @@ AreRests x room = AreRestsFrom x 0 room
 
 -- ---- a column
 
--- the component's values and cost are a walk of least cost inside the sets; nothing else is changed
+-- the component's values and cost are a walk of least cost inside the sets
 pub record IsFollowed (x : ComponentQuery) (old new : Columns) : Type 0 where
   pub inside : IsInside (window_of x.query.now) (itself x.component) x.masks.now new.values
   pub walk : IsWalk x.query.now x.component new.values (slice_index new.costs x.component)

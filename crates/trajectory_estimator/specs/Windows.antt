@@ -1,6 +1,6 @@
 -- A window as a question of paths: each component walks through it, with the gates that its commands really have, and each state has a world
 -- that agrees with what is seen.
-use Rattle.std.specs.Prelude.{◌≡◌, ◌<◌, ◌+◌, ◌*◌, ℕ, zero, suc, Bool, true, List, [], ◌++◌, length, take, drop, map, slice_index}
+use Rattle.std.specs.Prelude.{◌≡◌, ◌<◌, ◌+◌, ◌*◌, ℕ, zero, suc, Bool, true, false, List, [], ◌++◌, length, take, drop, map, slice_index, slice_index_or}
 use Rattle.cca_base.specs.Model.{HasMode}
 use Rattle.cca_base.specs.declared.model.Move.{Move}
 use Rattle.cca_base.specs.Relations.{numbers_below}
@@ -57,6 +57,15 @@ window_of q = record {
   has_cost = λ c values cost. IsWalk q c values cost;
   solves = IsWindow q;
 }
+
+-- the component stands in the anchor's mode behind each record, whatever its walk
+abbrev pub IsStill : Asked → ℕ → Type 0
+IsStill q c = (values : List ℕ) (cost : ℕ) → IsWalk q c values cost → (at : ℕ) → at < length q.records → slice_index values (mode_place q c at) ≡ slice_index q.anchor c
+
+-- a word for each component; what is said to be still is
+pub record AreStill (q : Asked) (still : List Bool) : Type 0 where
+  pub full : length still ≡ length q.model.components
+  pub each : (c : ℕ) → c < length q.model.components → slice_index_or still c false ≡ true → IsStill q c
 
 -- sets with all modes of each component behind each record, and with all that a gate may be
 pub record AreFirstMasks (q : Asked) (masks : List ℕ) : Type 0 where

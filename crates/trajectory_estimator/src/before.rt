@@ -110,7 +110,7 @@ impl<'a> Before<'a> {
         None
     }
 
-    /// The first cube that is known to stand. None comes exactly where there is none.
+    /// A cube that is known to stand. None comes exactly where there is none.
     pub(crate) fn standing<'b>(&self, ways: &'b [Cube]) -> Option<&'b Cube>
         requires { All (All (λ p. p.item < length self.now.modes.now)) ways.now }
         ensures some { IfSome result (λ cube. Contains ways.now cube.now) }
@@ -125,8 +125,8 @@ impl<'a> Before<'a> {
         None
     }
 
-    /// Adds that the component stands in the mode before the record, unless it is there. Before the window nothing is added. The error
-    /// is out of memory.
+    /// Sees to it that the cut says that the component stands in the mode before the record. Before the window it always does. The
+    /// error is out of memory.
     pub(crate) fn blame(&self, cut: &mut Cube, pair: Pair) -> Result<(), AllocError>
         requires known { IsKnown self.now pair }
         requires own { AreOwn self.now.paths cut.old }

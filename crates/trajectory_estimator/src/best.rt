@@ -14,13 +14,14 @@ use crate::paths::WindowPaths;
 use crate::places::{components_of, first_masks};
 use crate::query::Query;
 use crate::record::Record;
+use crate::still::still_components;
 use crate::trajectory::Trajectory;
 use cca_base::{Compiled, List, State, numbers_below};
 use consistency::{WorldSpace, Worlds};
 use group_search::{Chosen, group_cost, least_solution};
 use std::alloc::{AllocError, Global};
 
-/// The modes of so many components from a place on, as a state. The error is out of memory.
+/// These modes, as a state. The error is out of memory.
 fn state_of(alloc: Global, modes: &[u8]) -> Result<State, AllocError>
     ensures { IfOk result (λ s. s.modes ≡ modes.now) }
 {
@@ -58,9 +59,11 @@ pub(crate) fn best_of(
 {
     let alloc = query.alloc();
     let components = components_of(query)?;
+    let still = still_components(query)?;
     let paths = WindowPaths {
         query,
         components: components.as_slice(),
+        still: still.as_slice(),
     };
     let masks = first_masks(query)?;
     let modes = query.records().len() * query.model().components().len();

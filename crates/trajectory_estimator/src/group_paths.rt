@@ -4,7 +4,7 @@ ghost use Rattle.std.specs.Prelude.{◌≡◌, ◌<◌, length};
 ghost use Rattle.group_search.specs.Questions.{in_group};
 ghost use Rattle.trajectory_estimator.specs.Queries.{IsAsked};
 ghost use Rattle.trajectory_estimator.specs.Walks.{places};
-ghost use Rattle.trajectory_estimator.specs.Windows.{state_at};
+ghost use Rattle.trajectory_estimator.specs.Windows.{AreStill, state_at};
 
 use crate::query::Query;
 use group_search::is_in_group;
@@ -16,7 +16,10 @@ pub(crate) struct GroupPaths<'a> {
     pub values: &'a [u8],
     pub names: &'a [u16],
     pub group: Option<u16>,
+    /// Which components stand still through the window.
+    pub still: &'a [bool],
     ghost full: { length values.now ≡ places query.now },
+    ghost stands: { AreStill query.now still.now },
     ghost named: { length names.now ≡ length query.now.model.components },
 }
 

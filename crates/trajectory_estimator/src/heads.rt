@@ -17,7 +17,7 @@ use crate::rests::{put, row_of};
 use crate::step::{Ahead, Step, step_to};
 use cca_base::{List, MAX_CHOICES};
 
-/// The less of the costs, where the first may be missing.
+/// No more than either cost, of which the first may be missing.
 pub(crate) fn with_cost(least: Option<u64>, cost: u64) -> Option<u64>
     ensures here { (most : ℕ) → cost ≤ most → AtMost result most }
     ensures kept { (most : ℕ) → AtMost least most → AtMost result most }
@@ -66,7 +66,7 @@ fn take_heads(
     }
 }
 
-/// Writes that nothing stands before a record for any of so many modes.
+/// Clears the row before a record for so many modes; no other row is changed.
 fn clear_row(room: &mut List<Option<u64>>, at: usize, modes: usize)
     requires row { (at + 1) * MAX_CHOICES ≤ length room.old }
     requires modes { modes ≤ MAX_CHOICES }

@@ -22,6 +22,7 @@ mod rests;
 mod revised;
 mod shown;
 mod step;
+mod still;
 mod tracker;
 mod trajectory;
 mod window;

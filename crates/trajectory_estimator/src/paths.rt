@@ -3,7 +3,7 @@
 ghost use Rattle.std.specs.Prelude.{◌≡◌, ◌≤◌, All, length};
 ghost use Rattle.cca_base.specs.declared.limits.TheConstants.{MAX_COMPONENTS, MAX_COST};
 ghost use Rattle.trajectory_estimator.specs.declared.record.TheConstants.{MAX_WINDOW};
-ghost use Rattle.trajectory_estimator.specs.Windows.{window_of};
+ghost use Rattle.trajectory_estimator.specs.Windows.{AreStill, window_of};
 
 use crate::component_query::ComponentQuery;
 use crate::follow::follow;
@@ -24,9 +24,12 @@ use std::alloc::{AllocError, Global};
 pub(crate) struct WindowPaths<'a> {
     pub query: &'a Query<'a>,
     pub components: &'a [u16],
+    /// Which components stand still through the window.
+    pub still: &'a [bool],
     ghost few_components: { length query.now.model.components ≤ MAX_COMPONENTS },
     ghost few_records: { length query.now.records ≤ MAX_WINDOW },
     ghost cheap: { All (λ failure. failure.cost ≤ MAX_COST) query.now.model.failures },
+    ghost stands: { AreStill query.now still.now },
     ghost places: { components.now ≡ (window_of query.now).of },
 }
 
@@ -85,6 +88,7 @@ impl<'a> Paths<WorldSpace> for WindowPaths<'a> {
             values,
             names,
             group,
+            still: self.still,
         };
         let count = self.query.records().len();
         for done in 0..count {

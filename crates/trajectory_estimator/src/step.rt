@@ -31,7 +31,7 @@ pub(crate) struct Step {
     pub total: u64,
 }
 
-/// The step of less cost, or the first where both cost the same.
+/// The step of less cost, if there is one.
 fn lesser(first: Option<Step>, second: Option<Step>) -> Option<Step>
     ensures none { IsNone result → IsNone first × IsNone second }
     ensures one { IfSome result (λ s. (first ≡ Some s) ⊎ (second ≡ Some s)) }
@@ -69,7 +69,7 @@ pub(crate) fn step_by(leaving: &Leaving<'_>, ahead: &Ahead<'_>, to: u8, gate: u8
     })
 }
 
-/// The least step to a mode: by a gate that may be either, where the others cost the same.
+/// The least step to a mode. None comes exactly where there is none.
 pub(crate) fn step_to(leaving: &Leaving<'_>, ahead: &Ahead<'_>, to: u8) -> Option<Step>
     requires to { to < length leaving.now.failures.now }
     requires few { to < MAX_CHOICES }
@@ -84,7 +84,7 @@ pub(crate) fn step_to(leaving: &Leaving<'_>, ahead: &Ahead<'_>, to: u8) -> Optio
     lesser(lesser(either, open), shut)
 }
 
-/// The least step from the mode, to the first mode among equals. None comes exactly where there is none.
+/// The least step from the mode. None comes exactly where there is none.
 pub(crate) fn least_step(leaving: &Leaving<'_>, ahead: &Ahead<'_>) -> Option<Step>
     requires few { length leaving.now.failures.now ≤ MAX_CHOICES }
     requires rests { length ahead.now.rests.now ≡ MAX_CHOICES }

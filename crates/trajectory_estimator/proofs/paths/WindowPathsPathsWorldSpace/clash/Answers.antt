@@ -10,7 +10,7 @@ pub loop-done-init : goal.loop-done-init
 loop-done-init c = record { space = c.requires.space; stand = λ whole at within late. absurd (omega arith) }
 
 pub invariant_of-paths : goal.invariant_of-paths
-invariant_of-paths c = record { full = c.requires.paths.places ∙ length-places c.args.self.now.query.now; named = c.requires.names }
+invariant_of-paths c = record { full = c.requires.paths.places ∙ length-places c.args.self.now.query.now; stands = c.args.self.now.stands; named = c.requires.names }
 
 pub loop-done-preserved : goal.loop-done-preserved
 loop-done-preserved c =
