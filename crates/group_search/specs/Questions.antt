@@ -4,9 +4,9 @@ use Rattle.cca_base.specs.Sets.{has}
 use Rattle.cca_base.specs.State.{Extends}
 use Rattle.cca_base.specs.declared.cube.Pair.{Pair}
 
--- components have places, and each place takes a value: the component of each place; how many components there are; how much room is wanted to find a component's path;
--- what a component costs where the places have these values, if it can have those of its own places; and which values of all places are a solution, with what each
--- component costs
+-- components have places, and each place takes a value. A question says which component each place is of, how many components there are, and how much room the search for
+-- a component's path wants. It says what a component costs where the places have these values, if it can have its own; and which values are a solution, with
+-- what each component costs
 pub record Question : Type 1 where
   pub of : List ℕ
   pub count : ℕ

@@ -32,7 +32,7 @@ fn members_of(alloc: Global, names: &[u16], group: Option<u16>) -> Result<List<u
     Ok(members)
 }
 
-/// Whether the cut may be of the group: its first pair is.
+/// Whether the cut may be of the group: its first pair is. What is listed is for speed alone.
 fn may_be_of(names: &[u16], group: Option<u16>, components: &[u16], cut: &Cube) -> bool {
     if cut.len() == 0 {
         return false;
@@ -44,7 +44,7 @@ fn may_be_of(names: &[u16], group: Option<u16>, components: &[u16], cut: &Cube) 
     is_in_group(names, group, components[place])
 }
 
-/// The places of the cuts that may be of the group. The error is out of memory.
+/// The places of the cuts that may be of the group, for speed alone. The error is out of memory.
 pub(crate) fn cuts_of(
     alloc: Global,
     names: &[u16],

@@ -89,7 +89,7 @@ impl PathBox {
         self.stands.set(component as usize, stands);
     }
 
-    /// From now on the place may have these values, of those that it might have before. The column stays where its value is one of them.
+    /// From now on the place may have these values, of those that it might have before.
     pub fn narrow<P: Paths<S>, S>(&mut self, problem: &P, place: u16, mask: u64)
         requires ready { IsBox (P.means.question problem.now) self.old }
         requires place { place < length (P.means.question problem.now).of }

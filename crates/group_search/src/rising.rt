@@ -1,4 +1,4 @@
-//! The search of a group by limits that rise from its floor (iterative deepening): boxes far above the least cost are never asked for.
+//! The search of a group by limits that rise from its floor (iterative deepening), so that boxes far above the least cost aren't asked for.
 
 ghost use Rattle.std.specs.Prelude.{◌≡◌, ◌⊎◌, ◌<◌, ◌≤◌, IfOk, IfSome, IsNone};
 ghost use Rattle.group_search.specs.Questions.{CostsAtLeast, cost_in, in_group};
@@ -11,7 +11,7 @@ use crate::question::Paths;
 use crate::work::Work;
 use std::alloc::{AllocError, Global};
 
-/// The limit behind one that was too low, twice as far above the floor, up to the last one.
+/// The limit behind one that was too low: twice as far above the floor and one more, up to the last one.
 fn next_limit(floor: u64, low: u64, limit: u64) -> u64
     requires floor { floor ≤ low }
     requires low { low < limit }

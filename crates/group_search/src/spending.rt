@@ -38,7 +38,7 @@ impl Spending {
         Ok(Spending { spent, named })
     }
 
-    /// Nothing was spent at these components.
+    /// Begins again at these components; what stands as spent may be anything.
     fn clear(&mut self, members: &[u16])
         requires { length self.old.named ≡ length self.old.spent }
         ensures spent { length self.new.spent ≡ length self.old.spent }

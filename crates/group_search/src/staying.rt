@@ -36,8 +36,8 @@ fn least_cost(names: &[u16], group: u16, boxed: &PathBox) -> Option<u64>
     Some(cost)
 }
 
-/// Whether no solution below the limit has a lower value at the place: where the component's least path has the value, each solution
-/// that leaves it pays the price beside the least paths of its group and the floors of the others.
+/// True comes only where no solution below the limit has a lower value at the place. Where the component's least path has the value, a
+/// solution that leaves it pays the price, beside the least paths of its group and the floors of the others.
 pub(crate) fn keeps_value<P: Paths<S>, S>(
     problem: &P,
     work: &Work,
