@@ -1,5 +1,5 @@
 -- The least of steps, joined from two parts.
-use Rattle.std.proofs.Common.{◌≡◌, ◌⊎◌, ℕ, zero, suc, ◌<◌, ◌≤◌, ◌+◌, true, true≢false, length, slice_index_or, Option, Some, None, IfSome, IsNone, refl, sym, subst, ◌∙◌, inl, inr, arith}
+use Rattle.std.proofs.Common.{◌≡◌, ◌⊎◌, ℕ, zero, suc, ◌<◌, ◌≤◌, ◌+◌, Bool, true, false, true≢false, length, slice_index_or, Option, Some, None, IfSome, IsNone, refl, sym, subst, ◌∙◌, inl, inr, arith}
 use Rattle.std.proofs.lemmas.Bool.{cases_lt}
 use Rattle.std.proofs.lemmas.Option.{same_Some}
 use Rattle.cca_base.specs.Model.{WellFormed}
@@ -7,7 +7,7 @@ use Rattle.cca_base.specs.Sets.{has}
 use Rattle.trajectory_estimator.specs.Asked.{Asked}
 use Rattle.trajectory_estimator.specs.Steps.{IsLeaving, IsLeastOf, IsStep, IsStepCost, IsStepTo, IsStepToBy}
 use Rattle.trajectory_estimator.specs.WalkLaws.{step_mode}
-use Rattle.trajectory_estimator.specs.Walks.{StepBy}
+use Rattle.trajectory_estimator.specs.Walks.{StepBy, stands_for}
 use Rattle.trajectory_estimator.specs.declared.leaving.Leaving.{Leaving}
 use Rattle.trajectory_estimator.specs.declared.step.Ahead.{Ahead}
 use Rattle.trajectory_estimator.specs.declared.step.Step.{Step}
@@ -78,10 +78,34 @@ module _ (q : Asked) (c at from : ℕ) (ahead : Ahead) (to : ℕ) where
       named (suc (suc zero)) e small = inl (inl (is, e))
       named (suc (suc (suc gate))) e small = absurd (omega arith)
 
-  -- the least by the first two values
-  pub by_two : (a b o : Option Step) → IsLeastOf (By 2) a → IsLeastOf (By 1) b
-      → (IsNone o → IsNone a × IsNone b) → IfSome o (λ s. (a ≡ Some s) ⊎ (b ≡ Some s)) → IfSome o (λ s. IfSome a (λ t. s.total ≤ t.total) × IfSome b (λ t. s.total ≤ t.total)) → IsLeastOf ByOpen o
-  by_two = join (By 2) (By 1) ByOpen (λ s is. inl is) (λ s is. inr is) (λ s is. is)
+  -- the step by either is the least: by one gate it costs the same
+  pub by_either : (s : Step) → WellFormed q.model → IsLeastOf (By 2) (Some s) → IsLeastOf (IsStepTo q c at from ahead to) (Some s)
+  by_either s good (is, least) = (is.0, λ t there. same t there)
+    where
+      -- by each gate for which a value stands
+      own_by : (gate : ℕ) → gate < 3 → StepBy q c at gate from to s.own
+      own_by gate small = record {
+        small = small;
+        each = λ g stands. (subst (λ v. StepBy q c at v from to s.own) is.1 (subst (λ z. StepBy q c at s.gate from z s.own) is.0.1 is.0.0.costs)).each g (either g);
+      }
+        where
+          either : (g : Bool) → stands_for 2 g ≡ true
+          either true = refl
+          either false = refl
+
+      same : (t : Step) → IsStepTo q c at from ahead to t → s.total ≤ t.total
+      same t (step, e) =
+          let costs : StepBy q c at t.gate from to t.own = subst (λ z. StepBy q c at t.gate from z t.own) e step.costs in
+          let cost : s.own ≡ t.own = step_one q c at t.gate from to s.own t.own good (own_by t.gate step.costs.small) costs in
+          let mine = subst (λ z. slice_index_or ahead.rests.now z None ≡ Some is.0.0.rest) is.0.1 is.0.0.behind in
+          let there = subst (λ z. slice_index_or ahead.rests.now z None ≡ Some step.rest) e step.behind in
+          let left : is.0.0.rest ≡ step.rest = same_Some is.0.0.rest step.rest (sym mine ∙ there) in
+          omega (arith, cost, left, is.0.0.total, step.total)
+
+  -- where there is none by either, the least by an open gate
+  pub beside_none : (b : Option Step) → IsLeastOf (By 2) None → IsLeastOf (By 1) b → IsLeastOf ByOpen b
+  beside_none None h k = λ s is. elim is [ inl two ↦ h s two | inr one ↦ k s one ]
+  beside_none (Some s) h k = (inr k.0, λ t is. elim is [ inl two ↦ absurd (h t two) | inr one ↦ k.1 t one ])
 
   -- with the third, the least of all
   pub by_all : (a b o : Option Step) → IsLeastOf ByOpen a → IsLeastOf (By 0) b

@@ -1,5 +1,5 @@
 -- Steps of a component from one mode at a record, and the least of them.
-use Rattle.std.specs.Prelude.{◌≡◌, ◌<◌, ◌≤◌, ◌+◌, ℕ, true, List, length, Option, Some, None, slice_index, slice_index_or}
+use Rattle.std.specs.Prelude.{◌≡◌, ◌<◌, ◌≤◌, ◌+◌, ◌*◌, ℕ, true, List, length, Option, Some, None, slice_index, slice_index_or}
 use Rattle.cca_base.specs.Model.{HasMode, WellFormed, mode_counts}
 use Rattle.cca_base.specs.PlantModel.{PlantModel}
 use Rattle.cca_base.specs.Sets.{has}
@@ -8,8 +8,11 @@ use Rattle.cca_base.specs.declared.model.Move.{Move}
 use Rattle.successors.specs.Choices.{AreLeast}
 use Rattle.trajectory_estimator.specs.Asked.{Asked}
 use Rattle.trajectory_estimator.specs.Walks.{StepBy, record_at}
+use Rattle.trajectory_estimator.specs.declared.leaving.GateCosts.{GateCosts}
 use Rattle.trajectory_estimator.specs.declared.leaving.Leaving.{Leaving}
+use Rattle.trajectory_estimator.specs.declared.record.TheConstants.{MAX_WINDOW}
 use Rattle.trajectory_estimator.specs.declared.step.Ahead.{Ahead}
+use Rattle.trajectory_estimator.specs.declared.step.Reach.{Reach}
 use Rattle.trajectory_estimator.specs.declared.step.Step.{Step}
 use Rattle.window_laws.specs.Columns.{IsOwn, Sends}
 
@@ -38,6 +41,12 @@ abbrev pub IsStepCost : Asked → ℕ → ℕ → ℕ → ℕ → ℕ → Option
 IsStepCost q c at value from to None = (own : ℕ) → StepBy q c at value from to own → ⊥
 IsStepCost q c at value from to (Some own) = StepBy q c at value from to own × (own ≤ MAX_COST)
 
+-- what the steps cost by a gate that is shut, open, or either
+pub record AreCosts (q : Asked) (c at from to : ℕ) (costs : GateCosts) : Type 0 where
+  pub shut : IsStepCost q c at 0 from to costs.shut
+  pub opened : IsStepCost q c at 1 from to costs.open
+  pub either : IsStepCost q c at 2 from to costs.either
+
 -- a step from the mode to one of the modes, by one of the gates, with what comes behind it
 pub record IsStep (q : Asked) (c at from : ℕ) (ahead : Ahead) (s : Step) : Type 0 where
   pub to : has ahead.modes s.to ≡ true
@@ -59,6 +68,16 @@ IsStepTo q c at from ahead to s = IsStep q c at from ahead s × (s.to ≡ to)
 -- a step to this mode by this gate
 abbrev pub IsStepToBy : Asked → ℕ → ℕ → ℕ → Ahead → ℕ → ℕ → Step → Type 0
 IsStepToBy q c at from ahead to gate s = IsStepTo q c at from ahead to s × (s.gate ≡ gate)
+
+-- the mode is one of those to which steps may lead, with what they cost and what comes behind them
+pub record IsReach (q : Asked) (c at from : ℕ) (ahead : Ahead) (to : ℕ) (r : Reach) : Type 0 where
+  pub model : WellFormed q.model
+  pub target : r.to ≡ to
+  pub mode : has ahead.modes to ≡ true
+  pub gates : r.gates ≡ ahead.gates
+  pub costs : AreCosts q c at from to r.costs
+  pub behind : slice_index_or ahead.rests.now to None ≡ Some r.rest
+  pub cheap : r.rest ≤ MAX_WINDOW * MAX_COST
 
 -- what stands for the modes below a number costs at most this
 abbrev pub AreCheap : ℕ → ℕ → List (Option ℕ) → Type 0

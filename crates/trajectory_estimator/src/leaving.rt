@@ -3,7 +3,7 @@
 ghost use Rattle.std.specs.Prelude.{◌≡◌, ◌<◌, ℕ, IfSome, IsNone, Some, length};
 ghost use Rattle.cca_base.specs.Prelude.{HasMode};
 ghost use Rattle.trajectory_estimator.specs.Asked.{Asked};
-ghost use Rattle.trajectory_estimator.specs.Steps.{IsLeaving, IsStepCost};
+ghost use Rattle.trajectory_estimator.specs.Steps.{AreCosts, IsLeaving, IsStepCost};
 
 use crate::moved::own_target;
 use crate::query::Query;
@@ -17,6 +17,31 @@ pub(crate) const OPEN: u8 = 1;
 
 /// A gate that may be either: the step costs the same by both.
 pub(crate) const EITHER: u8 = 2;
+
+/// What steps from one mode to another cost. None stands where there is no such step.
+#[derive(Clone, Copy, Debug)]
+pub(crate) struct GateCosts {
+    /// By a gate that is shut.
+    pub shut: Option<u64>,
+    /// By a gate that is open.
+    pub open: Option<u64>,
+    /// By either, where both cost the same.
+    pub either: Option<u64>,
+}
+
+impl GateCosts {
+    /// What the step costs by what the value stands for. None comes exactly where there is no such step.
+    pub(crate) fn by(&self, value: u8) -> Option<u64>
+        ensures { (q : Asked) (c at from to : ℕ) → AreCosts q c at from to self.now → IsStepCost q c at value from to result }
+    {
+        match value {
+            SHUT => self.shut,
+            OPEN => self.open,
+            EITHER => self.either,
+            _ => None,
+        }
+    }
+}
 
 /// A component that leaves a mode at a record.
 #[derive(Clone, Copy, Debug)]
@@ -53,19 +78,18 @@ impl<'a> Leaving<'a> {
         }
     }
 
-    /// What the step to a mode costs by what the value stands for. None comes exactly where there is no such step.
-    pub(crate) fn cost_by(&self, to: u8, value: u8) -> Option<u64>
+    /// What the steps to a mode cost, by what a gate's value stands for.
+    pub(crate) fn costs_to(&self, to: u8) -> GateCosts
         requires { to < length self.now.failures.now }
-        ensures { (q : Asked) (c at : ℕ) → IsLeaving q c at self.now → IsStepCost q c at value self.now.from to result }
+        ensures { (q : Asked) (c at : ℕ) → IsLeaving q c at self.now → AreCosts q c at self.now.from to result }
     {
         let failure = self.failures[to as usize];
         let shut = change(to, self.from, failure);
         let open = change(to, self.open, failure);
-        match value {
-            SHUT => shut,
-            OPEN => open,
-            EITHER => same_cost(shut, open),
-            _ => None,
+        GateCosts {
+            shut,
+            open,
+            either: same_cost(shut, open),
         }
     }
 }

@@ -5,17 +5,18 @@ ghost use Rattle.cca_base.specs.declared.limits.TheConstants.{MAX_CHOICES, MAX_C
 ghost use Rattle.group_search.specs.Columns.{AreColumns, CostsMore};
 ghost use Rattle.trajectory_estimator.specs.Asked.{Asked};
 ghost use Rattle.trajectory_estimator.specs.Rests.{AreHeads, AreInside, ArePricedTo, AreRests, AtMost, KeepsPrices, KeepsTaken, TakesIn, TakesSteps, modes_of, whole_cost};
-ghost use Rattle.trajectory_estimator.specs.Steps.{AreCheap, IsLeaving, IsStep, IsStepTo, IsStepToBy};
+ghost use Rattle.trajectory_estimator.specs.Steps.{AreCheap, IsLeaving, IsReach, IsStep, IsStepTo, IsStepToBy};
 ghost use Rattle.trajectory_estimator.specs.Walks.{gate_place, mode_place, places};
 ghost use Rattle.trajectory_estimator.specs.Windows.{window_of};
 ghost use Rattle.trajectory_estimator.specs.declared.record.TheConstants.{MAX_WINDOW};
+ghost use Rattle.trajectory_estimator.specs.declared.step.Ahead.{Ahead};
 ghost use Rattle.trajectory_estimator.specs.declared.step.Step.{Step};
 
 use crate::component_query::ComponentQuery;
 use crate::heads::with_cost;
 use crate::leaving::{EITHER, Leaving, OPEN, SHUT};
 use crate::rests::row_of;
-use crate::step::{Ahead, Step, step_by};
+use crate::step::{Ahead, Reach, Step};
 use group_search::Columns;
 
 /// What walks through a record cost to the end, beside the least walk.
@@ -46,17 +47,13 @@ impl Passed {
         }
     }
 
-    /// Takes in the step to a mode by a gate, if there is one.
-    fn take_by(&mut self, head: u64, leaving: &Leaving<'_>, ahead: &Ahead<'_>, to: u8, gate: u8)
-        requires to { to < length leaving.now.failures.now }
-        requires few { to < MAX_CHOICES }
-        requires rests { length ahead.now.rests.now ≡ MAX_CHOICES }
-        requires cheap { AreCheap (length leaving.now.failures.now) (MAX_WINDOW * MAX_COST) ahead.now.rests.now }
-        ensures taken { (q : Asked) (c at : ℕ) → IsLeaving q c at leaving.now → (s : Step) →
-            IsStepToBy q c at leaving.now.from ahead.now to gate s → TakesIn head s self.new }
+    /// Takes in the step by a gate, if there is one.
+    fn take_by(&mut self, head: u64, reach: &Reach, gate: u8)
+        ensures taken { (q : Asked) (c at from to : ℕ) (ahead : Ahead) → IsReach q c at from ahead to reach.now → (s : Step) →
+            IsStepToBy q c at from ahead to gate s → TakesIn head s self.new }
         ensures kept { KeepsTaken self.old self.new }
     {
-        if let Some(step) = step_by(leaving, ahead, to, gate) {
+        if let Some(step) = reach.by(gate) {
             self.take(head, step);
         }
     }
@@ -71,9 +68,12 @@ impl Passed {
             IsStepTo q c at leaving.now.from ahead.now to s → TakesIn head s self.new }
         ensures kept { KeepsTaken self.old self.new }
     {
-        self.take_by(head, leaving, ahead, to, EITHER);
-        self.take_by(head, leaving, ahead, to, OPEN);
-        self.take_by(head, leaving, ahead, to, SHUT);
+        let Some(reach) = Reach::of(leaving, ahead, to) else {
+            return;
+        };
+        self.take_by(head, &reach, EITHER);
+        self.take_by(head, &reach, OPEN);
+        self.take_by(head, &reach, SHUT);
     }
 
     /// Takes in the steps from a mode.

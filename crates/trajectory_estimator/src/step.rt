@@ -3,10 +3,10 @@
 ghost use Rattle.std.specs.Prelude.{◌≡◌, ◌<◌, ◌≤◌, ◌*◌, ◌⊎◌, ℕ, IfSome, IsNone, Some, length};
 ghost use Rattle.cca_base.specs.declared.limits.TheConstants.{MAX_CHOICES, MAX_COST};
 ghost use Rattle.trajectory_estimator.specs.Asked.{Asked};
-ghost use Rattle.trajectory_estimator.specs.Steps.{AreCheap, IsLeastOf, IsLeaving, IsStep, IsStepTo, IsStepToBy};
+ghost use Rattle.trajectory_estimator.specs.Steps.{AreCheap, IsLeastOf, IsLeaving, IsReach, IsStep, IsStepTo, IsStepToBy};
 ghost use Rattle.trajectory_estimator.specs.declared.record.TheConstants.{MAX_WINDOW};
 
-use crate::leaving::{EITHER, Leaving, OPEN, SHUT};
+use crate::leaving::{EITHER, GateCosts, Leaving, OPEN, SHUT};
 use group_search::has_value;
 
 /// What a step may be, and what comes behind it.
@@ -47,26 +47,67 @@ fn lesser(first: Option<Step>, second: Option<Step>) -> Option<Step>
     }
 }
 
-/// The step to a mode by a gate, if it may be.
-pub(crate) fn step_by(leaving: &Leaving<'_>, ahead: &Ahead<'_>, to: u8, gate: u8) -> Option<Step>
-    requires to { to < length leaving.now.failures.now }
-    requires few { to < MAX_CHOICES }
-    requires rests { length ahead.now.rests.now ≡ MAX_CHOICES }
-    requires cheap { AreCheap (length leaving.now.failures.now) (MAX_WINDOW * MAX_COST) ahead.now.rests.now }
-    ensures { (q : Asked) (c at : ℕ) → IsLeaving q c at leaving.now →
-        IsLeastOf (IsStepToBy q c at leaving.now.from ahead.now to gate) result }
-{
-    if !has_value(ahead.modes, to) || !has_value(ahead.gates, gate) {
-        return None;
+/// The steps to one mode that they may lead to.
+#[derive(Clone, Copy, Debug)]
+pub(crate) struct Reach {
+    pub to: u8,
+    /// What their gate may be.
+    pub gates: u64,
+    /// What they cost themselves.
+    pub costs: GateCosts,
+    /// What comes behind them.
+    pub rest: u64,
+}
+
+impl Reach {
+    /// The steps to the mode. None comes only where there are none.
+    pub(crate) fn of(leaving: &Leaving<'_>, ahead: &Ahead<'_>, to: u8) -> Option<Reach>
+        requires to { to < length leaving.now.failures.now }
+        requires few { to < MAX_CHOICES }
+        requires rests { length ahead.now.rests.now ≡ MAX_CHOICES }
+        requires cheap { AreCheap (length leaving.now.failures.now) (MAX_WINDOW * MAX_COST) ahead.now.rests.now }
+        ensures some { IfSome result (λ r. (q : Asked) (c at : ℕ) → IsLeaving q c at leaving.now → IsReach q c at leaving.now.from ahead.now to r) }
+        ensures none { IsNone result → (q : Asked) (c at : ℕ) (s : Step) → IsStepTo q c at leaving.now.from ahead.now to s → ⊥ }
+    {
+        if !has_value(ahead.modes, to) {
+            return None;
+        }
+        let rest = ahead.rests[to as usize]?;
+        Some(Reach {
+            to,
+            gates: ahead.gates,
+            costs: leaving.costs_to(to),
+            rest,
+        })
     }
-    let rest = ahead.rests[to as usize]?;
-    let own = leaving.cost_by(to, gate)?;
-    Some(Step {
-        to,
-        gate,
-        own,
-        total: own.saturating_add(rest),
-    })
+
+    /// The step by a gate, if it may be.
+    pub(crate) fn by(&self, gate: u8) -> Option<Step>
+        ensures { (q : Asked) (c at from to : ℕ) (ahead : Ahead) → IsReach q c at from ahead to self.now →
+            IsLeastOf (IsStepToBy q c at from ahead to gate) result }
+    {
+        if !has_value(self.gates, gate) {
+            return None;
+        }
+        let own = self.costs.by(gate)?;
+        Some(Step {
+            to: self.to,
+            gate,
+            own,
+            total: own.saturating_add(self.rest),
+        })
+    }
+
+    /// The least step. None comes exactly where there is none.
+    fn least(&self) -> Option<Step>
+        ensures { (q : Asked) (c at from to : ℕ) (ahead : Ahead) → IsReach q c at from ahead to self.now →
+            IsLeastOf (IsStepTo q c at from ahead to) result }
+    {
+        if let Some(step) = self.by(EITHER) {
+            return Some(step);
+        }
+        lesser(self.by(OPEN), self.by(SHUT))
+    }
 }
 
 /// The least step to a mode. None comes exactly where there is none.
@@ -78,10 +119,7 @@ pub(crate) fn step_to(leaving: &Leaving<'_>, ahead: &Ahead<'_>, to: u8) -> Optio
     ensures { (q : Asked) (c at : ℕ) → IsLeaving q c at leaving.now →
         IsLeastOf (IsStepTo q c at leaving.now.from ahead.now to) result }
 {
-    let either = step_by(leaving, ahead, to, EITHER);
-    let open = step_by(leaving, ahead, to, OPEN);
-    let shut = step_by(leaving, ahead, to, SHUT);
-    lesser(lesser(either, open), shut)
+    Reach::of(leaving, ahead, to)?.least()
 }
 
 /// The least step from the mode. None comes exactly where there is none.

@@ -1,11 +1,9 @@
-use Rattle.trajectory_estimator.proofs.LeastSteps.{by_two, by_all}
+use Rattle.std.proofs.Common.{refl, sym, subst}
+use Rattle.trajectory_estimator.specs.Steps.{IsLeastOf, IsStepTo}
 use Rattle.trajectory_estimator.proofs.step.step_to.Goals as goal
 
+pub returns-in_err-of : goal.returns-in_err-of
+returns-in_err-of c = λ q n at h. subst (IsLeastOf (IsStepTo q n at c.args.leaving.now.from c.args.ahead.now c.args.to)) (sym c.from_residual.ensures) (c.in_err-of.ensures.none refl q n at)
+
 pub returns : goal.returns
-returns c = λ q n at h.
-    let from = c.args.leaving.now.from in
-    let ahead = c.args.ahead.now in
-    by_all q n at from ahead c.args.to c.lesser.result c.step_by-shut.result c.lesser-2.result
-    (by_two q n at from ahead c.args.to c.step_by-either.result c.step_by-open.result c.lesser.result (c.step_by-either.ensures q n at h) (c.step_by-open.ensures q n at h)
-    c.lesser.ensures.none c.lesser.ensures.one c.lesser.ensures.least)
-    (c.step_by-shut.ensures q n at h) c.lesser-2.ensures.none c.lesser-2.ensures.one c.lesser-2.ensures.least
+returns c = λ q n at h. c.least.ensures q n at c.args.leaving.now.from c.args.to c.args.ahead.now (c.in_ok-of.ensures.some q n at h)
