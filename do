@@ -18,7 +18,7 @@ case "$1" in
     check) cd "crates/$2" && rt check ;;
     edits) edits "$2" ;;
     rows) cd crates/rows && rt run ;;
-    docs) sh docs/definitions >docs/DEFINITIONS.md && sh docs/check ;;
+    docs) sh docs/definitions >docs/DEFINITIONS.md && { made=$(sh docs/assurance) && printf '%s\n' "$made" >docs/ASSURANCE.md && sh docs/check; } ;;
     gate) sh .ci/run ;;
     *) echo "usage: ./do check CRATE | edits CRATE | rows | docs | gate" >&2; exit 2 ;;
 esac
