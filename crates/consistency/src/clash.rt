@@ -1,8 +1,8 @@
 //! Why no world of a state agrees with what is seen, as the estimates ask it: in memory that is made once for many questions.
 
-ghost use Rattle.std.specs.Prelude.{◌≡◌, ◌↔◌, All, IfOk, IfSome, IsNone};
+ghost use Rattle.std.specs.Prelude.{◌≡◌, ◌↔◌, ◌≤◌, true, false, All, IfOk, IfSome, IsNone, IsTrue, length};
 ghost use Rattle.cca_base.specs.Prelude.{CanShow, Clash, HasMode, HasValue, IsCube, IsPart, IsState};
-ghost use Rattle.consistency.specs.Cores.{IsClashOf, IsShowable};
+ghost use Rattle.consistency.specs.Cores.{IsClashOf, IsShowable, pairs_in};
 ghost use Rattle.consistency.specs.Spaces.{IsWorldSpace};
 ghost use Rattle.consistency.specs.Worlds.{AreWorldsOf};
 
@@ -10,9 +10,25 @@ use crate::asking::{ask, ask_state};
 use crate::minimal::cube_in;
 use crate::world_space::WorldSpace;
 use crate::worlds::Worlds;
+use bounded_list::BoundedList;
 use cca_base::{Cube, Model, Pair, Seen, State};
+use clash_analysis::{SubjectSet, has_subject};
 use std::alloc::{AllocError, Global};
 use world_search::{Answer, MAX_SLOTS};
+
+/// Writes those of the pairs that are of these subjects.
+fn write_in(subjects: &SubjectSet, pairs: &[Pair], among: &mut BoundedList<Pair>)
+    requires { length pairs.now ≤ among.old.room }
+    ensures items { among.new.items ≡ pairs_in subjects.now pairs.now }
+    ensures room { among.new.room ≡ among.old.room }
+{
+    among.clear();
+    for pair in pairs {
+        if has_subject(subjects, pair.item) {
+            among.push(*pair);
+        }
+    }
+}
 
 impl Worlds {
     /// Memory for questions of these worlds. The error is out of memory.
@@ -52,6 +68,58 @@ impl Worlds {
             Answer::Clash(blamed) => {
                 let pairs = &space.pairs.as_slice()[..state.modes.len()];
                 Ok(Some(cube_in(alloc, &blamed, pairs)?))
+            }
+        }
+    }
+
+    /// Whether the state has a world that agrees with what is seen. It takes no memory but the caller's.
+    pub fn agrees(
+        &self,
+        model: &Model,
+        state: &State,
+        seen: &[Pair],
+        space: &mut WorldSpace,
+    ) -> bool
+        requires of { AreWorldsOf model.now self.now }
+        requires state { IsState model.now state.now.modes }
+        requires seen { All (λ p. HasValue model.now p.item p.value) seen.now }
+        requires space { IsWorldSpace self.now space.old }
+        ensures agrees { IsTrue result ↔ CanShow model.now state.now.modes seen.now }
+        ensures space { IsWorldSpace self.now space.new }
+    {
+        match ask_state(model, &self.problem, state, seen, space) {
+            Answer::Agrees => true,
+            Answer::Clash(_blamed) => false,
+        }
+    }
+
+    /// Whether no state that extends modes of some components has a world that agrees with what is seen: a part of the modes is written
+    /// then that is to blame. It takes no memory but the caller's.
+    pub fn clash_into(
+        &self,
+        model: &Model,
+        modes: &[Pair],
+        seen: &[Pair],
+        space: &mut WorldSpace,
+        clash: &mut BoundedList<Pair>,
+    ) -> bool
+        requires of { AreWorldsOf model.now self.now }
+        requires cube { IsCube modes.now }
+        requires modes { All (λ p. HasMode model.now p.item p.value) modes.now }
+        requires seen { All (λ p. HasValue model.now p.item p.value) seen.now }
+        requires space { IsWorldSpace self.now space.old }
+        requires room { length modes.now ≤ clash.old.room }
+        ensures part { result ≡ true → IsPart clash.new.items modes.now }
+        ensures clash { result ≡ true → Clash model.now seen.now clash.new.items }
+        ensures none { (result ≡ false) ↔ IsShowable model.now seen.now modes.now }
+        ensures room { clash.new.room ≡ clash.old.room }
+        ensures space { IsWorldSpace self.now space.new }
+    {
+        match ask(model, &self.problem, modes, seen, space) {
+            Answer::Agrees => false,
+            Answer::Clash(blamed) => {
+                write_in(&blamed, modes, clash);
+                true
             }
         }
     }

@@ -14,7 +14,7 @@ use crate::denied::Denied;
 use crate::refuted::is_refuted;
 use crate::world_space::WorldSpace;
 use crate::worlds::Worlds;
-use cca_base::{Cube, Formula, Model};
+use cca_base::{Cube, Formula, Model, Pair};
 use std::alloc::{AllocError, Global};
 use world_search::Answer;
 
@@ -36,10 +36,29 @@ impl Worlds {
             (IsTrue result ↔ Follows model.now modes.now f) }
         ensures space { IsWorldSpace self.now space.new }
     {
+        self.follows_from(model, modes.as_slice(), denied, space)
+    }
+
+    /// The same of modes that are no cube: a component may have several, and then no state extends them.
+    pub fn follows_from(
+        &self,
+        model: &Model,
+        modes: &[Pair],
+        denied: &Denied,
+        space: &mut WorldSpace,
+    ) -> bool
+        requires of { AreWorldsOf model.now self.now }
+        requires modes { All (λ p. HasMode model.now p.item p.value) modes.now }
+        requires denied { (f : Formula) × AreDenying model.now f denied.now }
+        requires space { IsWorldSpace self.now space.old }
+        ensures follows { (f : Formula) → AreDenying model.now f denied.now →
+            (IsTrue result ↔ Follows model.now modes.now f) }
+        ensures space { IsWorldSpace self.now space.new }
+    {
         let problem = &self.problem;
         let beside = &denied.beside;
         let clauses = beside.clauses().clauses.as_slice();
-        put_base(model, problem, modes.as_slice(), &[], space);
+        put_base(model, problem, modes, &[], space);
         problem.see_near(&mut space.search, &space.sets, beside);
         if is_refuted(problem, &space.search, clauses) {
             return true;

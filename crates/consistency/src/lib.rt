@@ -31,7 +31,7 @@ pub use found::Found;
 pub use laws::conflicts_are_minimal;
 pub use mirror::Mirror;
 pub use observed::union;
-pub use pairs::all_pairs;
+pub use pairs::{all_pairs, put_pairs};
 pub use rules::{Rules, rules_of};
 pub use standing::stand_in;
 pub use world_space::WorldSpace;

@@ -154,18 +154,18 @@ abbrev pub EachBelow : Question → List ℕ → Columns → List Bool → ℕ �
 EachBelow q masks columns stands n = (c : ℕ) → c < n → StandsOrNot q (boxed columns masks stands) c
 
 -- the next one has, too
-pub each_more : (q : Question) (own : OwnPlaces q) (masks : List ℕ) (old new : Columns) (stands : List Bool) (n : ℕ) (stood : Bool) → n < q.count → length stands ≡ n → KeepsOthers q n old new
-    → (stood ≡ true → IsColumn q masks n new) → (stood ≡ false → NoColumn q masks n) → EachBelow q masks old stands n → EachBelow q masks new (stands ++ stood ∷ []) (n + 1)
+pub each_more : (q : Question) (own : OwnPlaces q) (masks : List ℕ) (old new : Columns) (stands : List Bool) (n : ℕ) (stood : Bool) → n < q.count → length stands ≡ q.count → KeepsOthers q n old new
+    → (stood ≡ true → IsColumn q masks n new) → (stood ≡ false → NoColumn q masks n) → EachBelow q masks old stands n → EachBelow q masks new (set stands n stood) (n + 1)
 each_more q own masks old new stands n stood less long kept column none each c under = elim (below_next c n under) [
   | inl before ↦
-      let here : slice_index_or (stands ++ stood ∷ []) c false ≡ slice_index_or stands c false = get_or_append_left stands (stood ∷ []) false c (omega (arith, before, long)) in
+      let here : slice_index_or (set stands n stood) c false ≡ slice_index_or stands c false = get_or-set_other stands n c stood false (λ e. omega (arith, e, before)) in
       let is = each c before in
       record {
         stands = λ s. column_same q own n c masks masks old new (omega (arith, before, less)) (λ e. omega (arith, e, before)) (λ place within its. refl) kept (is.stands (sym here ∙ s));
         none = λ s. is.none (sym here ∙ s);
       }
   | inr e ↦
-      let here : slice_index_or (stands ++ stood ∷ []) c false ≡ stood = get_or_push stands stood false c (long ∙ sym e) in
+      let here : slice_index_or (set stands n stood) c false ≡ stood = ap (λ k. get_or (set stands n stood) k false) e ∙ get_or-set_same stands n stood false (omega (arith, less, long)) in
       record {
         stands = λ s. subst (λ k. IsColumn q masks k new) (sym e) (column (sym here ∙ s));
         none = λ s. subst (NoColumn q masks) (sym e) (none (sym here ∙ s));

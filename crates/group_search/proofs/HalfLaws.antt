@@ -1,20 +1,22 @@
 -- The halves of split boxes: what they have together, and what is left of them.
 use Rattle.std.proofs.Common.{◌≡◌, ◌≢◌, inl, inr, ℕ, zero, suc, ◌+◌, ◌-◌, ◌*◌, ◌^◌, ◌<◌, ◌≤◌, Bool, eqb, true, false, cond, List, [], ◌∷◌, ◌++◌, length, get_or, set, slice_index, refl, sym, ap, subst, ◌∙◌, arith, get_or-set_same, get_or-set_other}
-use Rattle.std.specs.Prelude.{max, All, Contains}
+use Rattle.std.specs.Prelude.{max, All, Contains, count_ones}
 use Rattle.std.specs.List.{sum_by}
 use Rattle.std.proofs.Math.Nat.{mul-le-mul_left}
-use Rattle.std.proofs.lemmas.Nat.{pow_pos}
+use Rattle.std.proofs.lemmas.Nat.{ones_le_self, ones-le, pow_pos}
 use Rattle.std.proofs.lemmas.Bool.{cases_lt, ne_eqb, false≢true}
 use Rattle.std.proofs.lemmas.List.{get_or_past, length-set, set-get_or}
-use Rattle.std.proofs.lemmas.List.Sums.{sum_by-cons}
+use Rattle.std.proofs.lemmas.List.Elements.{All-rest}
+use Rattle.std.proofs.lemmas.List.Sums.{sum_by-cons, sum_by-set}
 use Rattle.std.proofs.lemmas.Nat.Bits.{bit_at-pow_other, bit_at-pow_same, bit_at-zero, bit_at_above}
 use Rattle.cca_base.specs.Sets.{has}
 use Rattle.cca_base.specs.declared.cube.Pair.{Pair}
 use Rattle.group_search.specs.Bounds.{IsOpen}
 use Rattle.group_search.specs.Questions.{Question, IsInside, IsWithin}
-use Rattle.group_search.specs.Halves.{AreHalves, IsBack, IsSplit, left_of, size, undone, weight}
+use Rattle.group_search.specs.Halves.{AreFewer, AreHalves, IsBack, IsSplit, left_of, size, undone, weight}
 use Rattle.group_search.specs.declared.halves.Half.{Half}
 use Rattle.group_search.proofs.BoxLaws.{same_or_other}
+use Rattle.group_search.proofs.ValueLaws.{ones_more, ones_some}
 
 -- ---- sets
 
@@ -139,6 +141,18 @@ module _ (p : Pair) (old new : List ℕ) (before after : List Half) (is : IsSpli
         subst (AreHalves before) (sym back_at) are,
       )
 
+  pub split_fewer : p.item < length old → 1 ≤ is.rest → AreFewer before old → AreFewer after new
+  split_fewer inside some are =
+      let here : slice_index new is.half.item ≡ is.rest =
+      ap (λ l. slice_index l is.half.item) is.kept ∙ ap (slice_index (set old p.item is.rest)) is.item ∙ get_or-set_same old p.item is.rest 0 inside in
+      let whole = ap count_ones is.whole ∙ ones_more is.rest p.value (slice_index old p.item) is.gone is.sum in
+      let one = ap count_ones is.left ∙ ones_more 0 p.value (2 ^ p.value) (none_has p.value) (omega arith) in
+      subst (λ l. AreFewer l new) (sym is.put) (
+        omega (arith, whole, ap count_ones here),
+        omega (arith, whole, one, ones_le_self 0, ones_some is.rest some),
+        subst (AreFewer before) (sym back_at) are,
+      )
+
   -- the halves weigh less together
   pub split_weight : p.item < length old → 1 ≤ is.rest → weight (new ∷ left_of after new) < weight (old ∷ left_of before old)
   split_weight inside some =
@@ -175,15 +189,57 @@ halves_taken half older masks are = (
   subst (AreHalves older) (sym (set_again masks half.item half.left half.before)) are.2,
 )
 
+pub fewer_taken : (half : Half) (older : List Half) (masks : List ℕ) → AreFewer (half ∷ older) masks → AreFewer (taken half ∷ older) (set masks half.item half.left)
+fewer_taken half older masks are = (
+  elim (cases_lt half.item (length masks)) [
+    | inl inside ↦ let here = ap count_ones (get_or-set_same masks half.item half.left 0 inside) in omega (arith, here, are.1)
+    | inr past ↦
+        let nothing : slice_index (set masks half.item half.left) half.item ≡ 0 =
+        get_or_past (set masks half.item half.left) half.item 0 (omega (arith, past, length-set masks half.item half.left)) in
+        omega (arith, ap count_ones nothing, ones_le_self 0, are.1)
+  ],
+  omega (arith, ones_le_self 0, are.1),
+  subst (AreFewer older) (sym (set_again masks half.item half.left half.before)) are.2,
+)
+
+-- each split takes a value away
+pub few_halves : (halves : List Half) (masks : List ℕ) (places : ℕ) → length masks ≡ places → All (λ half. half.item < places) halves → AreFewer halves masks
+    → sum_by count_ones masks + length halves ≤ sum_by count_ones (undone halves masks)
+few_halves [] masks places long own are = omega arith
+few_halves (half ∷ older) masks places long own are =
+    let before = set masks half.item half.before in
+    let inside : half.item < length masks = omega (arith, long, own 0 half (omega arith)) in
+    let rest = few_halves older before places (length-set masks half.item half.before ∙ long) (All-rest (λ (h : Half). h.item < places) half older (half ∷ older) refl own) are.2 in
+    let whole = sum_by-set count_ones masks half.item half.before 0 inside in
+    omega (arith, rest, whole, are.0)
+
+-- what can be split has a value
+pub open_some : (q : Question) (test : ℕ → Bool) (masks : List ℕ) (p : Pair) → length masks ≡ length q.of → IsOpen q test masks p → 1 ≤ sum_by count_ones masks
+open_some q test masks p long is =
+    let mask = slice_index masks p.item in
+    let one = ones_some mask (has_some mask p.value is.value) in
+    let whole = sum_by-set count_ones masks p.item 0 0 (omega (arith, long, is.place)) in
+    omega (arith, one, whole, ones_le_self 0)
+
+-- sets of words have few values together
+pub few_values : (masks : List ℕ) → All (λ w. w < 2 ^ 64) masks → sum_by count_ones masks ≤ 64 * length masks
+few_values [] words = omega arith
+few_values (m ∷ masks) words =
+    let first = ones-le 64 m (words 0 m (omega arith)) in
+    let rest = few_values masks (All-rest (λ w. w < 2 ^ 64) m masks (m ∷ masks) refl words) in
+    let whole = sum_by-cons count_ones m masks in
+    omega (arith, first, rest, whole)
+
 -- what going back keeps: what is left, the box before the splits, and their places
 pub record IsGoing (start masks : List ℕ) (begun halves : List Half) : Type 0 where
   pub same : left_of begun start ≡ left_of halves masks
   pub undone_same : undone halves masks ≡ undone begun start
   pub halved : AreHalves begun start → AreHalves halves masks
+  pub fewer : AreFewer begun start → AreFewer halves masks
   pub items : (half : Half) → Contains halves half → Contains begun half
 
 pub going_begun : (masks : List ℕ) (halves : List Half) → IsGoing masks masks halves halves
-going_begun masks halves = record { same = refl; undone_same = refl; halved = λ h. h; items = λ half h. h }
+going_begun masks halves = record { same = refl; undone_same = refl; halved = λ h. h; fewer = λ h. h; items = λ half h. h }
 
 contains_more : {X : Type 0} (x y : X) (xs : List X) → Contains xs x → Contains (y ∷ xs) x
 contains_more x y xs (k, under, is) = (suc k, omega (arith, under), is)
@@ -199,6 +255,7 @@ module _ (start masks : List ℕ) (begun halves older : List Half) (half : Half)
     same = is.same ∙ ap (λ l. left_of l masks) top ∙ left_none half older masks none;
     undone_same = ap (λ l. undone l masks) (sym top) ∙ is.undone_same;
     halved = λ h. (subst (λ l. AreHalves l masks) top (is.halved h)).2;
+    fewer = λ h. (subst (λ l. AreFewer l masks) top (is.fewer h)).2;
     items = λ x among. is.items x (subst (λ l. Contains l x) (sym top) (contains_more x half older among));
   }
 
@@ -213,6 +270,7 @@ module _ (start masks : List ℕ) (begun halves older : List Half) (half : Half)
         same = is.same ∙ ap (λ l. left_of l masks) top ∙ left_more half older masks some ∙ ap (λ l. after ∷ l) (sym rest);
         undone = ap (undone older) again ∙ ap (λ l. undone l masks) (sym top) ∙ is.undone_same;
         halved = λ h. halves_taken half older masks (subst (λ l. AreHalves l masks) top (is.halved h));
+        fewer = λ h. fewer_taken half older masks (subst (λ l. AreFewer l masks) top (is.fewer h));
         items = λ x among. taken_item x among;
       }
 

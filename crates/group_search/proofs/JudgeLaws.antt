@@ -1,39 +1,27 @@
 -- What a search keeps where a cut is kept, and what is known of the components that it looks at.
 use Rattle.std.proofs.Common.{◌≡◌, ◌⊎◌, inl, inr, ℕ, ◌-◌, ◌<◌, ◌≤◌, Bool, true, false, List, Option, All, Contains, length, slice_index, slice_index_or, refl, sym, ap, subst, ◌∙◌, arith}
 use Rattle.std.specs.List.{sum_by}
-use Rattle.std.proofs.lemmas.List.Elements.{All-contains}
-use Rattle.list_laws.proofs.Members.{all_from}
 use Rattle.cca_base.specs.declared.cube.Pair.{Pair}
 use Rattle.cca_base.specs.declared.limits.TheConstants.{MAX_ROWS}
 use Rattle.group_search.specs.Bounds.{AllStand, EachPays}
-use Rattle.group_search.specs.Columns.{IsBox}
 use Rattle.group_search.specs.Questions.{IsCut, Question, cost_in, in_group}
-use Rattle.group_search.specs.Works.{AreMembers, HasRoom, IsWork, KeepsBox}
+use Rattle.group_search.specs.Rooms.{KeepsRooms}
+use Rattle.group_search.specs.Works.{AreMembers, IsWork, KeepsBox}
 use Rattle.group_search.specs.declared.columns.TheConstants.{MAX_PATH}
 use Rattle.group_search.specs.declared.path_box.PathBox.{PathBox}
 use Rattle.group_search.specs.declared.work.Work.{Work}
 use Rattle.group_search.proofs.ChooseLaws.{least_paths}
+use Rattle.group_search.proofs.StoreLaws.{work_kept}
 use Rattle.group_search.proofs.MemberLaws.{member_has, members_cost, members_each, members_few}
 
-pub cuts_keep : (q : Question) (old new : List (List Pair)) (cut : List Pair) → All (IsCut q) old → IsCut q cut
-    → ((k : List Pair) → Contains new k → Contains old k ⊎ (k ≡ cut)) → All (IsCut q) new
-cuts_keep q old new cut each is known = all_from (IsCut q) new (λ k among. elim (known k among) [
-  | inl was ↦ All-contains (IsCut q) old k each was
-  | inr same ↦ subst (IsCut q) (sym same) is
-])
-
-pub work_keeps : (q : Question) (old new : Work) (cut : List Pair) → IsWork q old → new.boxed ≡ old.boxed → new.names ≡ old.names → new.spending ≡ old.spending → IsCut q cut
-    → ((k : List Pair) → Contains new.cuts.items k → Contains old.cuts.items k ⊎ (k ≡ cut)) → IsWork q new
-work_keeps q old new cut work boxed names spending is known = record {
-  ready = subst (IsBox q) (sym boxed) work.ready;
-  cuts = cuts_keep q old.cuts.items new.cuts.items cut work.cuts is known;
-  names = ap length names ∙ work.names;
-  room = subst (HasRoom q) (sym spending) work.room;
-}
+-- a cut is kept
+pub work_keeps : (q : Question) (old new : Work) (cut : List Pair) → IsWork q old → new.boxed ≡ old.boxed → new.names ≡ old.names → new.spending ≡ old.spending → IsCut q cut → KeepsRooms old new
+    → ((k : List Pair) → Contains new.cuts k → Contains old.cuts k ⊎ (k ≡ cut)) → IsWork q new
+work_keeps q old new cut work boxed names spending is rooms known = work_kept q old new cut work is boxed (ap length names) spending rooms known
 
 -- ---- the components of the group, as a call was given them
 
-module _ (q : Question) (group : Option ℕ) (w : Work) (work : IsWork q w) (members : AreMembers q w.names group w.focus.members) (seen : List ℕ) (same : seen ≡ w.focus.members) where
+module _ (q : Question) (group : Option ℕ) (w : Work) (work : IsWork q w) (members : AreMembers q w.names group w.focus.members.items) (seen : List ℕ) (same : seen ≡ w.focus.members.items) where
   pub seen_few : q.count ≤ MAX_ROWS → length seen ≤ MAX_ROWS
   seen_few few = omega (arith, few, members_few (in_group w.names group) q.count seen (same ∙ members))
 

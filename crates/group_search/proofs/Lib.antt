@@ -10,6 +10,7 @@ pub mod LowerValues
 pub mod MemberLaws
 pub mod PayLaws
 pub mod PriceLaws
+mod RoomLaws
 pub mod SearchLaws
 pub mod SpendLaws
 pub mod StayLaws

@@ -1,6 +1,6 @@
 -- A search of a group from turn to turn.
-use Rattle.std.proofs.Common.{◌≡◌, ◌⊎◌, inl, inr, ℕ, zero, suc, ◌-◌, ◌*◌, ◌^◌, ◌<◌, ◌≤◌, Bool, true, false, List, [], ◌∷◌, length, get_or, set, slice_index, Option, None, Some, Result, Ok, Err, refl, sym, ap, subst, ◌∙◌, arith, get_or-set_same, get_or-set_other}
-use Rattle.std.specs.Prelude.{Contains, IfOk}
+use Rattle.std.proofs.Common.{◌≡◌, ◌⊎◌, inl, inr, ℕ, zero, suc, ◌-◌, ◌*◌, ◌^◌, ◌<◌, ◌≤◌, Bool, true, false, cond, List, [], ◌∷◌, length, get_or, set, slice_index, Option, None, Some, refl, sym, ap, subst, ◌∙◌, arith, get_or-set_same, get_or-set_other}
+use Rattle.std.specs.Prelude.{Contains}
 use Rattle.std.proofs.lemmas.Bool.{cases_lt, false≢true}
 use Rattle.std.proofs.lemmas.List.Elements.{All-cons, All-nil, All-contains, Contains-get_or}
 use Rattle.std.proofs.lemmas.List.Sums.{sum_by-cons}
@@ -9,14 +9,14 @@ use Rattle.cca_base.specs.declared.cube.Pair.{Pair}
 use Rattle.group_search.specs.Bounds.{IsOpen}
 use Rattle.group_search.specs.Columns.{ArePaths}
 use Rattle.group_search.specs.Questions.{Question, CostsAtLeast, IsInside, IsWhole, cost_in, in_group}
-use Rattle.group_search.specs.Halves.{AreAhead, AreHalves, IsBack, IsSplit, SplitOwn, left_of, size, undone, weight}
-use Rattle.group_search.specs.Searches.{IsJudged, IsKnown, IsSought, IsTurned}
+use Rattle.group_search.specs.Halves.{AreAhead, AreFewer, AreHalves, IsBack, IsSplit, SplitOwn, left_of, size, undone, weight}
+use Rattle.group_search.specs.Searches.{best_found, IsJudged, IsKnown, IsSought, IsTurned}
 use Rattle.group_search.specs.declared.columns.Chosen.{Chosen}
-use Rattle.group_search.specs.declared.find.Best.{Best}
+use Rattle.group_search.specs.declared.best.Best.{Best}
 use Rattle.group_search.specs.declared.halves.Half.{Half}
 use Rattle.group_search.specs.declared.judge.Verdict.TheVariants.{Found}
 use Rattle.group_search.proofs.BoxLaws.{same_or_other}
-use Rattle.group_search.proofs.HalfLaws.{inside_before, one_has, rest_some, size_some, split_halved, split_left, split_undone, split_weight}
+use Rattle.group_search.proofs.HalfLaws.{inside_before, one_has, rest_some, size_some, split_fewer, split_halved, split_left, split_undone, split_weight}
 
 -- the place has one set more of values that it may have
 pub inside_put : (q : Question) (test : ℕ → Bool) (masks values : List ℕ) (i mask : ℕ) → i < length masks → has mask (slice_index values i) ≡ true → IsInside q test masks values → IsInside q test (set masks i mask) values
@@ -71,6 +71,7 @@ module _ (q : Question) (names : List ℕ) (group : Option ℕ) (base : List ℕ
     split_sought = record {
       before = split_undone p old new before after is ∙ sought.before;
       halved = split_halved p old new before after is inside open_at.value sought.halved;
+      fewer = split_fewer p old new before after is inside (rest_some q test p old new before after is open_at) sought.fewer;
       own = subst (SplitOwn q test) (sym is.put) (All-cons (λ (half : Half). (half.item < length q.of) × (test (slice_index q.of half.item) ≡ true)) is.half before
           (subst (λ i. (i < length q.of) × (test (slice_index q.of i) ≡ true)) (sym is.item) (open_at.place, open_at.own)) sought.own);
       ahead = λ values costs sol less.
@@ -109,12 +110,12 @@ module _ (q : Question) (names : List ℕ) (group : Option ℕ) (base : List ℕ
   found_known old before was x paths at whole less sought = (
     record { paths = paths; inside = subst (λ m. IsInside q test m x.values) sought.before (inside_before q test before old x.values sought.halved at); whole = whole },
     refl,
-    known_less was.found was.limit (cost_in q.count test x.costs) sought.known less,
+    known_less (best_found was) was.limit (cost_in q.count test x.costs) sought.known less,
   )
 
   -- from such a box back to a half
   module _ (old new : List ℕ) (before after : List Half) (was best : Best) (sought : Sought old before was) (ahead : Ahead old before best.limit)
-      (known : IsKnown q names group base start best.found best.limit) where
+      (known : IsKnown q names group base start (best_found best) best.limit) where
     own_back : (halves : List Half) → ((half : Half) → Contains halves half → (other : Half) × Contains before other × (other.item ≡ half.item)) → SplitOwn q test halves
     own_back halves items k d under =
         let half = get_or halves k d in
@@ -126,6 +127,7 @@ module _ (q : Question) (names : List ℕ) (group : Option ℕ) (base : List ℕ
     back_sought is = record {
       before = is.undone ∙ sought.before;
       halved = is.halved sought.halved;
+      fewer = is.fewer sought.fewer;
       own = own_back after (λ half among. is.items half among);
       ahead = subst (AreAhead q test base best.limit) is.same ahead;
       known = known;
@@ -149,19 +151,22 @@ module _ (q : Question) (names : List ℕ) (group : Option ℕ) (base : List ℕ
     end_sought none empty back = record {
       before = ap (λ l. undone l new) empty ∙ back ∙ sought.before;
       halved = subst (λ l. AreHalves l new) (sym empty) tt;
+      fewer = subst (λ l. AreFewer l new) (sym empty) tt;
       own = subst (SplitOwn q test) (sym empty) (All-nil (λ (h : Half). (h.item < length q.of) × (test (slice_index q.of h.item) ≡ true)));
       ahead = λ values costs sol less. absurd (omega (arith, less, end_least none values costs sol));
       known = known;
     }
 
 -- before the first turn
-pub sought_begun : (q : Question) (names : List ℕ) (group : Option ℕ) (base : List ℕ) (start : ℕ) (halves : List Half) → halves ≡ [] → IsSought q names group base start base halves (record { found = None; limit = start })
-sought_begun q names group base start halves empty = record {
+pub sought_begun : (q : Question) (names : List ℕ) (group : Option ℕ) (base : List ℕ) (start : ℕ) (halves : List Half) (best : Best) → halves ≡ [] → best.is_found ≡ false → best.limit ≡ start
+    → IsSought q names group base start base halves best
+sought_begun q names group base start halves best empty none limit = record {
   before = ap (λ l. undone l base) empty;
   halved = subst (λ l. AreHalves l base) (sym empty) tt;
+  fewer = subst (λ l. AreFewer l base) (sym empty) tt;
   own = subst (SplitOwn q (in_group names group)) (sym empty) (All-nil (λ (h : Half). (h.item < length q.of) × (in_group names group (slice_index q.of h.item) ≡ true)));
   ahead = λ values costs sol less. (base, among_first base (left_of halves base), sol.inside);
-  known = refl;
+  known = subst (λ found. IsKnown q names group base start (cond found (Some best.found) None) best.limit) (sym none) limit;
 }
 
 -- the places of splits of a group are places
@@ -171,25 +176,24 @@ own_places q test halves own k d under = ((own k d under).0, refl)
 -- a box that is done with: what it leaves ahead, and what is known then
 abbrev pub Leads : Question → List ℕ → Option ℕ → List ℕ → List Half → Best → Best → Type 0
 Leads q names group old before was best = (base : List ℕ) (start : ℕ) → IsSought q names group base start old before was
-    → Ahead q names group base start old before best.limit × IsKnown q names group base start best.found best.limit
+    → Ahead q names group base start old before best.limit × IsKnown q names group base start (best_found best) best.limit
 
 pub dropped_leads : (q : Question) (names : List ℕ) (group : Option ℕ) (old : List ℕ) (before : List Half) (was best : Best) → best ≡ was → CostsAtLeast q (in_group names group) old was.limit → Leads q names group old before was best
 dropped_leads q names group old before was best same least base start sought =
-    subst (λ (b : Best). Ahead q names group base start old before b.limit × IsKnown q names group base start b.found b.limit) (sym same)
+    subst (λ (b : Best). Ahead q names group base start old before b.limit × IsKnown q names group base start (best_found b) b.limit) (sym same)
     (dropped_ahead q names group base start old before was was.limit (omega arith) least sought, sought.known)
 
-pub found_leads : (q : Question) (names : List ℕ) (group : Option ℕ) (old : List ℕ) (before : List Half) (was best : Best) (values costs : List ℕ) (x : Chosen) (cost : ℕ) → IsJudged q names group was.limit old values costs Found
-    → x.values ≡ values → x.costs ≡ costs → cost ≡ cost_in q.count (in_group names group) costs → best ≡ record { found = Some x; limit = cost } → Leads q names group old before was best
-found_leads q names group old before was best values costs x cost judged is_values is_costs is_cost same base start sought =
-    let test = in_group names group in
-    let sum : cost ≡ cost_in q.count test x.costs = is_cost ∙ ap (cost_in q.count test) (sym is_costs) in
+pub found_leads : (q : Question) (names : List ℕ) (group : Option ℕ) (old : List ℕ) (before : List Half) (was best : Best) (values costs : List ℕ) (cost : ℕ) → IsJudged q names group was.limit old values costs Found
+    → best.is_found ≡ true → best.found.values ≡ values → best.found.costs ≡ costs → best.limit ≡ cost → cost ≡ cost_in q.count (in_group names group) costs → Leads q names group old before was best
+found_leads q names group old before was best values costs cost judged is_found is_values is_costs is_limit is_cost base start sought =
+    let test = in_group names group in let x = best.found in
+    let sum : best.limit ≡ cost_in q.count test x.costs = is_limit ∙ is_cost ∙ ap (cost_in q.count test) (sym is_costs) in
     let paths : ArePaths q test x.values x.costs = subst (λ v. ArePaths q test v x.costs) (sym is_values) (subst (ArePaths q test values) (sym is_costs) judged.1) in
     let at : IsInside q test old x.values = subst (IsInside q test old) (sym is_values) judged.2 in
     let whole : IsWhole q names group → q.solves x.values x.costs = λ all. subst (λ v. q.solves v x.costs) (sym is_values) (subst (q.solves values) (sym is_costs) (judged.3 all)) in
-    let known = found_known q names group base start old before was x paths at whole (omega (arith, judged.0, sum, is_cost)) sought in
-    let ahead = dropped_ahead q names group base start old before was cost (omega (arith, judged.0, is_cost)) (subst (CostsAtLeast q test old) (sym is_cost) judged.4) sought in
-    subst (λ (b : Best). Ahead q names group base start old before b.limit × IsKnown q names group base start b.found b.limit) (sym same)
-    (ahead, subst (IsKnown q names group base start (Some x)) (sym sum) known)
+    let known = found_known q names group base start old before was x paths at whole (omega (arith, judged.0, sum, is_limit, is_cost)) sought in
+    let ahead = dropped_ahead q names group base start old before was best.limit (omega (arith, judged.0, is_limit, is_cost)) (subst (CostsAtLeast q test old) (sym (is_limit ∙ is_cost)) judged.4) sought in
+    (ahead, subst (λ found. IsKnown q names group base start (cond found (Some x) None) best.limit) (sym is_found) (subst (IsKnown q names group base start (Some x)) (sym sum) known))
 
 -- a turn that goes back from such a box
 module _ (q : Question) (names : List ℕ) (group : Option ℕ) (old new : List ℕ) (before after : List Half) (was best : Best) (leads : Leads q names group old before was best) where
@@ -208,13 +212,12 @@ module _ (q : Question) (names : List ℕ) (group : Option ℕ) (old new : List 
         (λ _. ((end refl).1 ∙ sought.before, end_least q names group base start old new before after was best sought ahead known (none refl))),
       )
 
-  pub turned_back : {E : Type 0} (r : Result Bool E) (mid : List ℕ) → mid ≡ old → IfOk r (λ b. b ≡ true → IsBack mid new before after) → IfOk r (λ b. b ≡ false → left_of before mid ≡ [])
-      → IfOk r (λ b. b ≡ false → (after ≡ []) × (new ≡ undone before mid)) → IfOk r (IsTurned q names group old new before after was best)
-  turned_back (Ok goes) mid same back none end = turned_to goes
-      (λ e. subst (λ m. IsBack m new before after) same (back e))
-      (λ e. subst (λ m. left_of before m ≡ []) same (none e))
-      (λ e. subst (λ m. (after ≡ []) × (new ≡ undone before m)) same (end e))
-  turned_back (Err e) mid same back none end = tt
+  pub turned_back : (goes : Bool) (mid : List ℕ) (halves : List Half) → mid ≡ old → halves ≡ before → (goes ≡ true → IsBack mid new halves after) → (goes ≡ false → left_of halves mid ≡ [])
+      → (goes ≡ false → (after ≡ []) × (new ≡ undone halves mid)) → IsTurned q names group old new before after was best goes
+  turned_back goes mid halves same kept back none end = turned_to goes
+      (λ e. subst (λ h. IsBack old new h after) kept (subst (λ m. IsBack m new halves after) same (back e)))
+      (λ e. subst (λ h. left_of h old ≡ []) kept (subst (λ m. left_of halves m ≡ []) same (none e)))
+      (λ e. subst (λ h. (after ≡ []) × (new ≡ undone h old)) kept (subst (λ m. (after ≡ []) × (new ≡ undone halves m)) same (end e)))
 
 -- a turn that splits
 pub turned_split : (q : Question) (names : List ℕ) (group : Option ℕ) (p : Pair) (old new : List ℕ) (before after : List Half) (best : Best) → length old ≡ length q.of → IsOpen q (in_group names group) old p → IsSplit p old new before after

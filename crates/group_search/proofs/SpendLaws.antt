@@ -11,6 +11,11 @@ use Rattle.cca_base.specs.declared.cube.Pair.{Pair}
 use Rattle.group_search.specs.Bounds.{AllStand, EachPays, IsHeld, LeavesAt, Pays, PaysBeside}
 use Rattle.group_search.specs.Columns.{IsBox}
 use Rattle.group_search.specs.Questions.{Question, CostsAtLeast, IsCut, IsSolution, cost_in, in_group}
+use Rattle.bounded_list.specs.Bounded.{Bounded}
+use Rattle.group_search.specs.declared.best.Best.{Best}
+use Rattle.group_search.specs.declared.focus.Focus.{Focus}
+use Rattle.group_search.specs.declared.halves.Half.{Half}
+use Rattle.group_search.proofs.StoreLaws.{rooms_kept}
 use Rattle.group_search.specs.Works.{HasRoom, IsWork, KeepsBox}
 use Rattle.group_search.specs.declared.path_box.PathBox.{PathBox}
 use Rattle.group_search.specs.declared.work.Work.{Work}
@@ -177,8 +182,6 @@ module _ (q : Question) (test : ℕ → Bool) (b : PathBox) (spent : List ℕ) (
         ]
 
 -- the cut at a place
-pub cut_at : (q : Question) (cuts : List (List Pair)) (i : ℕ) (found cut : List Pair) → All (IsCut q) cuts → i < length cuts → found ≡ get_or cuts i found → cut ≡ found → IsCut q cut
-cut_at q cuts i found cut all inside read same = subst (IsCut q) (sym same) (subst (IsCut q) (sym read) (all i found inside))
 
 -- the same of other names for what is the same
 module _ (q : Question) (group : Option ℕ) (names other : List ℕ) (b box : PathBox) (cut : List Pair) (named : names ≡ other) (boxed : b ≡ box) where
@@ -208,7 +211,16 @@ pays_first q test b spent more none ready stand values costs x = record {
 pub work_kept : (q : Question) (old new : Work) → IsWork q old → KeepsBox old new → HasRoom q new.spending → IsWork q new
 work_kept q old new work kept room = record {
   ready = subst (IsBox q) (sym kept.boxed) work.ready;
-  cuts = subst (λ cuts. All (IsCut q) cuts.items) (sym kept.cuts) work.cuts;
+  cuts = subst (All (IsCut q)) (sym kept.cuts) work.cuts;
   names = ap length kept.names ∙ work.names;
   room = room;
+  rooms = rooms_kept (length q.of) q.count old new (record {
+    members = ap (λ (f : Focus). f.members.room) kept.focus;
+    cuts = ap (λ (f : Focus). f.cuts.room) kept.focus;
+    cut = ap (λ (b : Bounded Pair). b.room) kept.cut;
+    halves = ap (λ (b : Bounded Half). b.room) kept.halves;
+    marks = ap length kept.marks;
+    values = ap (λ (b : Best). length b.found.values) kept.best;
+    costs = ap (λ (b : Best). length b.found.costs) kept.best;
+  }) work.rooms;
 }

@@ -1,9 +1,10 @@
 -- Sets of values in words of bits.
-use Rattle.std.proofs.Common.{◌≡◌, ◌≢◌, inl, inr, ℕ, ◌+◌, ◌-◌, ◌*◌, ◌%◌, ◌^◌, ◌<◌, true, eqb, bit_and, bit_or, sym, ap, subst, ◌∙◌, arith, w64}
+use Rattle.std.proofs.Common.{◌≡◌, ◌≢◌, inl, inr, ℕ, ◌+◌, ◌-◌, ◌*◌, ◌/◌, ◌%◌, ◌^◌, ◌<◌, ◌≤◌, true, false, eqb, bit_and, bit_or, sym, ap, subst, ◌∙◌, arith, w64}
+use Rattle.std.specs.Prelude.{count_ones}
 use Rattle.std.specs.Int.{bit_at}
 use Rattle.std.specs.Int.Bits.{or_add_and}
 use Rattle.std.proofs.lemmas.Bool.{and_parts, both_ways, cases_eq, cases_lt, eqb-true, le-ltb}
-use Rattle.std.proofs.lemmas.Nat.{one_shl, pow_pos}
+use Rattle.std.proofs.lemmas.Nat.{mod_below, one_shl, ones_cat, ones_le_self, pow_pos, shr_split, zero_from_ones}
 use Rattle.std.proofs.lemmas.Nat.Bits.{and_pow, bit_at_above, bit_at_and, bit_at_clear_other, bit_at_clear_same, bit_at_or, bit_at-lt, bit_at-pow_other, bit_at-pow_same, bit_at-trailing_zeros, same_from_bits}
 use Rattle.cca_base.specs.Sets.{has}
 use Rattle.cca_base.proofs.SetLaws.{has_above, has-and}
@@ -14,6 +15,34 @@ low_member word a h is = elim (cases_lt a 64) [
   | inl less ↦ less
   | inr more ↦ absurd (both_ways (has word a) (sym (has_above 64 word a h more) ∙ le-ltb a 64 more) is)
 ]
+
+-- a set that isn't empty has a value
+pub ones_some : (word : ℕ) → 1 ≤ word → 1 ≤ count_ones word
+ones_some word some = elim (cases_lt 0 (count_ones word)) [
+  | inl one ↦ one
+  | inr none ↦
+      let empty : word ≡ 0 = zero_from_ones word (omega (arith, none)) in
+      omega (arith, empty, some)
+]
+
+-- a value more is one more
+pub ones_more : (rest value word : ℕ) → has rest value ≡ false → rest + 2 ^ value ≡ word → count_ones word ≡ count_ones rest + 1
+ones_more rest value word gone sum =
+    let high = rest / 2 ^ value in let low = rest % 2 ^ value in let half = high / 2 in
+    let below : low < 2 ^ value = mod_below rest (2 ^ value) (pow_pos value) in
+    let parts : high * 2 ^ value + low ≡ rest = shr_split rest value in
+    let bit : high % 2 ≡ 0 = elim (cases_eq (bit_at rest value) 1) [
+      | inl is ↦ absurd (both_ways (has rest value) gone (ap (λ b. eqb b 1) is))
+      | inr other ↦ let less = bit_at-lt rest value in omega (arith, other, less)
+    ] in
+    let even : half * 2 ^ 1 + 0 ≡ high = omega (arith, bit) in
+    let odd : half * 2 ^ 1 + 1 ≡ high + 1 = omega (arith, bit) in
+    let whole : (high + 1) * 2 ^ value + low ≡ word = omega (arith, parts, sum) in
+    let of_rest = ap count_ones (sym parts) ∙ ones_cat value high low below in
+    let of_word = ap count_ones (sym whole) ∙ ones_cat value (high + 1) low below in
+    let of_high = ap count_ones (sym even) ∙ ones_cat 1 half 0 (omega arith) in
+    let of_next = ap count_ones (sym odd) ∙ ones_cat 1 half 1 (omega arith) in
+    omega (arith, of_rest, of_word, of_high, of_next, ones_le_self 0, ones_le_self 1, ones_some 1 (omega arith))
 
 -- the set of one value
 module _ (value : ℕ) (inside : value < 64) where
@@ -36,6 +65,9 @@ module _ (word value : ℕ) (small : word < 2 ^ 64) (inside : value < 64) where
 
   pub cleared_kept : (a : ℕ) → has word a ≡ true → a ≢ value → has cleared a ≡ true
   cleared_kept a is other = ap (λ b. eqb b 1) (bit_at_clear_other w64 word value inside a (low_member word a small is) other) ∙ is
+
+  pub cleared_gone : has cleared value ≡ false
+  cleared_gone = ap (λ b. eqb b 1) (bit_at_clear_same w64 word value inside)
 
   pub cleared_within : (a : ℕ) → has cleared a ≡ true → has word a ≡ true
   cleared_within a is = let both = and_parts _ _ (sym (has-and word (2 ^ 64 - 1 - 1 * 2 ^ value % 2 ^ 64) a) ∙ is) in both.0

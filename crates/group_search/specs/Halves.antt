@@ -1,5 +1,5 @@
 -- The halves of split boxes that are still to be looked at.
-use Rattle.std.specs.Prelude.{◌≡◌, ℕ, ◌<◌, ◌+◌, ◌-◌, ◌*◌, ◌==◌, ◌^◌, ◌≢◌, Bool, true, cond, List, [], ◌∷◌, ◌++◌, length, max, slice_set, slice_index, All, Contains}
+use Rattle.std.specs.Prelude.{◌≡◌, ℕ, ◌<◌, ◌+◌, ◌-◌, ◌*◌, ◌==◌, ◌^◌, ◌≢◌, Bool, true, false, cond, count_ones, List, [], ◌∷◌, ◌++◌, length, max, slice_set, slice_index, All, Contains}
 use Rattle.std.specs.List.{sum_by}
 use Rattle.cca_base.specs.Sets.{has}
 use Rattle.cca_base.specs.declared.cube.Pair.{Pair}
@@ -27,6 +27,12 @@ AreHalves [] masks = Unit {0}
 AreHalves (half ∷ older) masks =
     IsWithin (slice_index masks half.item) half.before × IsWithin half.left half.before × AreHalves older (slice_set masks half.item half.before)
 
+-- both halves of each split have fewer values than what was split
+abbrev pub AreFewer : List Half → List ℕ → Type 0
+AreFewer [] masks = Unit {0}
+AreFewer (half ∷ older) masks =
+    (count_ones (slice_index masks half.item) < count_ones half.before) × (count_ones half.left < count_ones half.before) × AreFewer older (slice_set masks half.item half.before)
+
 -- the places are those of components that pass the test
 abbrev pub SplitOwn : Question → (ℕ → Bool) → List Half → Type 0
 SplitOwn q test halves = All (λ half. (half.item < length q.of) × (test (slice_index q.of half.item) ≡ true)) halves
@@ -52,10 +58,12 @@ pub record IsSplit (p : Pair) (old new : List ℕ) (before after : List Half) : 
   pub sum : rest + 2 ^ p.value ≡ slice_index old p.item
   pub others : (a : ℕ) → has (slice_index old p.item) a ≡ true → a ≢ p.value → has rest a ≡ true
   pub within : IsWithin rest (slice_index old p.item)
+  pub gone : has rest p.value ≡ false
 
 -- the newest half that was left is the box at hand
 pub record IsBack (old new : List ℕ) (before after : List Half) : Type 0 where
   pub same : left_of before old ≡ new ∷ left_of after new
   pub undone : undone after new ≡ undone before old
   pub halved : AreHalves before old → AreHalves after new
+  pub fewer : AreFewer before old → AreFewer after new
   pub items : (half : Half) → Contains after half → (other : Half) × Contains before other × (other.item ≡ half.item)

@@ -1,4 +1,6 @@
 pub mod Questions
+pub mod Stores
+pub mod Rooms
 pub mod Meanings
 pub mod Floors
 pub mod Columns

@@ -1,11 +1,11 @@
 -- What a search of a group keeps from turn to turn.
-use Rattle.std.specs.Prelude.{◌≡◌, ℕ, ◌<◌, Bool, true, List, ◌∷◌, Option, None, Some, false}
+use Rattle.std.specs.Prelude.{◌≡◌, ℕ, ◌<◌, Bool, true, List, ◌∷◌, Option, None, Some, cond, false}
 use Rattle.group_search.specs.Bounds.{IsOpen}
 use Rattle.group_search.specs.Columns.{ArePaths}
-use Rattle.group_search.specs.Halves.{AreAhead, AreHalves, SplitOwn, left_of, undone, weight}
+use Rattle.group_search.specs.Halves.{AreAhead, AreFewer, AreHalves, SplitOwn, left_of, undone, weight}
 use Rattle.group_search.specs.Questions.{Question, CostsAtLeast, IsInside, IsWhole, cost_in, in_group}
 use Rattle.group_search.specs.declared.columns.Chosen.{Chosen}
-use Rattle.group_search.specs.declared.find.Best.{Best}
+use Rattle.group_search.specs.declared.best.Best.{Best}
 use Rattle.group_search.specs.declared.halves.Half.{Half}
 use Rattle.group_search.specs.declared.judge.Verdict.{Verdict}
 use Rattle.group_search.specs.declared.judge.Verdict.TheVariants.{Dropped, Split, Found}
@@ -31,13 +31,18 @@ abbrev pub IsKnown : Question → List ℕ → Option ℕ → List ℕ → ℕ �
 IsKnown q names group masks start None limit = limit ≡ start
 IsKnown q names group masks start (Some x) limit = IsFind q names group masks x × (cost_in q.count (in_group names group) x.costs ≡ limit) × (limit < start)
 
+-- the paths that were found, if there are some
+abbrev pub best_found : Best → Option Chosen
+best_found best = cond best.is_found (Some best.found) None
+
 -- each solution of the box that costs less than the limit is in the box at hand or in a half that is left
 pub record IsSought (q : Question) (names : List ℕ) (group : Option ℕ) (base : List ℕ) (start : ℕ) (masks : List ℕ) (halves : List Half) (best : Best) : Type 0 where
   pub before : undone halves masks ≡ base
   pub halved : AreHalves halves masks
+  pub fewer : AreFewer halves masks
   pub own : SplitOwn q (in_group names group) halves
   pub ahead : AreAhead q (in_group names group) base best.limit (masks ∷ left_of halves masks)
-  pub known : IsKnown q names group base start best.found best.limit
+  pub known : IsKnown q names group base start (best_found best) best.limit
 
 -- a turn that goes on keeps what a search keeps, and the weights fall; one that ends leaves nothing ahead
 abbrev pub IsTurned : Question → List ℕ → Option ℕ → List ℕ → List ℕ → List Half → List Half → Best → Best → Bool → Type 0

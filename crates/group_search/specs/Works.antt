@@ -3,6 +3,7 @@ use Rattle.std.specs.Prelude.{◌≡◌, ℕ, List, Option, length, filter, All}
 use Rattle.cca_base.specs.Relations.{numbers_below}
 use Rattle.group_search.specs.Columns.{IsBox}
 use Rattle.group_search.specs.Questions.{Question, IsCut, in_group}
+use Rattle.group_search.specs.Rooms.{HasRoomsFor}
 use Rattle.group_search.specs.declared.spending.Spending.{Spending}
 use Rattle.group_search.specs.declared.work.Work.{Work}
 
@@ -14,9 +15,10 @@ pub record HasRoom (q : Question) (s : Spending) : Type 0 where
 -- a box, cuts of the question, and a name for each component
 pub record IsWork (q : Question) (w : Work) : Type 0 where
   pub ready : IsBox q w.boxed
-  pub cuts : All (IsCut q) w.cuts.items
+  pub cuts : All (IsCut q) w.cuts
   pub names : length w.names ≡ q.count
   pub room : HasRoom q w.spending
+  pub rooms : HasRoomsFor (length q.of) q.count w
 
 -- exactly the components of the group, rising
 abbrev pub AreMembers : Question → List ℕ → Option ℕ → List ℕ → Type 0
@@ -28,6 +30,10 @@ pub record KeepsBox (old new : Work) : Type 0 where
   pub cuts : new.cuts ≡ old.cuts
   pub names : new.names ≡ old.names
   pub focus : new.focus ≡ old.focus
+  pub halves : new.halves ≡ old.halves
+  pub best : new.best ≡ old.best
+  pub marks : new.marks ≡ old.marks
+  pub cut : new.cut ≡ old.cut
 
 -- names are as before, and what places may have
 pub record KeepsMasks (old new : Work) : Type 0 where
@@ -39,3 +45,5 @@ pub record KeepsPaths (old new : Work) : Type 0 where
   pub boxed : new.boxed ≡ old.boxed
   pub names : new.names ≡ old.names
   pub members : new.focus.members ≡ old.focus.members
+  pub halves : new.halves ≡ old.halves
+  pub best : new.best ≡ old.best

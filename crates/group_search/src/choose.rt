@@ -127,11 +127,11 @@ pub(crate) fn choose<P: Paths<S>, S>(
         work.now.spending.spent (total - cost_in (P.means.question problem.now).count (in_group work.now.names group) work.now.boxed.columns.costs) }
     ensures { IsPlace (P.means.question problem.now) (in_group work.now.names group) work.now.boxed.masks limit result }
 {
-    let (names, cuts) = (work.names.as_slice(), work.cuts.as_slice());
+    let names = work.names.as_slice();
     let mut best: Option<Choice> = None;
     for at in 0..work.focus.cuts.len() {
         let place = *work.focus.cuts.get(at) as usize;
-        if let Some(cut) = held_cut(problem, &work.boxed, names, group, cuts, place) {
+        if let Some(cut) = held_cut(problem, &work.boxed, names, group, &work.cuts, place) {
             let Some(choice) = choice_in(
                 problem,
                 &work.boxed,

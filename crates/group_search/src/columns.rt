@@ -1,6 +1,6 @@
 //! Columns: the least path of each component, and what it costs more to leave its values.
 
-ghost use Rattle.std.specs.Prelude.{◌≡◌, IfOk};
+ghost use Rattle.std.specs.Prelude.{◌≡◌, ◌<◌, length, IfOk};
 
 use cca_base::List;
 use std::alloc::{AllocError, Global};
@@ -30,26 +30,70 @@ pub struct Chosen {
     pub costs: List<u64>,
 }
 
+/// Writes the items over others, which are as many.
+pub(crate) fn write_over<T: Copy + Drop>(items: &[T], over: &mut List<T>)
+    requires { length over.old ≡ length items.now }
+    ensures { over.new ≡ items.now }
+{
+    for at in 0..items.len() {
+        over.set(at, items[at]);
+    }
+}
+
 impl Columns {
-    /// The least paths. The error is out of memory.
-    pub(crate) fn chosen(&self, alloc: Global) -> Result<Chosen, AllocError>
-        ensures { IfOk result (λ x. (x.values ≡ self.now.values) × (x.costs ≡ self.now.costs)) }
+    /// Columns of so many places and components, with nothing in them. The error is out of memory.
+    pub(crate) fn of(
+        alloc: Global,
+        places: usize,
+        components: usize,
+        room: usize,
+    ) -> Result<Columns, AllocError>
+        ensures values { IfOk result (λ x. length x.values ≡ places) }
+        ensures prices { IfOk result (λ x. length x.prices ≡ places) }
+        ensures costs { IfOk result (λ x. length x.costs ≡ components) }
+        ensures behind { IfOk result (λ x. length x.behind ≡ room) }
+        ensures before { IfOk result (λ x. length x.before ≡ room) }
     {
-        Ok(Chosen {
-            values: self.values.copy(alloc)?,
-            costs: self.costs.copy(alloc)?,
+        Ok(Columns {
+            values: List::of(vec![in alloc; 0; places]?),
+            prices: List::of(vec![in alloc; None; places]?),
+            costs: List::of(vec![in alloc; 0; components]?),
+            behind: List::of(vec![in alloc; None; room]?),
+            before: List::of(vec![in alloc; None; room]?),
         })
+    }
+
+    /// Writes the least paths over others.
+    pub(crate) fn copy_to(&self, chosen: &mut Chosen)
+        requires values { length chosen.old.values ≡ length self.now.values }
+        requires costs { length chosen.old.costs ≡ length self.now.costs }
+        ensures values { chosen.new.values ≡ self.now.values }
+        ensures costs { chosen.new.costs ≡ self.now.costs }
+    {
+        write_over(self.values.as_slice(), &mut chosen.values);
+        write_over(self.costs.as_slice(), &mut chosen.costs);
     }
 }
 
 impl Chosen {
-    /// The same. The error is out of memory.
-    pub(crate) fn copy(&self, alloc: Global) -> Result<Chosen, AllocError>
-        ensures { IfOk result (λ x. x ≡ self.now) }
+    /// Nothing of so many places and components. The error is out of memory.
+    pub(crate) fn of(alloc: Global, places: usize, components: usize) -> Result<Chosen, AllocError>
+        ensures values { IfOk result (λ x. length x.values ≡ places) }
+        ensures costs { IfOk result (λ x. length x.costs ≡ components) }
     {
         Ok(Chosen {
-            values: self.values.copy(alloc)?,
-            costs: self.costs.copy(alloc)?,
+            values: List::of(vec![in alloc; 0; places]?),
+            costs: List::of(vec![in alloc; 0; components]?),
         })
+    }
+
+    /// Becomes the same as others.
+    pub(crate) fn take(&mut self, other: &Chosen)
+        requires values { length self.old.values ≡ length other.now.values }
+        requires costs { length self.old.costs ≡ length other.now.costs }
+        ensures { self.new ≡ other.now }
+    {
+        write_over(other.values.as_slice(), &mut self.values);
+        write_over(other.costs.as_slice(), &mut self.costs);
     }
 }

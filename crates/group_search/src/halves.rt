@@ -1,8 +1,8 @@
-//! The halves of split boxes that are still to be looked at, the newest on top.
+//! The halves of split boxes that are still to be looked at, the newest on top, in memory that is taken once.
 
-ghost use Rattle.std.specs.Prelude.{◌≡◌, [], ◌∷◌, IfOk, OnOk, OnErr, MatchOption};
+ghost use Rattle.std.specs.Prelude.{◌≡◌, ◌<◌, ◌≤◌, [], ◌∷◌, length, IfOk, MatchOption};
 
-use cca_base::List;
+use bounded_list::BoundedList;
 use std::alloc::{AllocError, Global};
 use std::marker::Model;
 
@@ -16,44 +16,60 @@ pub struct Half {
     pub left: u64,
 }
 
-/// Splits, of which a contract sees the newest first.
+/// Splits, of which a contract sees the newest first, and how many there may be.
 #[derive(Debug, Drop)]
 pub struct Halves {
-    halves: List<Half>,
+    halves: BoundedList<Half>,
 }
 
 impl Model for Halves {
-    ghost use Rattle.std.specs.Prelude.{List, reverse};
-    ghost use Rattle.std.specs.Coded.{coded_list};
+    ghost use Rattle.std.specs.Prelude.{reverse};
+    ghost use Rattle.cca_base.specs.Prelude.{model_codes};
+    ghost use Rattle.bounded_list.specs.Bounded.{Bounded, bounded};
     ghost use Rattle.group_search.specs.declared.halves.Half.{Half};
 
-    ghost Value = { List Half };
+    ghost Value = { Bounded Half };
 
-    ghost view = { λ h. reverse h.halves };
+    ghost coded = { Prim.hlevel model_codes };
+
+    ghost view = { λ h. bounded (reverse h.halves.items) h.halves.room };
 }
 
 impl Halves {
-    /// No split.
-    pub fn new(alloc: Global) -> Halves
-        ensures { result ≡ [] }
+    /// No split, with room for so many. The error is out of memory.
+    pub fn with_room(alloc: Global, room: usize) -> Result<Halves, AllocError>
+        ensures items { IfOk result (λ h. h.items ≡ []) }
+        ensures room { IfOk result (λ h. h.room ≡ room) }
     {
-        Halves {
-            halves: List::new(alloc),
-        }
+        Ok(Halves {
+            halves: BoundedList::with_room(alloc, room)?,
+        })
     }
 
-    /// Puts a split on top. The error is out of memory.
-    pub fn push(&mut self, half: Half) -> Result<(), AllocError>
-        ensures ok { OnOk result (self.new ≡ half ∷ self.old) }
-        ensures err { OnErr result (self.new ≡ self.old) }
+    /// Lets all splits go.
+    pub fn clear(&mut self)
+        ensures items { self.new.items ≡ [] }
+        ensures room { self.new.room ≡ self.old.room }
     {
-        self.halves.push(half)
+        self.halves.clear();
+    }
+
+    /// Puts a split on top, where there is room for it.
+    pub fn push(&mut self, half: Half)
+        requires { length self.old.items < self.old.room }
+        ensures items { self.new.items ≡ half ∷ self.old.items }
+        ensures room { self.new.room ≡ self.old.room }
+    {
+        self.halves.push(half);
     }
 
     /// Takes the newest split.
     pub fn pop(&mut self) -> Option<Half>
-        ensures { MatchOption result ((self.old ≡ []) × (self.new ≡ [])) (λ half. self.old ≡ half ∷ self.new) }
+        ensures items { MatchOption result ((self.old.items ≡ []) × (self.new.items ≡ [])) (λ half. self.old.items ≡ half ∷ self.new.items) }
+        ensures within { length self.old.items ≤ self.old.room }
+        ensures room { self.new.room ≡ self.old.room }
     {
+        let _within = self.halves.len();
         self.halves.pop()
     }
 }

@@ -1,19 +1,17 @@
 //! What becomes of a box: it is dropped by its bound, or split where its least paths hold a cut, or these are asked for.
 
-ghost use Rattle.std.specs.Prelude.{◌≡◌, ◌<◌, ◌≤◌, ◌-◌, ℕ, All, Contains, IfOk, true, false, length, slice_index_or};
+ghost use Rattle.std.specs.Prelude.{◌≡◌, ◌<◌, ◌≤◌, ◌-◌, ℕ, All, Contains, true, false, length, slice_index_or};
 ghost use Rattle.group_search.specs.Bounds.{AllStand, EachPays};
 ghost use Rattle.group_search.specs.Questions.{cost_in, in_group};
 ghost use Rattle.group_search.specs.Searches.{IsJudged};
 ghost use Rattle.group_search.specs.Works.{AreMembers, IsWork, KeepsPaths};
 
 use crate::choose::{Place, choice_in, choose};
-use crate::focus::{cost_of, cuts_of};
+use crate::focus::{cost_of, write_cuts};
 use crate::question::Paths;
 use crate::spending::spend_all;
-use crate::store::keep_cut;
 use crate::work::Work;
 use cca_base::Pair;
-use std::alloc::{AllocError, Global};
 
 /// What becomes of a box.
 #[derive(Clone, Copy, Debug)]
@@ -42,14 +40,13 @@ pub(crate) fn all_stand(members: &[u16], stands: &[bool]) -> bool
 
 /// What becomes of a box whose least paths hold no cut that is known: they are asked for, and a clash of them is the next cut.
 fn ask_paths<P: Paths<S>, S>(
-    alloc: Global,
     problem: &P,
     space: &mut S,
     work: &mut Work,
     group: Option<u16>,
     total: u64,
     limit: u64,
-) -> Result<Verdict, AllocError>
+) -> Verdict
     requires space { P.means.is_space problem.now space.old }
     requires work { IsWork (P.means.question problem.now) work.old }
     requires stand { AllStand (P.means.question problem.now) (in_group work.old.names group) work.old.boxed }
@@ -60,16 +57,16 @@ fn ask_paths<P: Paths<S>, S>(
     ensures space { P.means.is_space problem.now space.new }
     ensures work { IsWork (P.means.question problem.now) work.new }
     ensures kept { KeepsPaths work.old work.new }
-    ensures judged { IfOk result (IsJudged (P.means.question problem.now) work.old.names group limit work.old.boxed.masks
-        work.old.boxed.columns.values work.old.boxed.columns.costs) }
+    ensures judged { IsJudged (P.means.question problem.now) work.old.names group limit work.old.boxed.masks
+        work.old.boxed.columns.values work.old.boxed.columns.costs result }
 {
     let columns = &work.boxed.columns;
     let (values, costs) = (columns.values.as_slice(), columns.costs.as_slice());
     let names = work.names.as_slice();
-    let Some(cut) = problem.clash(alloc, space, values, costs, names, group)? else {
-        return Ok(Verdict::Found);
-    };
-    let pairs = cut.as_slice();
+    if !problem.clash(space, values, costs, names, group, &mut work.cut) {
+        return Verdict::Found;
+    }
+    let pairs = work.cut.as_slice();
     let choice = choice_in(
         problem,
         &work.boxed,
@@ -80,47 +77,46 @@ fn ask_paths<P: Paths<S>, S>(
         total,
         limit,
     );
-    keep_cut(&mut work.cuts, cut)?;
-    let (names, cuts) = (work.names.as_slice(), work.cuts.as_slice());
-    work.focus.cuts = cuts_of(alloc, names, group, problem.components(), cuts)?;
+    work.cuts.keep(pairs);
+    let components = problem.components();
+    write_cuts(names, group, components, &work.cuts, &mut work.focus.cuts);
     match choice {
-        None => Ok(Verdict::Dropped),
-        Some(choice) => Ok(Verdict::Split(choice.pair)),
+        None => Verdict::Dropped,
+        Some(choice) => Verdict::Split(choice.pair),
     }
 }
 
-/// What becomes of the box, where the group's components alone count. The error is out of memory.
+/// What becomes of the box, where the group's components alone count.
 pub(crate) fn judge<P: Paths<S>, S>(
-    alloc: Global,
     problem: &P,
     space: &mut S,
     work: &mut Work,
     group: Option<u16>,
     limit: u64,
-) -> Result<Verdict, AllocError>
+) -> Verdict
     requires space { P.means.is_space problem.now space.old }
     requires work { IsWork (P.means.question problem.now) work.old }
-    requires members { AreMembers (P.means.question problem.now) work.old.names group work.old.focus.members }
+    requires members { AreMembers (P.means.question problem.now) work.old.names group work.old.focus.members.items }
     ensures space { P.means.is_space problem.now space.new }
     ensures work { IsWork (P.means.question problem.now) work.new }
     ensures kept { KeepsPaths work.old work.new }
-    ensures judged { IfOk result (IsJudged (P.means.question problem.now) work.old.names group limit work.old.boxed.masks
-        work.old.boxed.columns.values work.old.boxed.columns.costs) }
+    ensures judged { IsJudged (P.means.question problem.now) work.old.names group limit work.old.boxed.masks
+        work.old.boxed.columns.values work.old.boxed.columns.costs result }
 {
     let members = work.focus.members.as_slice();
     if !all_stand(members, work.boxed.stands.as_slice()) {
-        return Ok(Verdict::Dropped);
+        return Verdict::Dropped;
     }
     let base = cost_of(members, work.boxed.columns.costs.as_slice());
     if base >= limit {
-        return Ok(Verdict::Dropped);
+        return Verdict::Dropped;
     }
     let Some(total) = spend_all(problem, work, group, base, limit) else {
-        return Ok(Verdict::Dropped);
+        return Verdict::Dropped;
     };
     match choose(problem, work, group, total, limit) {
-        Place::Closed => Ok(Verdict::Dropped),
-        Place::At(pair) => Ok(Verdict::Split(pair)),
-        Place::Nowhere => ask_paths(alloc, problem, space, work, group, total, limit),
+        Place::Closed => Verdict::Dropped,
+        Place::At(pair) => Verdict::Split(pair),
+        Place::Nowhere => ask_paths(problem, space, work, group, total, limit),
     }
 }

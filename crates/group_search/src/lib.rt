@@ -2,6 +2,7 @@
 //! no clash joins are searched apart: each group of them has a floor that the search keeps.
 #![tactic(auto)]
 
+mod best;
 mod choose;
 mod columns;
 mod find;
@@ -24,6 +25,6 @@ mod work;
 
 pub use columns::{Chosen, Columns, MAX_PATH};
 pub use groups::{group_cost, is_in_group};
-pub use least::least_solution;
+pub use least::{SearchRoom, least_in, least_solution};
 pub use question::Paths;
 pub use values::has_value;

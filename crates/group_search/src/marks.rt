@@ -1,19 +1,16 @@
 //! Marks on components.
 
-ghost use Rattle.std.specs.Prelude.{◌≡◌, ◌<◌, All, IfOk, length};
+ghost use Rattle.std.specs.Prelude.{◌≡◌, ◌<◌, All, length};
 
 use cca_base::{List, Pair};
-use std::alloc::{AllocError, Global};
 
-/// No component of so many is marked. The error is out of memory.
-pub(crate) fn no_marks(alloc: Global, count: usize) -> Result<List<u16>, AllocError>
-    ensures { IfOk result (λ m. length m ≡ count) }
+/// No component is marked any more.
+pub(crate) fn clear(marks: &mut List<u16>)
+    ensures { length marks.new ≡ length marks.old }
 {
-    let mut marks = List::new(alloc);
-    for _ in 0..count {
-        marks.push(0)?;
+    for at in 0..marks.len() {
+        marks.set(at, 0);
     }
-    Ok(marks)
 }
 
 /// Marks the components of the pairs.

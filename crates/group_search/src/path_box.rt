@@ -1,10 +1,11 @@
 //! A box: what each place may have, with the columns of its components.
 
-ghost use Rattle.std.specs.Prelude.{◌≡◌, ◌<◌, ◌^◌, ℕ, All, IfOk, length, slice_index, slice_set};
+ghost use Rattle.std.specs.Prelude.{◌≡◌, ◌<◌, ◌^◌, All, IfOk, length, slice_index, slice_set};
 ghost use Rattle.group_search.specs.Columns.{IsBox};
+ghost use Rattle.group_search.specs.Rooms.{IsBoxFor, IsBoxRoom};
 ghost use Rattle.group_search.specs.Questions.{IsWithin};
 
-use crate::columns::Columns;
+use crate::columns::{Columns, write_over};
 use crate::question::Paths;
 use crate::values::has_value;
 use cca_base::List;
@@ -20,28 +21,6 @@ pub struct PathBox {
     pub stands: List<bool>,
 }
 
-/// Columns of so many places and components, with nothing in them. The error is out of memory.
-fn no_columns(
-    alloc: Global,
-    places: usize,
-    components: usize,
-    room: usize,
-) -> Result<Columns, AllocError>
-    ensures values { IfOk result (λ x. length x.values ≡ places) }
-    ensures prices { IfOk result (λ x. length x.prices ≡ places) }
-    ensures costs { IfOk result (λ x. length x.costs ≡ components) }
-    ensures behind { IfOk result (λ x. length x.behind ≡ room) }
-    ensures before { IfOk result (λ x. length x.before ≡ room) }
-{
-    Ok(Columns {
-        values: List::of(vec![in alloc; 0; places]?),
-        prices: List::of(vec![in alloc; None; places]?),
-        costs: List::of(vec![in alloc; 0; components]?),
-        behind: List::of(vec![in alloc; None; room]?),
-        before: List::of(vec![in alloc; None; room]?),
-    })
-}
-
 /// The words, each of which fits.
 fn words_of(masks: &[u64]) -> &[u64]
     ensures same { result.now ≡ masks.now }
@@ -51,29 +30,35 @@ fn words_of(masks: &[u64]) -> &[u64]
 }
 
 impl PathBox {
-    /// The box where places may have these values. The error is out of memory.
-    pub(crate) fn of<P: Paths<S>, S>(
+    /// Room for a box of so many places and components. The error is out of memory.
+    pub(crate) fn with_room(
         alloc: Global,
-        problem: &P,
-        masks: List<u64>,
+        places: usize,
+        components: usize,
+        room: usize,
     ) -> Result<PathBox, AllocError>
-        requires masks { length masks ≡ length (P.means.question problem.now).of }
-        ensures ready { IfOk result (IsBox (P.means.question problem.now)) }
-        ensures masks { IfOk result (λ b. b.masks ≡ masks) }
+        ensures { IfOk result (IsBoxFor places components room) }
     {
-        let places = problem.components().len();
-        let words = words_of(masks.as_slice());
-        let mut columns = no_columns(alloc, places, problem.count(), problem.room())?;
-        let mut stands = List::new(alloc);
-        for component in 0..problem.count() {
-            let stand = problem.column(component as u16, words, &mut columns);
-            stands.push(stand)?;
-        }
         Ok(PathBox {
-            masks,
-            columns,
-            stands,
+            masks: List::of(vec![in alloc; 0; places]?),
+            columns: Columns::of(alloc, places, components, room)?,
+            stands: List::of(vec![in alloc; false; components]?),
         })
+    }
+
+    /// Becomes the box where places may have these values.
+    pub(crate) fn fill<P: Paths<S>, S>(&mut self, problem: &P, masks: &[u64])
+        requires room { IsBoxRoom (P.means.question problem.now) self.old }
+        requires masks { length masks.now ≡ length (P.means.question problem.now).of }
+        ensures ready { IsBox (P.means.question problem.now) self.new }
+        ensures masks { self.new.masks ≡ masks.now }
+    {
+        write_over(masks, &mut self.masks);
+        let words = words_of(masks);
+        for component in 0..problem.count() {
+            let stand = problem.column(component as u16, words, &mut self.columns);
+            self.stands.set(component, stand);
+        }
     }
 
     /// From now on the place may have these values.

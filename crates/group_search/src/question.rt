@@ -1,6 +1,6 @@
 //! Components with places that take values, and a search's questions about them.
 
-ghost use Rattle.std.specs.Prelude.{◌≡◌, ◌<◌, ◌≤◌, ℕ, true, false, All, IfOk, IfSome, IsNone, List, length, slice_index};
+ghost use Rattle.std.specs.Prelude.{◌≡◌, ◌<◌, ◌≤◌, ℕ, true, false, All, List, length, slice_index};
 ghost use Rattle.cca_base.specs.State.{Extends};
 ghost use Rattle.cca_base.specs.declared.limits.TheConstants.{MAX_ROWS};
 ghost use Rattle.group_search.specs.Columns.{ArePaths, AreColumns, IsColumn, KeepsOthers, NoColumn};
@@ -9,8 +9,8 @@ ghost use Rattle.group_search.specs.Questions.{AreOf, IsCut, IsWhole, in_group};
 ghost use Rattle.group_search.specs.declared.columns.TheConstants.{MAX_PATH};
 
 use crate::columns::Columns;
-use cca_base::Cube;
-use std::alloc::{AllocError, Global};
+use bounded_list::BoundedList;
+use cca_base::Pair;
 
 /// Components that each take a path: values of their own places. `S` is memory for questions.
 pub trait Paths<S> {
@@ -39,27 +39,28 @@ pub trait Paths<S> {
         ensures stands { result ≡ true → IsColumn (means.question self.now) masks.now component columns.new }
         ensures none { result ≡ false → NoColumn (means.question self.now) masks.now component };
 
-    /// Values of the group's places that no solution has together. None says of a group of all components that they are a solution.
-    /// The error is out of memory.
+    /// Whether values of the group's places are known that no solution has together: they are written then. False says of a group of all
+    /// components that they are a solution.
     fn clash(
         &self,
-        alloc: Global,
         space: &mut S,
         values: &[u8],
         costs: &[u64],
         names: &[u16],
         group: Option<u16>,
-    ) -> Result<Option<Cube>, AllocError>
+        cut: &mut BoundedList<Pair>,
+    ) -> bool
         requires space { means.is_space self.now space.old }
         requires names { length names.now ≡ (means.question self.now).count }
         requires paths { ArePaths (means.question self.now) (in_group names.now group) values.now costs.now }
+        requires room { length (means.question self.now).of ≤ cut.old.room }
         ensures space { means.is_space self.now space.new }
-        ensures cut { IfOk result (λ o. IfSome o (IsCut (means.question self.now))) }
-        ensures held { IfOk result (λ o. IfSome o (Extends values.now)) }
-        ensures own { IfOk result (λ o.
-            IfSome o (AreOf (means.question self.now) (in_group names.now group))) }
-        ensures none { IfOk result (λ o. IsNone o → IsWhole (means.question self.now) names.now group →
-            (means.question self.now).solves values.now costs.now) };
+        ensures room { cut.new.room ≡ cut.old.room }
+        ensures cut { result ≡ true → IsCut (means.question self.now) cut.new.items }
+        ensures held { result ≡ true → Extends values.now cut.new.items }
+        ensures own { result ≡ true → AreOf (means.question self.now) (in_group names.now group) cut.new.items }
+        ensures none { result ≡ false → IsWhole (means.question self.now) names.now group →
+            (means.question self.now).solves values.now costs.now };
 
     // Each place is one of a component, and there are not too many.
     ghost owned: { (x : Self) → All (λ c. c < (means.question x).count) (means.question x).of };

@@ -11,9 +11,10 @@ ghost use Rattle.group_search.specs.Works.{IsWork, KeepsBox};
 use crate::groups::is_in_group;
 use crate::path_box::PathBox;
 use crate::question::Paths;
+use crate::store::Store;
 use crate::values::without;
 use crate::work::Work;
-use cca_base::{Cube, List, Pair};
+use cca_base::{List, Pair};
 use std::alloc::{AllocError, Global};
 
 /// What cuts have taken from each component, and how many of them name it.
@@ -164,7 +165,7 @@ pub(crate) fn held_cut<'a, P: Paths<S>, S>(
     boxed: &PathBox,
     names: &[u16],
     group: Option<u16>,
-    cuts: &'a [Cube],
+    cuts: &'a Store,
     at: usize,
 ) -> Option<&'a [Pair]>
     requires ready { IsBox (P.means.question problem.now) boxed.now }
@@ -176,7 +177,7 @@ pub(crate) fn held_cut<'a, P: Paths<S>, S>(
     if at >= cuts.len() {
         return None;
     }
-    let cut = cuts[at].as_slice();
+    let cut = cuts.get(at);
     if is_held(problem, boxed, names, group, cut) {
         Some(cut)
     } else {
@@ -207,9 +208,9 @@ pub(crate) fn spend_all<P: Paths<S>, S>(
     work.spending.clear(work.focus.members.as_slice());
     let mut total = base;
     for at in 0..work.focus.cuts.len() {
-        let (names, cuts) = (work.names.as_slice(), work.cuts.as_slice());
+        let names = work.names.as_slice();
         let place = *work.focus.cuts.get(at) as usize;
-        if let Some(cut) = held_cut(problem, &work.boxed, names, group, cuts, place) {
+        if let Some(cut) = held_cut(problem, &work.boxed, names, group, &work.cuts, place) {
             let spent = work.spending.spent.as_slice();
             let amount = least_left(problem, &work.boxed, names, group, spent, cut)?;
             if amount >= limit - total {

@@ -1,6 +1,6 @@
 //! Sets of values as words of bits.
 
-ghost use Rattle.std.specs.Prelude.{◌≡◌, ◌≢◌, ℕ, true, ◌+◌, ◌^◌, ◌<◌, ◌&&◌, nat_lt};
+ghost use Rattle.std.specs.Prelude.{◌≡◌, ◌≢◌, ℕ, true, false, ◌+◌, ◌^◌, ◌<◌, ◌&&◌, nat_lt};
 ghost use Rattle.cca_base.specs.Sets.{has};
 ghost use Rattle.cca_base.specs.declared.limits.TheConstants.{MAX_CHOICES};
 
@@ -21,6 +21,7 @@ pub(crate) fn without(word: u64, value: u8) -> u64
     ensures sum { result + 2 ^ value ≡ word }
     ensures kept { (a : ℕ) → has word a ≡ true → a ≢ value → has result a ≡ true }
     ensures within { (a : ℕ) → has result a ≡ true → has word a ≡ true }
+    ensures gone { has result value ≡ false }
 {
     word & !(1u64 << value)
 }

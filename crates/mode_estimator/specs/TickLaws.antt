@@ -8,12 +8,12 @@ use Rattle.cca_base.specs.declared.choice.Choice.{Choice}
 use Rattle.cca_base.specs.declared.limits.TheConstants.{MAX_COST, MAX_ROWS}
 use Rattle.cca_base.specs.Relations.{numbers_below}
 use Rattle.cca_base.proofs.PathLaws.{length-numbers, numbers_are_below}
-use Rattle.consistency.specs.Spaces.{IsWorldSpace}
-use Rattle.consistency.specs.declared.world_space.WorldSpace.{WorldSpace}
 use Rattle.group_search.specs.Meanings.{PathMeaning}
 use Rattle.group_search.specs.Questions.{Question}
 use Rattle.group_search.specs.declared.columns.TheConstants.{MAX_PATH}
+use Rattle.mode_estimator.specs.Spaces.{IsTickSpace}
 use Rattle.mode_estimator.specs.Ticks.{IsChoice, tick_of}
+use Rattle.mode_estimator.specs.declared.space.TickSpace.{TickSpace}
 use Rattle.mode_estimator.specs.declared.tick.Tick.{Tick}
 
 -- the numbers in order
@@ -36,8 +36,8 @@ number_at (suc n) at h = elim (below_next at n (omega (arith, h))) [
 abbrev pub asked : Tick → Question
 asked t = tick_of t.rules.now.model.now t.rows.now t.seen.now.pairs
 
-abbrev pub tick_means : PathMeaning Tick WorldSpace
-tick_means = record { question = asked; is_space = λ t space. IsWorldSpace t.rules.now.worlds.now space }
+abbrev pub tick_means : PathMeaning Tick TickSpace
+tick_means = record { question = asked; is_space = λ t space. IsTickSpace t.rules.now.worlds.now (length t.rows.now) space }
 
 -- each place is one of a component
 pub tick_owned : (t : Tick) → All (λ c. c < length t.rows.now) (numbers_below (length t.rows.now))

@@ -3,19 +3,20 @@
 
 ghost use Rattle.std.specs.Prelude.{IfOk, All};
 ghost use Rattle.cca_base.specs.Prelude.{HasValue, IsState};
-ghost use Rattle.consistency.specs.Spaces.{IsWorldSpace};
 ghost use Rattle.consistency.specs.Worlds.{AreWorldsOf};
 ghost use Rattle.mode_estimator.specs.Estimated.{IsEstimate};
+ghost use Rattle.mode_estimator.specs.Spaces.{IsEstimateSpace};
 
 use crate::answer::Estimate;
 use crate::first::first_shown;
+use crate::space::EstimateSpace;
 use cca_base::{Compiled, Seen, State};
-use consistency::{Rules, WorldSpace, Worlds};
+use consistency::{Rules, Worlds};
 use std::alloc::{AllocError, Global};
 use successors::{choices, obey};
 
 /// The state of least cost that has a world agreeing with what is seen, the first in mode order among equals, by the
-/// clauses of the model's rules and in memory for their worlds, both made once for many ticks. The error is out of memory.
+/// clauses of the model's rules and in memory for estimates, both made once for many ticks. The error is out of memory.
 pub fn estimate_by(
     alloc: Global,
     compiled: &Compiled,
@@ -23,19 +24,24 @@ pub fn estimate_by(
     state: &State,
     command: Option<u16>,
     seen: &Seen,
-    space: &mut WorldSpace,
+    space: &mut EstimateSpace,
 ) -> Result<Estimate, AllocError>
     requires worlds { AreWorldsOf compiled.now.model worlds.now }
     requires state { IsState compiled.now.model state.now.modes }
     requires seen { All (λ p. HasValue compiled.now.model p.item p.value) seen.now.pairs }
-    requires space { IsWorldSpace worlds.now space.old }
+    requires space { IsEstimateSpace compiled.now.model worlds.now space.old }
     ensures estimate { IfOk result (IsEstimate compiled.now.model state.now.modes command seen.now.pairs) }
-    ensures space { IsWorldSpace worlds.now space.new }
+    ensures space { IsEstimateSpace compiled.now.model worlds.now space.new }
 {
     let model = compiled.model();
     let mut nominal = state.copy(alloc)?;
     obey(compiled, &mut nominal, command);
-    if worlds.clash(alloc, model, &nominal, seen, space)?.is_none() {
+    if worlds.agrees(
+        model,
+        &nominal,
+        seen.pairs.as_slice(),
+        &mut space.tick.worlds,
+    ) {
         return Ok(Estimate::Found {
             state: nominal,
             cost: 0,
@@ -47,7 +53,7 @@ pub fn estimate_by(
         model,
         worlds,
     };
-    first_shown(&rules, seen, rows, space)
+    first_shown(&rules, seen, &rows, space)
 }
 
 /// The same for one tick alone.
@@ -63,6 +69,6 @@ pub fn estimate(
     ensures { IfOk result (IsEstimate compiled.now.model state.now.modes command seen.now.pairs) }
 {
     let worlds = Worlds::of(alloc, compiled.model())?;
-    let mut space = worlds.space(alloc)?;
+    let mut space = EstimateSpace::of(alloc, compiled.model(), &worlds)?;
     estimate_by(alloc, compiled, &worlds, state, command, seen, &mut space)
 }

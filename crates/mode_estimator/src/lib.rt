@@ -5,7 +5,9 @@
 mod answer;
 mod first;
 mod least;
+mod space;
 mod tick;
 
 pub use answer::Estimate;
 pub use least::{estimate, estimate_by};
+pub use space::EstimateSpace;

@@ -1,7 +1,7 @@
 //! A tick as a question of paths: each component chooses a mode from its row, and the state that they make is to have a world that
 //! agrees with what is seen.
 
-ghost use Rattle.std.specs.Prelude.{◌≡◌, ◌∷◌, ◌++◌, ◌<◌, ◌≤◌, ℕ, true, All, Contains, IfOk, IfSome, IsNone, length, slice_get, slice_index, slice_index_or, Some, false, filter, not};
+ghost use Rattle.std.specs.Prelude.{◌≡◌, ◌∷◌, ◌++◌, ◌<◌, ◌≤◌, ℕ, true, All, Contains, length, slice_get, slice_index, slice_index_or, Some, false, filter, not};
 ghost use Rattle.cca_base.specs.Prelude.{HasMode, HasValue, IsCube};
 ghost use Rattle.cca_base.specs.Relations.{numbers_below};
 ghost use Rattle.cca_base.specs.Sets.{has};
@@ -10,10 +10,11 @@ ghost use Rattle.cca_base.specs.declared.cube.Pair.{Pair};
 ghost use Rattle.cca_base.specs.declared.limits.TheConstants.{MAX_ROWS};
 ghost use Rattle.mode_estimator.specs.Ticks.{AreRowsOf, IsNextIn, ArePairsOf, is_fixed};
 
-use cca_base::{Choice, Cube, List, Pair, Seen};
-use consistency::{Rules, WorldSpace};
+use crate::space::TickSpace;
+use bounded_list::BoundedList;
+use cca_base::{Choice, List, Pair, Seen};
+use consistency::Rules;
 use group_search::{Columns, Paths, has_value, is_in_group};
-use std::alloc::{AllocError, Global};
 
 /// What each component may choose at a tick, and what is seen.
 #[derive(Drop)]
@@ -41,21 +42,23 @@ fn next_in(row: &[Choice], mask: u64, from: usize) -> Option<usize>
     None
 }
 
-/// The components of the group with their modes, and those with one choice with the mode of that choice.
-fn pairs_of_group(
-    alloc: Global,
+/// Writes the components of the group with their modes, and those with one choice with the mode of that choice.
+fn write_pairs(
     rows: &[List<Choice>],
     modes: &[u8],
     names: &[u16],
     group: Option<u16>,
-) -> Result<List<Pair>, AllocError>
+    pairs: &mut BoundedList<Pair>,
+)
     requires rows { length rows.now ≡ length modes.now }
     requires names { length names.now ≡ length modes.now }
     requires few { length modes.now ≤ MAX_ROWS }
-    ensures cube { IfOk result IsCube }
-    ensures pairs { IfOk result (ArePairsOf rows.now names.now group modes.now) }
+    requires room { length modes.now ≤ pairs.old.room }
+    ensures cube { IsCube pairs.new.items }
+    ensures pairs { ArePairsOf rows.now names.now group modes.now pairs.new.items }
+    ensures room { pairs.new.room ≡ pairs.old.room }
 {
-    let mut pairs = List::new(alloc);
+    pairs.clear();
     for c in 0..modes.len() {
         let item = c as u16;
         let row = rows[c].as_slice();
@@ -63,32 +66,32 @@ fn pairs_of_group(
             pairs.push(Pair {
                 item,
                 value: row[0].mode,
-            })?;
+            });
         } else if is_in_group(names, group, item) {
             pairs.push(Pair {
                 item,
                 value: modes[c],
-            })?;
+            });
         }
     }
-    Ok(pairs)
 }
 
-/// The pairs of components that have more than one choice: each state has the others.
-fn free_part(alloc: Global, rows: &[List<Choice>], cube: &Cube) -> Result<Cube, AllocError>
-    requires { All (λ p. p.item < length rows.now) cube.now }
-    ensures { IfOk result (λ part. part ≡ filter (λ p. not (is_fixed rows.now p.item)) cube.now) }
+/// Writes the pairs of components that have more than one choice: each state has the others.
+fn write_free(rows: &[List<Choice>], pairs: &[Pair], part: &mut BoundedList<Pair>)
+    requires rows { All (λ p. p.item < length rows.now) pairs.now }
+    requires room { length pairs.now ≤ part.old.room }
+    ensures part { part.new.items ≡ filter (λ p. not (is_fixed rows.now p.item)) pairs.now }
+    ensures room { part.new.room ≡ part.old.room }
 {
-    let mut part = Cube::new(alloc);
-    for pair in cube.as_slice() {
+    part.clear();
+    for pair in pairs {
         if rows[pair.item as usize].len() != 1 {
-            part.push(*pair)?;
+            part.push(*pair);
         }
     }
-    Ok(part)
 }
 
-impl<'a> Paths<WorldSpace> for Tick<'a> {
+impl<'a> Paths<TickSpace> for Tick<'a> {
     ghost use Rattle.mode_estimator.specs.TickLaws.{tick_few, tick_means, tick_own, tick_owned, tick_whole};
 
     ghost means = { tick_means };
@@ -131,22 +134,26 @@ impl<'a> Paths<WorldSpace> for Tick<'a> {
 
     fn clash(
         &self,
-        alloc: Global,
-        space: &mut WorldSpace,
+        space: &mut TickSpace,
         values: &[u8],
         costs: &[u64],
         names: &[u16],
         group: Option<u16>,
-    ) -> Result<Option<Cube>, AllocError> {
-        let pairs = pairs_of_group(alloc, self.rows, values, names, group)?;
-        let rules = self.rules;
-        let (model, asked) = (rules.model, pairs.as_slice());
-        match rules
-            .worlds
-            .clash_among(alloc, model, asked, self.seen, space)?
-        {
-            Some(cube) => Ok(Some(free_part(alloc, self.rows, &cube)?)),
-            None => Ok(None),
+        cut: &mut BoundedList<Pair>,
+    ) -> bool {
+        write_pairs(self.rows, values, names, group, &mut space.asked);
+        let (rules, seen) = (self.rules, self.seen.pairs.as_slice());
+        let asked = space.asked.as_slice();
+        if !rules.worlds.clash_into(
+            rules.model,
+            asked,
+            seen,
+            &mut space.worlds,
+            &mut space.blamed,
+        ) {
+            return false;
         }
+        write_free(self.rows, space.blamed.as_slice(), cut);
+        true
     }
 }

@@ -2,6 +2,7 @@ mod BestSolutions
 mod ChangeTables
 mod ColumnLaws
 mod CopiedRecords
+mod CutRooms
 mod FilledRows
 mod FirstMasks
 mod FollowLaws

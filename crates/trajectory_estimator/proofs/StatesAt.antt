@@ -1,21 +1,20 @@
 -- The states of a list of values, and pairs at the places of their components' modes behind a record.
-use Rattle.std.proofs.Common.{◌≡◌, ◌≢◌, [], ℕ, suc, ◌+◌, ◌*◌, ◌<◌, ◌≤◌, true, false, not, inl, inr, List, filter, length, map, take, drop, get_or, slice_get, slice_index, All, Contains, Some, sym, ap, subst, ◌∙◌, arith}
+use Rattle.std.proofs.Common.{◌≡◌, ℕ, suc, ◌+◌, ◌*◌, ◌<◌, ◌≤◌, true, false, not, inl, inr, List, filter, length, map, take, drop, get_or, slice_get, slice_index, All, Contains, Some, sym, ap, subst, ◌∙◌, arith}
 use Rattle.std.proofs.lemmas.Bool.{both_ways, cases_Bool, cond-false, cond-true, not-true, or_left}
 use Rattle.std.proofs.Math.Nat.{mul-le-mul_left}
 use Rattle.std.proofs.lemmas.List.{ext_get_or, get_or-drop, get_or-map, get_or-take, length-drop, length-map, length-take-le}
-use Rattle.std.proofs.lemmas.List.Elements.{All-contains, All-filter, All-get_or, All-map, All-weaker}
+use Rattle.std.proofs.lemmas.List.Elements.{All-contains, All-filter, All-get_or, All-map}
 use Rattle.std.proofs.lemmas.Option.{get_or_from_slice_get, slice_get-get_or}
 use Rattle.list_laws.proofs.Elements.{contains_map}
 use Rattle.list_laws.proofs.Members.{all_from, from_filter, to_filter}
 use Rattle.list_laws.proofs.Tests.{either}
 use Rattle.list_laws.proofs.Places.{value_at}
-use Rattle.cca_base.specs.Cube.{IsCube, IsPart, Lacks}
+use Rattle.cca_base.specs.Cube.{IsPart}
 use Rattle.cca_base.specs.Model.{HasMode}
 use Rattle.cca_base.specs.PlantModel.{PlantModel}
 use Rattle.cca_base.specs.Shown.{CanShow, Clash}
 use Rattle.cca_base.specs.State.{Extends, HasValue, IsState}
 use Rattle.cca_base.specs.declared.cube.Pair.{Pair}
-use Rattle.cca_base.proofs.Trying.{lacks_at}
 use Rattle.consistency.specs.Cores.{IsShowable}
 use Rattle.group_search.specs.Questions.{AreOf, IsWhole, in_group}
 use Rattle.trajectory_estimator.specs.Asked.{Asked, AreValues, entry_of}
@@ -79,14 +78,6 @@ module _ (q : Asked) (records : List Record) (same : map entry_of records ≡ q.
       (subst (All (λ p. HasValue q.model p.item p.value)) (sym seen_here) (All-get_or (AreValues q.model) q.records at nothing_known within values))
 
 -- ---- pairs of a group
-
--- pairs of other components have other places
-pub moved_lacks : (q : Asked) (at : ℕ) (pairs : List Pair) (i : ℕ) (p : Pair) (place : ℕ) → IsCube pairs → i < length pairs → get_or pairs i p ≡ p → place ≡ mode_place q p.item at
-    → Lacks place (map (λ (p : Pair). record { item = mode_place q p.item at; value = p.value }) (take i pairs))
-moved_lacks q at pairs i p place cube within here is =
-    All-map (λ (other : Pair). other.item ≢ place) (λ (p : Pair). record { item = mode_place q p.item at; value = p.value }) (take i pairs)
-    (All-weaker (λ (other : Pair). other.item ≢ p.item) (λ (other : Pair). mode_place q other.item at ≢ place) (λ other apart e. apart (omega (arith, e, is))) (take i pairs)
-    (lacks_at [] pairs i p cube within here))
 
 module _ (x : GroupPaths) (asked : IsAsked x.query.now) (at : ℕ) (within : at < length x.query.now.records) where
   abbrev q : Asked

@@ -4,6 +4,7 @@ pub mod Walks
 pub mod Windows
 pub mod PlaceLaws
 pub mod WalkLaws
+pub mod Spaces
 pub mod Meanings
 pub mod WindowLaws
 pub mod Steps

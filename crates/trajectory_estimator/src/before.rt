@@ -1,13 +1,14 @@
 //! The state before a record as far as a group knows it, and pairs that blame it.
 
-ghost use Rattle.std.specs.Prelude.{◌≡◌, ◌<◌, IfOk, IfSome, IsNone, IsTrue, OnOk, OnErr, ◌↔◌, Contains, All, List, ℕ, true, false, length};
+ghost use Rattle.std.specs.Prelude.{◌≡◌, ◌<◌, ◌≤◌, IfSome, IsNone, IsTrue, ◌↔◌, Contains, All, List, ℕ, true, false, length};
+ghost use Rattle.cca_base.specs.Prelude.{IsCube};
 ghost use Rattle.cca_base.specs.MoveIndex.{IsMoveNamed};
 ghost use Rattle.cca_base.specs.declared.cube.Pair.{Pair};
-ghost use Rattle.trajectory_estimator.specs.Windows.{state_before};
+ghost use Rattle.trajectory_estimator.specs.Windows.{state_before, window_of};
 
 use crate::group_paths::GroupPaths;
+use bounded_list::BoundedList;
 use cca_base::{Cube, Pair};
-use std::alloc::AllocError;
 
 /// The state before a record, of which a group knows the modes of its components.
 #[derive(Clone, Copy)]
@@ -125,55 +126,63 @@ impl<'a> Before<'a> {
         None
     }
 
-    /// Sees to it that the cut says that the component stands in the mode before the record. Before the window it always does. The
-    /// error is out of memory.
-    pub(crate) fn blame(&self, cut: &mut Cube, pair: Pair) -> Result<(), AllocError>
+    /// Sees to it that the cut says that the component stands in the mode before the record. Before the window it always does.
+    pub(crate) fn blame(&self, cut: &mut BoundedList<Pair>, pair: Pair)
         requires known { IsKnown self.now pair }
-        requires own { AreOwn self.now.paths cut.old }
-        ensures cut { OnOk result (IsCutWith self.now cut.old cut.new) }
-        ensures blames { OnOk result (Blames self.now cut.new pair) }
+        requires own { AreOwn self.now.paths cut.old.items }
+        requires cube { IsCube cut.old.items }
+        requires room { length (window_of self.now.paths.query.now).of ≤ cut.old.room }
+        ensures cut { IsCutWith self.now cut.old.items cut.new.items }
+        ensures blames { Blames self.now cut.new.items pair }
+        ensures cube { IsCube cut.new.items }
+        ensures room { cut.new.room ≡ cut.old.room }
     {
         if self.at == 0 {
-            return Ok(());
+            return;
         }
         let item = ((self.at - 1) * self.paths.count()) as u16 + pair.item;
         if !names(cut.as_slice(), item) {
             cut.push(Pair {
                 item,
                 value: pair.value,
-            })?;
+            });
         }
-        Ok(())
     }
 
-    /// Adds pairs of a cube that is known to stand. The error is out of memory.
-    pub(crate) fn blame_all(&self, cut: &mut Cube, cube: &Cube) -> Result<(), AllocError>
+    /// Adds pairs of a cube that is known to stand.
+    pub(crate) fn blame_all(&self, cut: &mut BoundedList<Pair>, cube: &Cube)
         requires known { All (IsKnown self.now) cube.now }
-        requires own { AreOwn self.now.paths cut.old }
-        ensures cut { OnOk result (IsCutWith self.now cut.old cut.new) }
-        ensures blames { OnOk result (All (Blames self.now cut.new) cube.now) }
+        requires own { AreOwn self.now.paths cut.old.items }
+        requires cube { IsCube cut.old.items }
+        requires room { length (window_of self.now.paths.query.now).of ≤ cut.old.room }
+        ensures cut { IsCutWith self.now cut.old.items cut.new.items }
+        ensures blames { All (Blames self.now cut.new.items) cube.now }
+        ensures cube { IsCube cut.new.items }
+        ensures room { cut.new.room ≡ cut.old.room }
     {
         for pair in cube.as_slice() {
-            self.blame(cut, *pair)?;
+            self.blame(cut, *pair);
         }
-        Ok(())
     }
 
-    /// Adds for each cube a component that is known to stand in another mode. False comes only where one has none. The error is out of
-    /// memory.
-    pub(crate) fn blame_each(&self, cut: &mut Cube, ways: &[Cube]) -> Result<bool, AllocError>
+    /// Adds for each cube a component that is known to stand in another mode. False comes only where one has none.
+    pub(crate) fn blame_each(&self, cut: &mut BoundedList<Pair>, ways: &[Cube]) -> bool
         requires ways { All (All (λ p. p.item < length self.now.modes.now)) ways.now }
-        requires own { AreOwn self.now.paths cut.old }
-        ensures cut { IfOk result (λ b. IsCutWith self.now cut.old cut.new) }
-        ensures blames { IfOk result (λ b. b ≡ true → All (λ cube. (p : Pair) × IsAgainst cube p × Blames self.now cut.new p) ways.now) }
-        ensures none { IfOk result (λ b. b ≡ false → (cube : List Pair) × Contains ways.now cube × MayHold self.now cube) }
+        requires own { AreOwn self.now.paths cut.old.items }
+        requires cube { IsCube cut.old.items }
+        requires room { length (window_of self.now.paths.query.now).of ≤ cut.old.room }
+        ensures cut { IsCutWith self.now cut.old.items cut.new.items }
+        ensures blames { result ≡ true → All (λ cube. (p : Pair) × IsAgainst cube p × Blames self.now cut.new.items p) ways.now }
+        ensures none { result ≡ false → (cube : List Pair) × Contains ways.now cube × MayHold self.now cube }
+        ensures cube { IsCube cut.new.items }
+        ensures room { cut.new.room ≡ cut.old.room }
     {
         for cube in ways {
             let Some(pair) = self.failing(cube) else {
-                return Ok(false);
+                return false;
             };
-            self.blame(cut, pair)?;
+            self.blame(cut, pair);
         }
-        Ok(true)
+        true
     }
 }

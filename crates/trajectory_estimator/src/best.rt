@@ -2,10 +2,10 @@
 
 ghost use Rattle.std.specs.Prelude.{◌≡◌, ◌≤◌, All, IfOk, length, map};
 ghost use Rattle.cca_base.specs.Prelude.{IsState};
-ghost use Rattle.consistency.specs.Spaces.{IsWorldSpace};
 ghost use Rattle.group_search.specs.Floors.{every};
 ghost use Rattle.group_search.specs.Questions.{cost_in};
 ghost use Rattle.trajectory_estimator.specs.Asked.{AreValues, IsBestOf, entry_of, modes_of};
+ghost use Rattle.trajectory_estimator.specs.Spaces.{IsWindowSpace};
 ghost use Rattle.trajectory_estimator.specs.Windows.{IsWindow, states_of};
 ghost use Rattle.trajectory_estimator.specs.declared.record.TheConstants.{MAX_WINDOW};
 
@@ -14,10 +14,11 @@ use crate::paths::WindowPaths;
 use crate::places::{components_of, first_masks};
 use crate::query::Query;
 use crate::record::Record;
+use crate::space::WindowSpace;
 use crate::still::still_components;
 use crate::trajectory::Trajectory;
 use cca_base::{Compiled, List, State, numbers_below};
-use consistency::{WorldSpace, Worlds};
+use consistency::Worlds;
 use group_search::{Chosen, group_cost, least_solution};
 use std::alloc::{AllocError, Global};
 
@@ -51,11 +52,11 @@ fn trajectory_of(query: &Query, chosen: &Chosen) -> Result<Trajectory, AllocErro
 /// The same as `best_trajectory`, with what is made once for many windows.
 pub(crate) fn best_of(
     query: &Query,
-    space: &mut WorldSpace,
+    space: &mut WindowSpace,
 ) -> Result<Option<Trajectory>, AllocError>
-    requires space { IsWorldSpace query.now.worlds space.old }
+    requires space { IsWindowSpace query.now.worlds (length query.now.model.components) space.old }
     ensures best { IfOk result (IsBestOf query.now.model query.now.anchor query.now.records) }
-    ensures space { IsWorldSpace query.now.worlds space.new }
+    ensures space { IsWindowSpace query.now.worlds (length query.now.model.components) space.new }
 {
     let alloc = query.alloc();
     let components = components_of(query)?;
@@ -87,7 +88,7 @@ pub fn best_trajectory(
     ensures { IfOk result (IsBestOf compiled.now.model anchor.now.modes (map entry_of records.now)) }
 {
     let worlds = Worlds::of(alloc, compiled.model())?;
-    let mut space = worlds.space(alloc)?;
+    let mut space = WindowSpace::of(alloc, compiled.model(), &worlds)?;
     let changes = Changes::of(alloc, compiled.model())?;
     let query = Query::new(
         alloc,

@@ -1,6 +1,7 @@
 //! A gate that is other than the one that a walk goes by, and the modes that make it so.
 
-ghost use Rattle.std.specs.Prelude.{◌≡◌, ◌<◌, ℕ, List, IfOk, IfSome, IsNone, true, length, slice_get, slice_index, Some};
+ghost use Rattle.std.specs.Prelude.{◌≡◌, ◌<◌, ◌≤◌, ℕ, List, true, false, length, slice_get, slice_index, Some};
+ghost use Rattle.cca_base.specs.Prelude.{IsCube};
 ghost use Rattle.cca_base.specs.MoveIndex.{IsMoveNamed};
 ghost use Rattle.cca_base.specs.State.{Extends};
 ghost use Rattle.group_search.specs.Questions.{IsWhole, in_group};
@@ -11,8 +12,8 @@ ghost use Rattle.trajectory_estimator.specs.Windows.{HasGate, window_of};
 use crate::before::Before;
 use crate::group_paths::GroupPaths;
 use crate::leaving::{OPEN, SHUT};
-use cca_base::{Cube, Move, Pair};
-use std::alloc::{AllocError, Global};
+use bounded_list::BoundedList;
+use cca_base::{Move, Pair};
 
 /// Where the component's gate at the record stands.
 fn gate_place(before: &Before<'_>, component: u16) -> usize
@@ -23,85 +24,82 @@ fn gate_place(before: &Before<'_>, component: u16) -> usize
     (paths.query.records().len() + before.at) * paths.count() + component as usize
 }
 
-/// The value of the move's gate, and that its source stands. The error is out of memory.
-fn gate_cut(alloc: Global, before: &Before<'_>, step: &Move) -> Result<Cube, AllocError>
+/// Writes the value of the move's gate, and that its source stands.
+fn gate_cut(before: &Before<'_>, step: &Move, cut: &mut BoundedList<Pair>)
     requires component { step.now.component < length before.now.modes.now }
     requires own { in_group before.now.paths.names.now before.now.paths.group step.now.component ≡ true }
     requires source { slice_get before.now.modes.now step.now.component ≡ Some step.now.source }
-    ensures own { IfOk result (AreOwn before.now.paths) }
-    ensures gate { IfOk result (λ cut. (values : List ℕ) → Extends values cut → IsGateOf before.now step.now.component values) }
-    ensures source { IfOk result (λ cut. Blames before.now cut (record { item = step.now.component; value = step.now.source })) }
+    requires room { length (window_of before.now.paths.query.now).of ≤ cut.old.room }
+    ensures own { AreOwn before.now.paths cut.new.items }
+    ensures gate { (values : List ℕ) → Extends values cut.new.items → IsGateOf before.now step.now.component values }
+    ensures source { Blames before.now cut.new.items (record { item = step.now.component; value = step.now.source }) }
+    ensures cube { IsCube cut.new.items }
+    ensures room { cut.new.room ≡ cut.old.room }
 {
     let paths = &before.paths;
     let row = paths.query.records().len() + before.at;
     let place = row * paths.count() + step.component as usize;
-    let mut cut = Cube::new(alloc);
+    cut.clear();
     cut.push(Pair {
         item: place as u16,
         value: paths.values[place],
-    })?;
+    });
     let source = Pair {
         item: step.component,
         value: step.source,
     };
-    before.blame(&mut cut, source)?;
-    Ok(cut)
+    before.blame(cut, source);
 }
 
-/// Why the gate of the move that is named isn't the one that its walk goes by. None says of a group of all components that it is. The
-/// error is out of memory.
-fn cause_against(
-    alloc: Global,
-    before: &Before<'_>,
-    number: u16,
-) -> Result<Option<Cube>, AllocError>
+/// Whether the gate of the move that is named isn't the one that its walk goes by: why is written then. False says of a group of all
+/// components that it is.
+fn cause_against(before: &Before<'_>, number: u16, cut: &mut BoundedList<Pair>) -> bool
     requires walks { AreWalks before.now.paths }
     requires named { IsNamedAt before.now number }
-    ensures clash { IfOk result (λ o. IfSome o (IsClashOf before.now.paths)) }
-    ensures none { IfOk result (λ o. IsNone o → IsWhole (window_of before.now.paths.query.now) before.now.paths.names.now before.now.paths.group →
-        HasGate before.now.paths.query.now before.now.paths.values.now before.now.at) }
+    requires room { length (window_of before.now.paths.query.now).of ≤ cut.old.room }
+    ensures clash { result ≡ true → IsClashOf before.now.paths cut.new.items }
+    ensures none { result ≡ false → IsWhole (window_of before.now.paths.query.now) before.now.paths.names.now before.now.paths.group →
+        HasGate before.now.paths.query.now before.now.paths.values.now before.now.at }
+    ensures room { cut.new.room ≡ cut.old.room }
 {
     let query = before.paths.query;
     let ways = query.compiled().ways().get(number as usize).as_slice();
     let step = query.model().moves().get(number as usize);
-    let mut cut = gate_cut(alloc, before, step)?;
+    gate_cut(before, step, cut);
     let value = before.paths.values[gate_place(before, step.component)];
     if value == OPEN {
-        if before.blame_each(&mut cut, ways)? {
-            return Ok(Some(cut));
-        }
-    } else if value == SHUT {
+        return before.blame_each(cut, ways);
+    }
+    if value == SHUT {
         if let Some(cube) = before.standing(ways) {
-            before.blame_all(&mut cut, cube)?;
-            return Ok(Some(cut));
+            before.blame_all(cut, cube);
+            return true;
         }
     }
-    Ok(None)
+    false
 }
 
-/// Values of the group by which a gate at the record isn't the one that its walk goes by. None says of a group of all components that
-/// the walks go by the real gate. The error is out of memory.
-pub(crate) fn gate_clash(
-    alloc: Global,
-    paths: &GroupPaths<'_>,
-    at: usize,
-) -> Result<Option<Cube>, AllocError>
+/// Whether a gate at the record isn't the one that its walk goes by: values of the group are written then by which it isn't. False says
+/// of a group of all components that the walks go by the real gate.
+pub(crate) fn gate_clash(paths: &GroupPaths<'_>, at: usize, cut: &mut BoundedList<Pair>) -> bool
     requires walks { AreWalks paths.now }
     requires at { at < length paths.now.query.now.records }
-    ensures clash { IfOk result (λ o. IfSome o (IsClashOf paths.now)) }
-    ensures none { IfOk result (λ o. IsNone o → IsWhole (window_of paths.now.query.now) paths.now.names.now paths.now.group →
-        HasGate paths.now.query.now paths.now.values.now at) }
+    requires room { length (window_of paths.now.query.now).of ≤ cut.old.room }
+    ensures clash { result ≡ true → IsClashOf paths.now cut.new.items }
+    ensures none { result ≡ false → IsWhole (window_of paths.now.query.now) paths.now.names.now paths.now.group →
+        HasGate paths.now.query.now paths.now.values.now at }
+    ensures room { cut.new.room ≡ cut.old.room }
 {
     let query = paths.query;
     let before = Before::of(*paths, at);
     let Some(command) = query.records()[at].command else {
-        return Ok(None);
+        return false;
     };
     let Some(number) = before.named(command) else {
-        return Ok(None);
+        return false;
     };
     if !paths.has(query.model().moves().get(number as usize).component) {
-        return Ok(None);
+        return false;
     }
-    cause_against(alloc, &before, number)
+    cause_against(&before, number, cut)
 }

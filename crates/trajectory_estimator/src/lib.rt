@@ -21,6 +21,7 @@ mod record;
 mod rests;
 mod revised;
 mod shown;
+mod space;
 mod step;
 mod still;
 mod tracker;

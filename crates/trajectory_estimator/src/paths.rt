@@ -14,10 +14,10 @@ use crate::prices::set_prices;
 use crate::query::Query;
 use crate::rests::fill_rests;
 use crate::shown::shown_clash;
-use cca_base::{Cube, MAX_CHOICES};
-use consistency::WorldSpace;
+use crate::space::WindowSpace;
+use bounded_list::BoundedList;
+use cca_base::{MAX_CHOICES, Pair};
 use group_search::{Columns, Paths};
-use std::alloc::{AllocError, Global};
 
 /// A window's question, with the component of each place.
 #[derive(Drop)]
@@ -33,7 +33,7 @@ pub(crate) struct WindowPaths<'a> {
     ghost places: { components.now ≡ (window_of query.now).of },
 }
 
-impl<'a> Paths<WorldSpace> for WindowPaths<'a> {
+impl<'a> Paths<WindowSpace> for WindowPaths<'a> {
     ghost use Rattle.trajectory_estimator.specs.Meanings.{window_means};
     ghost use Rattle.trajectory_estimator.specs.WindowLaws.{window_few, window_own, window_owned, window_whole};
 
@@ -76,13 +76,13 @@ impl<'a> Paths<WorldSpace> for WindowPaths<'a> {
 
     fn clash(
         &self,
-        alloc: Global,
-        space: &mut WorldSpace,
+        space: &mut WindowSpace,
         values: &[u8],
         costs: &[u64],
         names: &[u16],
         group: Option<u16>,
-    ) -> Result<Option<Cube>, AllocError> {
+        cut: &mut BoundedList<Pair>,
+    ) -> bool {
         let paths = GroupPaths {
             query: self.query,
             values,
@@ -93,13 +93,10 @@ impl<'a> Paths<WorldSpace> for WindowPaths<'a> {
         let count = self.query.records().len();
         for done in 0..count {
             let at = count - 1 - done;
-            if let Some(cut) = gate_clash(alloc, &paths, at)? {
-                return Ok(Some(cut));
-            }
-            if let Some(cut) = shown_clash(alloc, &paths, at, space)? {
-                return Ok(Some(cut));
+            if gate_clash(&paths, at, cut) || shown_clash(&paths, at, space, cut) {
+                return true;
             }
         }
-        Ok(None)
+        false
     }
 }

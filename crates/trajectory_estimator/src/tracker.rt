@@ -2,12 +2,12 @@
 
 ghost use Rattle.std.specs.Prelude.{◌≡◌, ◌<◌, ◌≤◌, false, ◌+◌, ◌-◌, ◌^◌, IfOk, OnErr, OnOk, drop, length, map};
 ghost use Rattle.cca_base.specs.Prelude.{start_modes, IsCompiled, IsState};
-ghost use Rattle.consistency.specs.Spaces.{IsWorldSpace};
 ghost use Rattle.consistency.specs.Worlds.{AreWorldsOf};
 ghost use Rattle.trajectory_estimator.specs.Asked.{AreValues, IsBestOf, entry_of, modes_of};
 ghost use Rattle.trajectory_estimator.specs.Changes.{AreChangesOf};
 ghost use Rattle.trajectory_estimator.specs.Tracked.{TicksBy, tracked_start};
 ghost use Rattle.trajectory_estimator.specs.NextWindows.{IsNextWindow, IsWindowIn};
+ghost use Rattle.trajectory_estimator.specs.Spaces.{IsWindowSpace};
 ghost use Rattle.window_laws.specs.Ticks.{IsRevised, going, next_anchor};
 
 use crate::best::best_of;
@@ -16,10 +16,11 @@ use crate::next_window::NextWindow;
 use crate::query::Query;
 use crate::record::{MAX_WINDOW, Record, records_with};
 use crate::revised::{copy_states, revised};
+use crate::space::WindowSpace;
 use crate::trajectory::Trajectory;
 use crate::window::Window;
 use cca_base::{Compiled, List, State};
-use consistency::{WorldSpace, Worlds};
+use consistency::Worlds;
 use std::alloc::{AllocError, Global};
 use std::marker::Model;
 use successors::Plant;
@@ -31,8 +32,8 @@ pub struct Tracker {
     alloc: Global,
     compiled: Compiled,
     worlds: Worlds,
-    /// Memory in which their worlds are sought, made once for all windows.
-    space: WorldSpace,
+    /// Memory in which clashes with what was seen are sought, made once for all windows.
+    space: WindowSpace,
     changes: Changes,
     anchor: State,
     records: List<Record>,
@@ -43,8 +44,9 @@ pub struct Tracker {
 
 impl Model for Tracker {
     ghost use Rattle.cca_base.specs.Prelude.{model_codes};
-    ghost use Rattle.consistency.specs.Spaces.{IsWorldSpace};
+    ghost use Rattle.std.specs.Prelude.{length};
     ghost use Rattle.trajectory_estimator.specs.Queries.{IsTracker};
+    ghost use Rattle.trajectory_estimator.specs.Spaces.{IsWindowSpace};
     ghost use Rattle.trajectory_estimator.specs.Tracked.{Tracked, stands};
 
     ghost Value = { Tracked };
@@ -57,7 +59,7 @@ impl Model for Tracker {
     } };
 
     ghost invariant = { λ t. IsTracker t.compiled t.worlds t.changes
-        (stands t.anchor t.records t.last t.ticks t.holding) × IsWorldSpace t.worlds t.space };
+        (stands t.anchor t.records t.last t.ticks t.holding) × IsWindowSpace t.worlds (length t.compiled.model.components) t.space };
 }
 
 /// The state in which each component starts. The error is out of memory.
@@ -75,16 +77,16 @@ fn best_in(
     compiled: &Compiled,
     worlds: &Worlds,
     changes: &Changes,
-    space: &mut WorldSpace,
+    space: &mut WindowSpace,
     window: &NextWindow,
 ) -> Result<Option<Trajectory>, AllocError>
     requires worlds { AreWorldsOf compiled.now.model worlds.now }
     requires changes { AreChangesOf compiled.now.model changes.now }
-    requires space { IsWorldSpace worlds.now space.old }
+    requires space { IsWindowSpace worlds.now (length compiled.now.model.components) space.old }
     requires window { IsWindowIn compiled.now.model window.now }
     ensures best { IfOk result (IsBestOf compiled.now.model window.now.anchor.modes
         (map entry_of window.now.records)) }
-    ensures space { IsWorldSpace worlds.now space.new }
+    ensures space { IsWindowSpace worlds.now (length compiled.now.model.components) space.new }
 {
     let (anchor, records) = (&window.anchor, window.records.as_slice());
     let query = Query::new(alloc, compiled, worlds, changes, anchor, records);
@@ -98,7 +100,7 @@ impl Tracker {
     {
         let model = compiled.model();
         let worlds = Worlds::of(alloc, model)?;
-        let space = worlds.space(alloc)?;
+        let space = WindowSpace::of(alloc, model, &worlds)?;
         let changes = Changes::of(alloc, model)?;
         let anchor = start_state(alloc, &compiled)?;
         Ok(Tracker {

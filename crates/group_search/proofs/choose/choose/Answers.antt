@@ -1,6 +1,6 @@
-use Rattle.std.proofs.Common.{List, ℕ, All, sym, subst}
+use Rattle.std.proofs.Common.{List, ℕ, subst}
 use Rattle.group_search.specs.Bounds.{IsOpen}
-use Rattle.group_search.specs.Questions.{IsCut, in_group}
+use Rattle.group_search.specs.Questions.{in_group}
 use Rattle.group_search.specs.declared.choose.Choice.{Choice}
 use Rattle.group_search.proofs.ChooseLaws.{is_at, is_some}
 use Rattle.group_search.proofs.choose.choose.Goals.{in-Some+in-Some-choice_in+in-Some-best, in-Some+in-Some-choice_in+in_default-best-2, in-Some+in-Some-choice_in+in_default-best, in_default}
@@ -8,9 +8,6 @@ use Rattle.group_search.proofs.choose.choose.Goals as goal
 
 pub loop-at-init : goal.loop-at-init
 loop-at-init g c = tt
-
-pub held_cut-requires-clause-cuts : goal.held_cut-requires-clause-cuts
-held_cut-requires-clause-cuts g c = subst (All (IsCut (g.P.Paths.means.question c.args.problem.now))) (sym c.as_slice-cuts.ensures.value) c.requires.work.cuts
 
 pub loop-at-preserved : goal.loop-at-preserved
 loop-at-preserved g c =

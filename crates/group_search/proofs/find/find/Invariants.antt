@@ -9,9 +9,9 @@ invariant-boxes g l = record {
   space : g.P.Paths.means.is_space l.problem l.space;
   work : IsWork (g.P.Paths.means.question l.problem) l.work;
   names : l.work.names ≡ l.fn.work.names;
-  members : AreMembers (g.P.Paths.means.question l.problem) l.fn.work.names l.group l.work.focus.members;
-  sought : IsSought (g.P.Paths.means.question l.problem) l.fn.work.names l.group l.fn.work.boxed.masks l.limit l.work.boxed.masks l.halves l.best;
+  members : AreMembers (g.P.Paths.means.question l.problem) l.fn.work.names l.group l.work.focus.members.items;
+  sought : IsSought (g.P.Paths.means.question l.problem) l.fn.work.names l.group l.fn.work.boxed.masks l.limit l.work.boxed.masks l.work.halves.items l.work.best;
 }
 
 abbrev pub decreases-boxes : goal.decreases-boxes
-decreases-boxes g l = weight (l.work.boxed.masks ∷ left_of l.halves l.work.boxed.masks)
+decreases-boxes g l = weight (l.work.boxed.masks ∷ left_of l.work.halves.items l.work.boxed.masks)

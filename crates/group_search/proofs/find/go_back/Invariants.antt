@@ -1,4 +1,4 @@
-use Rattle.std.proofs.Common.{true, length}
+use Rattle.std.proofs.Common.{◌≡◌, true, length}
 use Rattle.group_search.specs.Columns.{IsBox}
 use Rattle.group_search.specs.Halves.{SplitOwn}
 use Rattle.group_search.proofs.HalfLaws.{IsGoing}
@@ -7,9 +7,10 @@ use Rattle.group_search.proofs.find.go_back.Given as goal
 abbrev pub invariant-loop-half : goal.invariant-loop-half
 invariant-loop-half g l = record {
   ready : IsBox (g.P.Paths.means.question l.problem) l.boxed;
-  own : SplitOwn (g.P.Paths.means.question l.problem) (λ c. true) l.halves;
-  going : IsGoing l.fn.boxed.masks l.boxed.masks l.fn.halves l.halves;
+  own : SplitOwn (g.P.Paths.means.question l.problem) (λ c. true) l.halves.items;
+  going : IsGoing l.fn.boxed.masks l.boxed.masks l.fn.halves.items l.halves.items;
+  room : l.halves.room ≡ l.fn.halves.room;
 }
 
 abbrev pub decreases-loop-half : goal.decreases-loop-half
-decreases-loop-half g l = length l.halves
+decreases-loop-half g l = length l.halves.items

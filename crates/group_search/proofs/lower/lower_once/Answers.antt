@@ -18,17 +18,15 @@ settle_again-requires-clause-floors g c =
     c.get-before.result.now c.get.result.now c.below-lower.result c.requires.work.ready.masks c.requires.place c.requires.settled c.get-before.ensures.item c.get.ensures.item c.below-lower.ensures
     c.put.new.self.masks c.put.ensures.masks
 
-pub returns-in_default-clause-none : goal.returns-in_default-clause-none
-returns-in_default-clause-none g c e =
-    let none = rw c.in_default.is at c.in_ok-other.ensures.none in
-    let q = g.P.Paths.means.question c.args.problem.now in
-    once_none q c.args.work.now.boxed.masks c.args.work.now.names c.args.chosen.now c.args.place c.args.limit
+pub returns-then-not-settle_again-clause-none : goal.returns-then-not-settle_again-clause-none
+returns-then-not-settle_again-clause-none g c _ =
+    once_none (g.P.Paths.means.question c.args.problem.now) c.args.work.now.boxed.masks c.args.work.now.names c.args.chosen.now c.args.place c.args.limit
     c.get-before.result.now c.get.result.now c.below-lower.result c.requires.work.ready.masks c.requires.place c.requires.settled c.get-before.ensures.item c.get.ensures.item c.below-lower.ensures
-    c.put.new.self.masks c.put.ensures.masks (none refl)
+    c.put.new.self.masks c.put.ensures.masks (c.if-not-settle_again.ensures.none refl)
 
-pub returns-in_default-clause-same : goal.returns-in_default-clause-same
-returns-in_default-clause-same g c e =
-    c.put-in_default.ensures.masks ∙ ap (λ m. set m c.args.place c.get-before.result.now) c.in_ok-other.ensures.masks
+pub returns-then-not-settle_again-clause-same : goal.returns-then-not-settle_again-clause-same
+returns-then-not-settle_again-clause-same g c _ =
+    c.put-then-not-settle_again.ensures.masks ∙ ap (λ m. set m c.args.place c.get-before.result.now) c.settle_again.ensures.masks
     ∙ once_back (g.P.Paths.means.question c.args.problem.now) c.args.work.now.boxed.masks c.args.work.now.names c.args.chosen.now c.args.place c.args.limit
     c.get-before.result.now c.get.result.now c.below-lower.result c.requires.work.ready.masks c.requires.place c.requires.settled c.get-before.ensures.item c.get.ensures.item c.below-lower.ensures
     c.put.new.self.masks c.put.ensures.masks

@@ -1,4 +1,4 @@
-use Rattle.std.proofs.Common.{◌≡◌, length}
+use Rattle.std.proofs.Common.{◌≡◌}
 use Rattle.group_search.specs.Floors.{AreJoined}
 use Rattle.group_search.specs.Works.{IsWork}
 use Rattle.group_search.proofs.settle.meet_clashes.Given as goal
@@ -9,5 +9,4 @@ invariant-loop g l = record {
   work : IsWork (g.P.Paths.means.question l.problem) l.work;
   joined : AreJoined l.fn.work.names l.work.names;
   boxed : l.work.boxed ≡ l.fn.work.boxed;
-  marks : length l.marks ≡ length l.fn.marks;
 }

@@ -1,4 +1,4 @@
-use Rattle.std.proofs.Common.{◌≡◌, length}
+use Rattle.std.proofs.Common.{◌≡◌}
 use Rattle.group_search.specs.Floors.{IsFloored}
 use Rattle.group_search.specs.Works.{IsWork}
 use Rattle.group_search.proofs.settle.search_marked.Given as goal
@@ -10,5 +10,4 @@ invariant-loop-c g l = record {
   names : l.work.names ≡ l.fn.work.names;
   masks : l.work.boxed.masks ≡ l.fn.work.boxed.masks;
   floored : IsFloored (g.P.Paths.means.question l.problem) l.fn.work.boxed.masks l.fn.work.names l.limit l.chosen;
-  marks : length l.marks ≡ length l.fn.marks;
 }

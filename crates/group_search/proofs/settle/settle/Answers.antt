@@ -1,5 +1,5 @@
 use Rattle.std.proofs.Common.{refl, sym, subst, ◌∙◌}
-use Rattle.group_search.specs.Floors.{AreJoined, IsFloored, IsRound}
+use Rattle.group_search.specs.Floors.{AreJoined, IsFloored}
 use Rattle.group_search.proofs.FloorLaws.{floors_joined}
 use Rattle.group_search.proofs.JoinLaws.{joined_none, joined_twice}
 use Rattle.group_search.proofs.settle.settle.Goals as goal
@@ -13,9 +13,6 @@ loop-init g c = record {
   floored = c.requires.floored;
 }
 
-pub returns-in_err-settle_once-clause-joined : goal.returns-in_err-settle_once-clause-joined
-returns-in_err-settle_once-clause-joined g c = joined_twice c.args.work.now.names c.loop.work.names c.settle_once.new.work.names c.loop.invariant.joined c.settle_once.ensures.joined
-
 pub returns-in-Settled-clause-joined : goal.returns-in-Settled-clause-joined
 returns-in-Settled-clause-joined g c = joined_twice c.args.work.now.names c.loop.work.names c.settle_once.new.work.names c.loop.invariant.joined c.settle_once.ensures.joined
 
@@ -26,14 +23,12 @@ pub loop-preserved : goal.loop-preserved
 loop-preserved g c =
     let q = g.P.Paths.means.question c.args.problem.now in
     let work = c.settle_once.new.work in
-    let chosen = c.settle_once.new.chosen in
-    let again : IsFloored q c.loop.work.boxed.masks work.names c.args.limit chosen = subst (IsRound q c.loop.work.boxed.masks work.names c.args.limit chosen) c.in-Again.is c.in_ok-settle_once.ensures.round in
     record {
       space = c.settle_once.ensures.space;
       work = c.settle_once.ensures.work;
       joined = joined_twice c.args.work.now.names c.loop.work.names work.names c.loop.invariant.joined c.settle_once.ensures.joined;
-      masks = c.in_ok-settle_once.ensures.masks ∙ c.loop.invariant.masks;
-      floored = subst (λ m. IsFloored q m work.names c.args.limit chosen) (sym c.in_ok-settle_once.ensures.masks) again;
+      masks = c.settle_once.ensures.masks ∙ c.loop.invariant.masks;
+      floored = subst (λ m. IsFloored q m work.names c.args.limit c.settle_once.new.chosen) (sym c.settle_once.ensures.masks) c.in-Again.ensures.round;
     }
 
 pub search_group-requires-clause-floors : goal.search_group-requires-clause-floors
@@ -45,14 +40,6 @@ search_group-requires-clause-floors g c =
       floors = floors_joined q c.loop.work.boxed.masks c.loop.work.names c.join_all.new.names c.loop.chosen.costs c.loop.invariant.work.names c.join_all.ensures.joined floored.has.floors;
     }
 
-pub returns-in_err-search_group-clause-joined : goal.returns-in_err-search_group-clause-joined
-returns-in_err-search_group-clause-joined g c =
-    subst (AreJoined c.args.work.now.names) (sym c.search_group.ensures.names) (joined_twice c.args.work.now.names c.loop.work.names c.join_all.new.names c.loop.invariant.joined c.join_all.ensures.joined)
-
-pub returns-then-branch-clause-joined : goal.returns-then-branch-clause-joined
-returns-then-branch-clause-joined g c =
-    subst (AreJoined c.args.work.now.names) (sym c.search_group.ensures.names) (joined_twice c.args.work.now.names c.loop.work.names c.join_all.new.names c.loop.invariant.joined c.join_all.ensures.joined)
-
-pub returns-else-branch-clause-joined : goal.returns-else-branch-clause-joined
-returns-else-branch-clause-joined g c =
+pub returns-clause-joined : goal.returns-clause-joined
+returns-clause-joined g c =
     subst (AreJoined c.args.work.now.names) (sym c.search_group.ensures.names) (joined_twice c.args.work.now.names c.loop.work.names c.join_all.new.names c.loop.invariant.joined c.join_all.ensures.joined)

@@ -1,8 +1,10 @@
-use Rattle.std.proofs.Common.{arith}
-use Rattle.group_search.proofs.SpendLaws.{cut_at}
+use Rattle.std.proofs.Common.{subst, arith}
+use Rattle.std.proofs.lemmas.Option.{get_or_from_slice_get}
+use Rattle.group_search.specs.Questions.{IsCut}
 use Rattle.group_search.proofs.spending.held_cut.Goals as goal
 
 pub returns-then-is_held-clause-cut : goal.returns-then-is_held-clause-cut
 returns-then-is_held-clause-cut g c =
-    cut_at (g.P.Paths.means.question c.args.problem.now) c.args.cuts.now c.args.at c.index-cuts-at.result c.as_slice-cut.result.now
-    c.requires.cuts (omega (arith, c.if-at-cuts.false)) c.index-cuts-at.is c.as_slice-cut.ensures.pairs
+    let q = g.P.Paths.means.question c.args.problem.now in let cuts = c.args.cuts.now in let cut = c.get-cut.result.now in
+    subst (IsCut q) (get_or_from_slice_get cuts c.args.at cut cut c.get-cut.ensures)
+    (c.requires.cuts c.args.at cut (omega (arith, c.if-at-len.false, c.len.ensures.len)))

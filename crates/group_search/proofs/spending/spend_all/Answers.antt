@@ -14,7 +14,7 @@ loop-at-init g c =
     let q = g.P.Paths.means.question c.args.problem.now in
     let test = in_group c.args.work.now.names c.args.group in
     record {
-      kept = record { boxed = refl; cuts = refl; names = refl; focus = refl };
+      kept = record { boxed = refl; cuts = refl; names = refl; focus = refl; halves = refl; best = refl; marks = refl; cut = refl };
       room = record { spent = c.clear.ensures.spent ∙ c.requires.work.room.spent; named = c.clear.ensures.named ∙ c.requires.work.room.named };
       least = omega arith;
       less = c.requires.less;
@@ -24,7 +24,7 @@ loop-at-init g c =
 pub held_cut-requires-clause-cuts : goal.held_cut-requires-clause-cuts
 held_cut-requires-clause-cuts g c =
     let q = g.P.Paths.means.question c.args.problem.now in
-    subst (λ z. All (IsCut q) z) (sym (c.as_slice-cuts.ensures.value ∙ ap (λ v. v.items) c.loop-at.invariant.kept.cuts)) c.requires.work.cuts
+    subst (All (IsCut q)) (sym c.loop-at.invariant.kept.cuts) c.requires.work.cuts
 
 pub returns-in_err-amount-clause-work : goal.returns-in_err-amount-clause-work
 returns-in_err-amount-clause-work g c = work_kept (g.P.Paths.means.question c.args.problem.now) c.args.work.now c.loop-at.work c.requires.work c.loop-at.invariant.kept c.loop-at.invariant.room
@@ -90,7 +90,16 @@ loop-at-preserved g c =
           new.spent (total - c.args.base) amount w.spend.ensures.kept taken (omega (arith, less)) leaves inv.pays in
           let same : c.match-held_cut.work.spending ≡ new = ap (λ (z : Work). z.spending) w.work-is in
           record {
-            kept = record { boxed = ap (λ (z : Work). z.boxed) w.work-is ∙ kept.boxed; cuts = ap (λ (z : Work). z.cuts) w.work-is ∙ kept.cuts; names = ap (λ (z : Work). z.names) w.work-is ∙ kept.names; focus = ap (λ (z : Work). z.focus) w.work-is ∙ kept.focus };
+            kept = record {
+              boxed = ap (λ (z : Work). z.boxed) w.work-is ∙ kept.boxed;
+              cuts = ap (λ (z : Work). z.cuts) w.work-is ∙ kept.cuts;
+              names = ap (λ (z : Work). z.names) w.work-is ∙ kept.names;
+              focus = ap (λ (z : Work). z.focus) w.work-is ∙ kept.focus;
+              halves = ap (λ (z : Work). z.halves) w.work-is ∙ kept.halves;
+              best = ap (λ (z : Work). z.best) w.work-is ∙ kept.best;
+              marks = ap (λ (z : Work). z.marks) w.work-is ∙ kept.marks;
+              cut = ap (λ (z : Work). z.cut) w.work-is ∙ kept.cut;
+            };
             room = subst (HasRoom q) (sym same) (record { spent = w.spend.ensures.spent ∙ inv.room.spent; named = w.spend.ensures.named ∙ inv.room.named });
             least = omega (arith, w.total-is, inv.least);
             less = omega (arith, w.total-is, less);
@@ -100,7 +109,16 @@ loop-at-preserved g c =
       | in_default w ↦
           let same : c.match-held_cut.work.spending ≡ c.loop-at.work.spending = ap (λ (z : Work). z.spending) w.work-is in
           record {
-            kept = record { boxed = ap (λ (z : Work). z.boxed) w.work-is ∙ kept.boxed; cuts = ap (λ (z : Work). z.cuts) w.work-is ∙ kept.cuts; names = ap (λ (z : Work). z.names) w.work-is ∙ kept.names; focus = ap (λ (z : Work). z.focus) w.work-is ∙ kept.focus };
+            kept = record {
+              boxed = ap (λ (z : Work). z.boxed) w.work-is ∙ kept.boxed;
+              cuts = ap (λ (z : Work). z.cuts) w.work-is ∙ kept.cuts;
+              names = ap (λ (z : Work). z.names) w.work-is ∙ kept.names;
+              focus = ap (λ (z : Work). z.focus) w.work-is ∙ kept.focus;
+              halves = ap (λ (z : Work). z.halves) w.work-is ∙ kept.halves;
+              best = ap (λ (z : Work). z.best) w.work-is ∙ kept.best;
+              marks = ap (λ (z : Work). z.marks) w.work-is ∙ kept.marks;
+              cut = ap (λ (z : Work). z.cut) w.work-is ∙ kept.cut;
+            };
             room = subst (HasRoom q) (sym same) inv.room;
             least = omega (arith, w.total-is, inv.least);
             less = omega (arith, w.total-is, inv.less);

@@ -8,12 +8,12 @@ use Rattle.mode_estimator.proofs.ChosenState.{choice_rows, estimated}
 use Rattle.mode_estimator.proofs.NominalFirst.{nominal_estimate}
 use Rattle.mode_estimator.proofs.least.estimate_by.Goals as goal
 
-pub returns-then-is_none-clause-estimate : goal.returns-then-is_none-clause-estimate
-returns-then-is_none-clause-estimate c =
-    let shows = rw c.model-model.ensures.value at c.in_ok-clash.ensures.none in
+pub returns-then-agrees-clause-estimate : goal.returns-then-agrees-clause-estimate
+returns-then-agrees-clause-estimate c =
+    let agrees = rw (c.model-model.ensures.value, c.as_slice.ensures) at c.agrees.ensures.agrees in
     let moved = subst (λ (s : List ℕ). Nominal c.args.compiled.now.model s c.args.command c.obey.new.plant.modes) (ap (λ x. x.modes) c.in_ok-nominal.ensures) c.obey.ensures.moves in
     nominal_estimate c.args.compiled.now.model c.args.state.now.modes c.obey.new.plant.modes c.args.command c.args.seen.now.pairs c.model-model.ensures.compiled.accepted.well_formed c.requires.state
-    moved (shows.0 c.if-is_none.ensures)
+    moved (agrees.0 c.if-agrees.true)
 
 pub first_shown-requires-clause-rows : goal.first_shown-requires-clause-rows
 first_shown-requires-clause-rows c =

@@ -1,7 +1,15 @@
-use Rattle.std.proofs.Common.{List, map, IfOk, subst}
+use Rattle.std.proofs.Common.{List, map, IfOk, length, sym, subst}
+use Rattle.cca_base.specs.PlantModel.{PlantModel}
 use Rattle.trajectory_estimator.specs.Asked.{Asked, IsBestOf, entry_of}
+use Rattle.trajectory_estimator.specs.Spaces.{IsWindowSpace}
 use Rattle.trajectory_estimator.specs.declared.record.Record.{Record}
 use Rattle.trajectory_estimator.proofs.best.best_trajectory.Goals as goal
+
+pub best_of-requires : goal.best_of-requires
+best_of-requires c =
+    let own : IsWindowSpace c.in_ok-worlds.worlds (length c.args.compiled.now.model.components) c.in_ok-space.space =
+    subst (λ (m : PlantModel). IsWindowSpace c.in_ok-worlds.worlds (length m.components) c.in_ok-space.space) c.model-2.ensures.value c.in_ok-space.ensures in
+    record { space = subst (λ (q : Asked). IsWindowSpace q.worlds (length q.model.components) c.in_ok-space.space) (sym c.new-query.ensures) own }
 
 pub returns : goal.returns
 returns c =

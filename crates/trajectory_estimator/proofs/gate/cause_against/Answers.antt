@@ -5,7 +5,6 @@ use Rattle.cca_base.specs.Accepted.{AreWays, CompiledModel, IsCompiled}
 use Rattle.cca_base.specs.PlantModel.{PlantModel}
 use Rattle.trajectory_estimator.specs.Asked.{Asked}
 use Rattle.trajectory_estimator.proofs.GateCuts.{IsGateCut, gate_cut_on, none_either, none_open, none_shut, open_clash, shut_clash, ways_within}
-use Rattle.trajectory_estimator.proofs.gate.cause_against.Goals.{then-value-eq-OPEN+in_ok-blame_each+else-branch, else-value-eq-OPEN+then-value-eq-SHUT+in_default, else-value-eq-OPEN+else-value-eq-SHUT}
 use Rattle.trajectory_estimator.proofs.gate.cause_against.Goals as goal
 
 -- the move and its ways, as they are read
@@ -32,16 +31,24 @@ blame_each-requires-clause-ways c =
     c.compiled.ensures.model c.compiled.ensures.compiled c.ways.ensures.value c.get.ensures.value c.as_slice-ways.ensures c.model.ensures.value c.moves.ensures.value c.get-step.ensures.value in
     ways_within b c.model.ensures.asked c.args.number c.requires.named c.get-step.result.now x.of_model c.as_slice-ways.result.now x.ways
 
-pub returns-then-branch-clause-clash : goal.returns-then-branch-clause-clash
-returns-then-branch-clause-clash c =
+pub returns-then-value-eq-OPEN-clause-clash : goal.returns-then-value-eq-OPEN-clause-clash
+returns-then-value-eq-OPEN-clause-clash c each =
     let b = c.args.before.now in
     let step = c.get-step.result.now in
     let x = is_read b.paths.query.now c.compiled.result.now c.model.result.now c.ways.result.now c.get.result.now c.as_slice-ways.result.now c.moves.result.now c.args.number c.get-step.result.now
     c.compiled.ensures.model c.compiled.ensures.compiled c.ways.ensures.value c.get.ensures.value c.as_slice-ways.ensures c.model.ensures.value c.moves.ensures.value c.get-step.ensures.value in
-    let first : IsGateCut b step c.in_ok-cut.cut = record { own = c.in_ok-cut.ensures.own; gate = c.in_ok-cut.ensures.gate; source = c.in_ok-cut.ensures.source } in
-    let its = c.in_ok-blame_each.ensures in
-    open_clash b c.model.ensures.asked c.args.number c.requires.named step x.of_model c.as_slice-ways.result.now x.ways c.blame_each.new.cut
-    (gate_cut_on b step c.in_ok-cut.cut c.blame_each.new.cut first its.cut) (ap (slice_index b.paths.values.now) (sym c.gate_place.ensures) ∙ c.if-value-eq-OPEN.true) (its.blames c.if-branch.true)
+    let first : IsGateCut b step c.gate_cut.new.cut.items = record { own = c.gate_cut.ensures.own; gate = c.gate_cut.ensures.gate; source = c.gate_cut.ensures.source } in
+    open_clash b c.model.ensures.asked c.args.number c.requires.named step x.of_model c.as_slice-ways.result.now x.ways c.blame_each.new.cut.items
+    (gate_cut_on b step c.gate_cut.new.cut.items c.blame_each.new.cut.items first c.blame_each.ensures.cut) (ap (slice_index b.paths.values.now) (sym c.gate_place.ensures) ∙ c.if-value-eq-OPEN.true) (c.blame_each.ensures.blames each)
+
+pub returns-then-value-eq-OPEN-clause-none : goal.returns-then-value-eq-OPEN-clause-none
+returns-then-value-eq-OPEN-clause-none c not_each whole =
+    let b = c.args.before.now in
+    let step = c.get-step.result.now in
+    let x = is_read b.paths.query.now c.compiled.result.now c.model.result.now c.ways.result.now c.get.result.now c.as_slice-ways.result.now c.moves.result.now c.args.number c.get-step.result.now
+    c.compiled.ensures.model c.compiled.ensures.compiled c.ways.ensures.value c.get.ensures.value c.as_slice-ways.ensures c.model.ensures.value c.moves.ensures.value c.get-step.ensures.value in
+    let (cube, among, may) = c.blame_each.ensures.none not_each in
+    none_open b c.model.ensures.asked c.args.number c.requires.named step x.of_model c.as_slice-ways.result.now x.ways c.requires.walks whole (ap (slice_index b.paths.values.now) (sym c.gate_place.ensures) ∙ c.if-value-eq-OPEN.true) cube among may
 
 pub standing-requires : goal.standing-requires
 standing-requires c =
@@ -51,30 +58,29 @@ standing-requires c =
     ways_within b c.model.ensures.asked c.args.number c.requires.named c.get-step.result.now x.of_model c.as_slice-ways.result.now x.ways
 
 pub returns-in-Some-clause-clash : goal.returns-in-Some-clause-clash
-returns-in-Some-clause-clash c =
+returns-in-Some-clause-clash c _ =
     let b = c.args.before.now in
     let step = c.get-step.result.now in
     let x = is_read b.paths.query.now c.compiled.result.now c.model.result.now c.ways.result.now c.get.result.now c.as_slice-ways.result.now c.moves.result.now c.args.number c.get-step.result.now
     c.compiled.ensures.model c.compiled.ensures.compiled c.ways.ensures.value c.get.ensures.value c.as_slice-ways.ensures c.model.ensures.value c.moves.ensures.value c.get-step.ensures.value in
-    let first : IsGateCut b step c.in_ok-cut.cut = record { own = c.in_ok-cut.ensures.own; gate = c.in_ok-cut.ensures.gate; source = c.in_ok-cut.ensures.source } in
-    let its = c.in_ok-blame_all.ensures in
-    shut_clash b c.model.ensures.asked c.args.number c.requires.named step x.of_model c.as_slice-ways.result.now x.ways c.blame_all.new.cut
-    (gate_cut_on b step c.in_ok-cut.cut c.blame_all.new.cut first its.cut) (ap (slice_index b.paths.values.now) (sym c.gate_place.ensures) ∙ c.if-value-eq-SHUT.true) c.in-Some.cube.now c.in-Some.ensures.some its.blames
+    let first : IsGateCut b step c.gate_cut.new.cut.items = record { own = c.gate_cut.ensures.own; gate = c.gate_cut.ensures.gate; source = c.gate_cut.ensures.source } in
+    shut_clash b c.model.ensures.asked c.args.number c.requires.named step x.of_model c.as_slice-ways.result.now x.ways c.blame_all.new.cut.items
+    (gate_cut_on b step c.gate_cut.new.cut.items c.blame_all.new.cut.items first c.blame_all.ensures.cut) (ap (slice_index b.paths.values.now) (sym c.gate_place.ensures) ∙ c.if-value-eq-SHUT.true) c.in-Some.cube.now c.in-Some.ensures.some c.blame_all.ensures.blames
 
-pub returns-clause-none : goal.returns-clause-none
-returns-clause-none c e whole =
+pub returns-in_default-clause-none : goal.returns-in_default-clause-none
+returns-in_default-clause-none c _ whole =
+    let b = c.args.before.now in
+    let step = c.get-step.result.now in
+    let x = is_read b.paths.query.now c.compiled.result.now c.model.result.now c.ways.result.now c.get.result.now c.as_slice-ways.result.now c.moves.result.now c.args.number c.get-step.result.now
+    c.compiled.ensures.model c.compiled.ensures.compiled c.ways.ensures.value c.get.ensures.value c.as_slice-ways.ensures c.model.ensures.value c.moves.ensures.value c.get-step.ensures.value in
+    none_shut b c.model.ensures.asked c.args.number c.requires.named step x.of_model c.as_slice-ways.result.now x.ways c.requires.walks whole (ap (slice_index b.paths.values.now) (sym c.gate_place.ensures) ∙ c.if-value-eq-SHUT.true) (c.in_default.ensures.none refl)
+
+pub returns-else-value-eq-SHUT-clause-none : goal.returns-else-value-eq-SHUT-clause-none
+returns-else-value-eq-SHUT-clause-none c _ whole =
     let b = c.args.before.now in
     let step = c.get-step.result.now in
     let x = is_read b.paths.query.now c.compiled.result.now c.model.result.now c.ways.result.now c.get.result.now c.as_slice-ways.result.now c.moves.result.now c.args.number c.get-step.result.now
     c.compiled.ensures.model c.compiled.ensures.compiled c.ways.ensures.value c.get.ensures.value c.as_slice-ways.ensures c.model.ensures.value c.moves.ensures.value c.get-step.ensures.value in
     let at_place = ap (slice_index b.paths.values.now) (sym c.gate_place.ensures) in
-    elim c.if-value-eq-OPEN.branch [
-      | then-value-eq-OPEN+in_ok-blame_each+else-branch w ↦
-          let (cube, among, may) = w.in_ok-blame_each.ensures.none w.if-branch.false in
-          none_open b c.model.ensures.asked c.args.number c.requires.named step x.of_model c.as_slice-ways.result.now x.ways c.requires.walks whole (at_place ∙ w.if-value-eq-OPEN.true) cube among may
-      | else-value-eq-OPEN+then-value-eq-SHUT+in_default w ↦
-          none_shut b c.model.ensures.asked c.args.number c.requires.named step x.of_model c.as_slice-ways.result.now x.ways c.requires.walks whole (at_place ∙ w.if-value-eq-SHUT.true) (w.in_default.ensures.none refl)
-      | else-value-eq-OPEN+else-value-eq-SHUT w ↦
-          none_either b c.model.ensures.asked c.args.number c.requires.named step x.of_model c.as_slice-ways.result.now x.ways c.requires.walks whole
-          (λ same. w.if-value-eq-OPEN.false (sym at_place ∙ same)) (λ same. w.if-value-eq-SHUT.false (sym at_place ∙ same))
-    ]
+    none_either b c.model.ensures.asked c.args.number c.requires.named step x.of_model c.as_slice-ways.result.now x.ways c.requires.walks whole
+    (λ same. c.if-value-eq-OPEN.false (sym at_place ∙ same)) (λ same. c.if-value-eq-SHUT.false (sym at_place ∙ same))

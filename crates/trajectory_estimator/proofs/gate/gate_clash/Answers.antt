@@ -1,9 +1,8 @@
-use Rattle.std.proofs.Common.{◌≡◌, ◌<◌, ℕ, List, IfOk, IsNone, IfSome, Option, Some, length, map, slice_get, slice_index_or, true, refl, sym, ap, subst, ◌∙◌}
+use Rattle.std.proofs.Common.{◌≡◌, ◌<◌, ℕ, List, Some, length, map, slice_get, slice_index_or, true, false, refl, sym, ap, subst, ◌∙◌}
 use Rattle.std.proofs.lemmas.Bool.{both_ways}
 use Rattle.std.proofs.lemmas.List.Elements.{All-contains}
 use Rattle.std.proofs.lemmas.Option.{get_or_from_slice_get, same_Some, slice_get_within}
 use Rattle.list_laws.proofs.Members.{at_member}
-use Rattle.cca_base.specs.declared.cube.Pair.{Pair}
 use Rattle.cca_base.specs.declared.model.Move.{Move}
 use Rattle.cca_base.specs.MoveIndex.{IsMoveNamed}
 use Rattle.cca_base.specs.Model.{IsMove, WellFormed}
@@ -93,11 +92,11 @@ cause_against-requires-clause-named c =
     }
 
 pub returns-clause-clash : goal.returns-clause-clash
-returns-clause-clash c = subst (λ (x : GroupPaths). IfOk c.cause_against.result (λ (o : Option (List Pair)). IfSome o (IsClashOf x))) c.of-before.ensures.paths c.cause_against.ensures.clash
+returns-clause-clash c = subst (λ (x : GroupPaths). c.cause_against.result ≡ true → IsClashOf x c.cause_against.new.cut.items) c.of-before.ensures.paths c.cause_against.ensures.clash
 
 pub returns-clause-none : goal.returns-clause-none
 returns-clause-none c =
     let x = c.args.paths.now in
-    subst (λ i. IfOk c.cause_against.result (λ (o : Option (List Pair)). IsNone o → IsWhole (window_of x.query.now) x.names.now x.group → HasGate x.query.now x.values.now i)) c.of-before.ensures.at
-    (subst (λ (z : GroupPaths). IfOk c.cause_against.result (λ (o : Option (List Pair)). IsNone o → IsWhole (window_of z.query.now) z.names.now z.group → HasGate z.query.now z.values.now c.of-before.result.at))
+    subst (λ i. c.cause_against.result ≡ false → IsWhole (window_of x.query.now) x.names.now x.group → HasGate x.query.now x.values.now i) c.of-before.ensures.at
+    (subst (λ (z : GroupPaths). c.cause_against.result ≡ false → IsWhole (window_of z.query.now) z.names.now z.group → HasGate z.query.now z.values.now c.of-before.result.at)
     c.of-before.ensures.paths c.cause_against.ensures.none)

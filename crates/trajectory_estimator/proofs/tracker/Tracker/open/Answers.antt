@@ -1,8 +1,9 @@
-use Rattle.std.proofs.Common.{subst}
+use Rattle.std.proofs.Common.{length, subst}
 use Rattle.cca_base.specs.PlantModel.{PlantModel}
 use Rattle.cca_base.specs.State.{IsState}
 use Rattle.consistency.specs.Worlds.{AreWorldsOf}
 use Rattle.trajectory_estimator.specs.Changes.{AreChangesOf}
+use Rattle.trajectory_estimator.specs.Spaces.{IsWindowSpace}
 use Rattle.trajectory_estimator.proofs.Opening.{started}
 use Rattle.trajectory_estimator.proofs.tracker.Tracker.open.Goals as goal
 
@@ -13,5 +14,5 @@ invariant_of-result c =
           (subst (λ (m : PlantModel). AreWorldsOf m c.in_ok-worlds.worlds) c.model-model.ensures.value c.in_ok-worlds.ensures)
           (subst (λ (m : PlantModel). AreChangesOf m c.in_ok-changes.changes) c.model-model.ensures.value c.in_ok-changes.ensures)
           (subst (IsState b.model) c.in_ok-anchor.ensures.value c.in_ok-anchor.ensures.state)),
-      c.in_ok-space.ensures,
+      subst (λ (m : PlantModel). IsWindowSpace c.in_ok-worlds.worlds (length m.components) c.in_ok-space.space) c.model-model.ensures.value c.in_ok-space.ensures,
     )

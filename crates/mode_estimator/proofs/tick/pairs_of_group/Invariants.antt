@@ -1,6 +1,0 @@
-use Rattle.mode_estimator.specs.Ticks.{is_asked, own_mode}
-use Rattle.mode_estimator.proofs.ComponentPairs.{AreBefore}
-use Rattle.mode_estimator.proofs.tick.pairs_of_group.Given as goal
-
-abbrev pub invariant-loop-c : goal.invariant-loop-c
-invariant-loop-c l = AreBefore (is_asked l.rows l.names l.group) (own_mode l.rows l.modes) l.c l.pairs
