@@ -5,7 +5,7 @@ ghost use Rattle.std.specs.Prelude.{◌≡◌, ◌<◌};
 use crate::tabled::{classes_of, tables_of};
 use cca_base::*;
 use conformance_parts::{LATCHED_UNIT, STICKING_VALVE, has_mode, pair, state_of};
-use policy_tables::{Cell, Tables};
+use policy_tables::{CellRef, Tables};
 use reversibility::Classes;
 use std::alloc::Global;
 use std::marker::Brand;
@@ -66,7 +66,7 @@ fn covers(alloc: Global, (text, base): (&str, &[u8]), modes: &[u8]) -> Option<bo
 }
 
 /// The cell for a component from one mode to another.
-fn cell_at<L: Ledger>(tables: &Tables, place: (u16, u8, u8), blank: Blank) -> Option<&Cell>
+fn cell_at<L: Ledger>(tables: &Tables, place: (u16, u8, u8), blank: Blank) -> Option<CellRef<'_>>
     requires name { blank.name ≡ L.name }
     requires parts { blank.parts ≡ L.parts }
     requires some { 0 < blank.parts }
@@ -86,21 +86,21 @@ fn cell_at<L: Ledger>(tables: &Tables, place: (u16, u8, u8), blank: Blank) -> Op
 }
 
 /// The same for a caller that counts no steps.
-fn cell_of(tables: &Tables, place: (u16, u8, u8)) -> Option<&Cell> {
+fn cell_of(tables: &Tables, place: (u16, u8, u8)) -> Option<CellRef<'_>> {
     cell_at::<Brand>(tables, place, Blank::new(1))
 }
 
 /// A step: the number of its move, its command, how many moves are left, and what has to stand first.
 type Step<'a> = ((u16, u16, u8), &'a [Pair]);
 
-fn is_step(cell: &Cell, wanted: Step<'_>) -> bool {
+fn is_step(cell: CellRef<'_>, wanted: Step<'_>) -> bool {
     match cell {
-        Cell::Step {
+        CellRef::Step {
             move_number,
             command,
             cube,
             left,
-        } => { (*move_number, *command, *left) == wanted.0 && cube.as_slice() == wanted.1 }
+        } => { (move_number, command, left) == wanted.0 && cube.as_slice() == wanted.1 }
         _ => false,
     }
 }

@@ -8,7 +8,7 @@ ghost use Rattle.planner_step.specs.Toward.{IsWantedPair, CellSays};
 
 use crate::missing::first_missing;
 use cca_base::{Pair, State, Steps};
-use policy_tables::{Cell, Tables};
+use policy_tables::{CellRef, Tables};
 use std::sync::ledger::Ledger;
 
 /// What one cell leads to.
@@ -29,11 +29,12 @@ fn look<L: Ledger>(tables: &Tables, state: &State, pair: Pair, steps: &mut Steps
 {
     let _classes = tables.classes();
     let mode = *state.modes.get(pair.item as usize);
-    let Cell::Step { command, cube, .. } = tables.look_up(pair.item, mode, pair.value, steps) else {
+    let CellRef::Step { command, cube, .. } = tables.look_up(pair.item, mode, pair.value, steps)
+    else {
         unreachable!()
     };
     match first_missing(state, cube.as_slice()) {
-        None => Next::Command(*command),
+        None => Next::Command(command),
         Some(next) => Next::First(next),
     }
 }

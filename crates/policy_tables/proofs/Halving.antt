@@ -1,13 +1,12 @@
 -- The first level is found by halving.
 use Rattle.std.proofs.Common.{◌≡◌, ◌<◌, ◌≤◌, ℕ, true, List, Some, length, slice_get, slice_index, sym, ap, ◌∙◌, arith}
-use Rattle.std.proofs.lemmas.Option.{slice_get_within}
 use Rattle.list_laws.proofs.Places.{some_at}
 use Rattle.cca_base.specs.PlantModel.{PlantModel}
 use Rattle.cca_base.specs.Model.{HasMode, mode_counts}
 use Rattle.reach_laws.specs.Classes.{Test, OpenMove}
 use Rattle.reversibility.specs.Levels.{IsNear, IsLevel, AreLevelsOf}
 use Rattle.reversibility.specs.ClassParts.{in_row}
-use Rattle.policy_tables.specs.Distances.{IsFirstLevel, IsNoLevel, AreRising}
+use Rattle.policy_tables.specs.Distances.{IsFirstLevel, AreRising}
 
 -- no level before the one place leads there, and the level at the other does, if there is one
 pub record IsBetween (levels : List (List ℕ)) (from to low high : ℕ) : Type 0 where
@@ -27,9 +26,6 @@ module _ (levels : List (List ℕ)) (from to low high : ℕ) (h : IsBetween leve
         leads = h.after there.0 (sym (ap (slice_get levels) same) ∙ there.1);
         first = λ j other lt at leads. h.before j other lt at leads;
       }
-
-  pub none_found : length levels ≤ low → IsNoLevel levels from to
-  none_found past k level at = h.before k level (omega (arith, past, slice_get_within levels k level at)) at
 
 -- what a level of open moves leads to, later levels lead to
 pub levels_rise : (m : PlantModel) (member : Test) (c : ℕ) (levels : List (List ℕ)) → AreLevelsOf m member c levels → (from to : ℕ) → HasMode m c from → AreRising levels from to

@@ -1,10 +1,9 @@
 -- What is kept where the classes are others.
-use Rattle.std.proofs.Common.{◌≡◌, ◌<◌, ◌≤◌, ◌+◌, ◌*◌, ◌↔◌, ℕ, Bool, true, false, List, [], ◌∷◌, ◌++◌, length, slice_get, slice_index, slice_index_or, slice_set, Some, IsTrue, not, refl, sym, ap, subst, ◌∙◌, inl, inr, arith, length-append}
+use Rattle.std.proofs.Common.{◌≡◌, ◌<◌, ◌≤◌, ◌+◌, ◌*◌, ◌↔◌, ℕ, Bool, true, false, List, length, slice_get, slice_index, slice_index_or, slice_set, Some, not, refl, sym, ap, subst, ◌∙◌, inl, inr, arith}
 use Rattle.std.proofs.Math.Bool.{beq}
 use Rattle.std.proofs.lemmas.Bool.{cases_lt, cases_order, false≢true}
-use Rattle.std.proofs.lemmas.List.{get_or_append_left, get_or_push, get_or_past, get_or-set_same, get_or-set_other, length-set}
+use Rattle.std.proofs.lemmas.List.{get_or_past, get_or-set_same, get_or-set_other, length-set}
 use Rattle.std.proofs.lemmas.List.Elements.{All-contains}
-use Rattle.std.proofs.lemmas.Nat.{mul-le}
 use Rattle.std.proofs.lemmas.Option.{same_Some, slice_get-get_or}
 use Rattle.list_laws.proofs.Places.{some_at}
 use Rattle.cca_base.specs.declared.cube.Pair.{Pair}
@@ -16,12 +15,13 @@ use Rattle.cca_base.specs.Model.{WellFormed, IsMove, mode_counts}
 use Rattle.cca_base.specs.Sets.{has}
 use Rattle.cca_base.proofs.Within.{mode_within}
 use Rattle.reach_laws.proofs.Needed.{move_in}
-use Rattle.reach_laws.specs.declared.cell.Cell.{Cell}
-use Rattle.reach_laws.specs.declared.cell.Cell.TheVariants as cell
 use Rattle.reach_laws.specs.Classes.{AreInside}
-use Rattle.reach_laws.specs.Cells.{IsCell, AreCells}
+use Rattle.reach_laws.specs.Cells.{IsCell}
 use Rattle.reversibility.specs.ClassParts.{ClassParts, IsClasses, in_row}
-use Rattle.policy_tables.specs.Filling.{MayStand, AreRightCells}
+use Rattle.policy_tables.specs.Codes.{IsCode, cell_of}
+use Rattle.policy_tables.specs.declared.code.Code.{Code}
+use Rattle.policy_tables.specs.declared.code.Code.TheVariants as code
+use Rattle.policy_tables.specs.Filling.{IsRightCell, MayStand, AreRightCells}
 use Rattle.policy_tables.specs.Keeping.{AgreeOn, IsKept, AreKeptTo, AreKept}
 use Rattle.policy_tables.proofs.Agreement.{cell_agrees}
 
@@ -34,17 +34,12 @@ same_answers true false e = absurd (false≢true (sym e))
 same_answers false true e = absurd (false≢true (sym e))
 same_answers false false e = refl
 
--- one flag more
-pub flags_next : (P : ℕ → Type 0) (flags more : List Bool) (n : ℕ) (flag : Bool) → length flags ≡ n → ((c : ℕ) → IsSet flags c → P c) → (IsTrue flag → P n) → more ≡ flags ++ flag ∷ []
-    → (length more ≡ n + 1) × ((c : ℕ) → IsSet more c → P c)
-flags_next P flags more n flag full each last is = (ap length is ∙ length-append flags (flag ∷ []) ∙ ap (λ k. k + 1) full, λ c set. holds c (subst (λ l. IsSet l c) is set))
-  where
-    holds : (c : ℕ) → IsSet (flags ++ flag ∷ []) c → P c
-    holds c set = elim (cases_order c n) [
-      | inl e ↦ subst P (sym e) (last (sym (get_or_push flags flag false c (full ∙ sym e)) ∙ set))
-      | inr (inl lt) ↦ each c (sym (get_or_append_left flags (flag ∷ []) false c (omega (arith, lt, full))) ∙ set)
-      | inr (inr gt) ↦ absurd (false≢true (sym (get_or_past (flags ++ flag ∷ []) c false (omega (arith, gt, full, length-append flags (flag ∷ [])))) ∙ set))
-    ]
+-- what is flagged at all is flagged below the length
+pub flags_all : (P : ℕ → Type 0) (flags : List Bool) (n : ℕ) → length flags ≤ n → ((c : ℕ) → c < n → IsSet flags c → P c) → (c : ℕ) → IsSet flags c → P c
+flags_all P flags n full each c set = elim (cases_lt c (length flags)) [
+  | inl lt ↦ each c (omega (arith, lt, full)) set
+  | inr past ↦ absurd (false≢true (sym (get_or_past flags c false past) ∙ set))
+]
 
 module _ (p q : ClassParts) (flags : List Bool) (n : ℕ) (h : AreKeptTo p q flags n) (move : Move) (at : slice_get q.compiled.model.moves n ≡ Some move) where
   -- what is flagged still, by what is known of the next move
@@ -109,9 +104,9 @@ stands_still p q is_p is_q c within_p within_q row chain from stands = elim stan
 ]
 
 -- the cells that are kept are right
-pub kept_right : (p q : ClassParts) → IsClasses p → IsClasses q → p.compiled ≡ q.compiled → (c : ℕ) → c < length q.compiled.model.components → IsKept p q c → (cells : List Cell) → AreRightCells p c cells
-    → AreRightCells q c cells
-kept_right p q is_p is_q same c within kept cells h =
+pub kept_right : (p q : ClassParts) → IsClasses p → IsClasses q → p.compiled ≡ q.compiled → (ways : List (List (List Pair))) (c : ℕ) → c < length q.compiled.model.components → IsKept p q c → (codes : List Code)
+    → AreRightCells p ways c codes → AreRightCells q ways c codes
+kept_right p q is_p is_q same ways c within kept codes h =
     let count_is : slice_index (mode_counts p.compiled.model) c ≡ slice_index (mode_counts q.compiled.model) c = ap (λ (b : CompiledModel). slice_index (mode_counts b.model) c) same in
     let within_p : c < length p.compiled.model.components = subst (λ (b : CompiledModel). c < length b.model.components) (sym same) within in
     record {
@@ -119,31 +114,17 @@ kept_right p q is_p is_q same c within kept cells h =
       each = λ from to lt below.
           let right = h.each from to (subst (λ n. to < n) (sym count_is) lt) (subst (λ n. from * n + to < n * n) (sym count_is) below) in
           let place : from * slice_index (mode_counts p.compiled.model) c + to ≡ from * slice_index (mode_counts q.compiled.model) c + to = ap (λ n. from * n + to) count_is in
-          let x : Cell = slice_index_or cells (from * slice_index (mode_counts p.compiled.model) c + to) cell.Never in
-          let x_is : x ≡ slice_index_or cells (from * slice_index (mode_counts q.compiled.model) c + to) cell.Never = ap (λ k. slice_index_or cells k cell.Never) place in
-          record {
-            policy = λ stands. subst (IsCell q.compiled (in_row q.rows) c from to) x_is (cell_agrees q.compiled (in_row p.rows) (in_row q.rows) c kept.agree from to x
-                (subst (λ (b : CompiledModel). IsCell b (in_row p.rows) c from to x) same
-                (right.policy (stands_still q p is_q is_p c within within_p (sym kept.sets.class) (sym kept.sets.chain) from stands))));
-            outside = λ none. sym x_is ∙ right.outside (λ stands. none (stands_still p q is_p is_q c within_p within kept.sets.class kept.sets.chain from stands));
-          };
-    }
-
--- the cells of a component in tables are right
-pub cells_right : (p : ClassParts) (rows : List (List Cell)) → AreCells p.compiled p.base (in_row p.rows) rows → (c : ℕ) → c < length p.compiled.model.components
-    → AreRightCells p c (slice_index_or rows c [])
-cells_right p rows h c within =
-    let modes : ℕ = slice_index (mode_counts p.compiled.model) c in
-    let has_from : (from to : ℕ) → from * modes + to < modes * modes → from < modes = λ from to below. elim (cases_lt from modes) [
-      | inl lt ↦ lt
-      | inr past ↦ absurd (omega (arith, below, mul-le modes modes from modes past (omega arith)))
-    ] in
-    record {
-      full = h.rows_full c within;
-      each = λ from to lt below. record {
-        policy = λ stands. h.policy c from to (has_from from to below) lt stands;
-        outside = λ none. h.outside c from to (has_from from to below) lt none;
-      };
+          let y : Code = slice_index_or codes (from * slice_index (mode_counts p.compiled.model) c + to) code.Never in
+          let y_is : y ≡ slice_index_or codes (from * slice_index (mode_counts q.compiled.model) c + to) code.Never = ap (λ k. slice_index_or codes k code.Never) place in
+          subst (λ z. IsRightCell q c from to (cell_of ways z) × IsCode ways z) y_is (
+            record {
+              policy = λ stands. cell_agrees q.compiled (in_row p.rows) (in_row q.rows) c kept.agree from to (cell_of ways y)
+                  (subst (λ (b : CompiledModel). IsCell b (in_row p.rows) c from to (cell_of ways y)) same
+                  (right.0.policy (stands_still q p is_q is_p c within within_p (sym kept.sets.class) (sym kept.sets.chain) from stands)));
+              outside = λ none. right.0.outside (λ stands. none (stands_still p q is_p is_q c within_p within kept.sets.class kept.sets.chain from stands));
+            },
+            right.1,
+          );
     }
 
 -- a move's component is one of the model

@@ -1,7 +1,5 @@
 -- The open moves that leave a mode.
-use Rattle.std.proofs.Common.{◌≡◌, ◌<◌, ◌+◌, ℕ, true, suc, List, [], ◌∷◌, ◌++◌, length, slice_get, slice_index, Some, sym, ap, subst, ◌∙◌, inl, inr, arith, length-append}
-use Rattle.std.proofs.lemmas.Bool.{cases_lt}
-use Rattle.std.proofs.lemmas.List.{get_or_append_left, get_or_push}
+use Rattle.std.proofs.Common.{◌≡◌, ◌<◌, ◌+◌, ℕ, true, suc, List, [], ◌∷◌, ◌++◌, length, slice_get, slice_index, Some, sym, ap, subst, ◌∙◌, length-append}
 use Rattle.std.proofs.lemmas.List.Elements.{All-contains}
 use Rattle.std.proofs.lemmas.Option.{same_Some}
 use Rattle.cca_base.specs.declared.cube.Pair.{Pair}
@@ -18,7 +16,8 @@ use Rattle.reversibility.specs.ClassParts.{in_row}
 use Rattle.reversibility.specs.Levels.{IsOpenNumber, AreOpenMoves, AreMovesWithin, IsLevel, IsAmong}
 use Rattle.reversibility.proofs.Exactly.{exactly_here, exactly_place, exactly_earlier}
 use Rattle.policy_tables.specs.Distances.{NearAt, IsFirstPlace, LeadsNear, IsFirstNear}
-use Rattle.policy_tables.specs.Leaving.{LeavesMode, IsLeaving, AreLeaving, IsOpenAt, IsCubeOf, AreCubesTo}
+use Rattle.policy_tables.specs.Leaving.{LeavesMode, IsLeaving, AreLeaving, IsOpenAt, IsCubeOf, IsWayOf, AreWaysTo}
+use Rattle.policy_tables.proofs.FirstCube.{push_each}
 use Rattle.policy_tables.proofs.Approach.{approach_to, approach_from}
 
 module _ (m : PlantModel) (w : WellFormed m) (member : Test) (c from : ℕ) where
@@ -83,18 +82,14 @@ module _ (m : PlantModel) (w : WellFormed m) (member : Test) (c from : ℕ) wher
                 h.first before.0 before.1 (l.move, subst (λ z. slice_get m.moves z ≡ Some l.move) (sym before.2) l.move_at, l.near);
           }
 
--- ---- cubes
+-- ---- ways
 
-pub cubes_next : (b : CompiledModel) (member : Test) (numbers : List ℕ) (cubes : List (List Pair)) (n : ℕ) (cube : List Pair) → AreCubesTo b member numbers cubes n
-    → IsCubeOf b member (slice_index numbers n) cube → AreCubesTo b member numbers (cubes ++ cube ∷ []) (n + 1)
-cubes_next b member numbers cubes n cube h is = record {
-  full = length-append cubes (cube ∷ []) ∙ ap (λ k. k + 1) h.full;
-  each = λ k lt. elim (cases_lt k n) [
-    | inl before ↦ subst (IsCubeOf b member (slice_index numbers k)) (sym (get_or_append_left cubes (cube ∷ []) [] k (subst (λ z. k < z) (sym h.full) before))) (h.each k before)
-    | inr past ↦
-        let here : n ≡ k = omega (arith, past, lt) in
-        subst (IsCubeOf b member (slice_index numbers k)) (sym (get_or_push cubes cube [] k (h.full ∙ here))) (subst (λ z. IsCubeOf b member (slice_index numbers z) cube) here is)
-  ];
+-- the ways of the first moves, and that of the next
+pub ways_next : (b : CompiledModel) (ways : List (List (List Pair))) (member : Test) (numbers chosen : List ℕ) (n way : ℕ) → AreWaysTo b ways member numbers chosen n
+    → IsWayOf b ways member (slice_index numbers n) way → AreWaysTo b ways member numbers (chosen ++ way ∷ []) (n + 1)
+ways_next b ways member numbers chosen n way h is = record {
+  full = length-append chosen (way ∷ []) ∙ ap (λ k. k + 1) h.full;
+  each = push_each 0 (λ k. IsWayOf b ways member (slice_index numbers k)) chosen n way h.full h.each is;
 }
 
 -- ---- steps

@@ -1,9 +1,11 @@
-pub mod CellKinds
 pub mod Approach
 pub mod Halving
 pub mod FirstCube
 pub mod Leavers
 pub mod Filled
+pub mod Written
+pub mod Places
 pub mod Agreement
 pub mod Kept
 pub mod Choices
+pub mod CodeAt

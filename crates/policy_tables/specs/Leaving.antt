@@ -1,4 +1,4 @@
--- The open moves that leave a mode, and their cubes.
+-- The open moves that leave a mode, and their prime implicants.
 use Rattle.std.specs.Prelude.{◌≡◌, ◌<◌, ℕ, List, [], length, slice_get, slice_index, slice_index_or, Some, All, take}
 use Rattle.cca_base.specs.declared.cube.Pair.{Pair}
 use Rattle.cca_base.specs.declared.model.Move.{Move}
@@ -8,6 +8,7 @@ use Rattle.cca_base.specs.Cube.{IsBeforeCube}
 use Rattle.cca_base.specs.Implicants.{PrimeImplicant}
 use Rattle.cca_base.specs.Orders.{IsSorted}
 use Rattle.cca_base.specs.Relations.{AreExactly}
+use Rattle.policy_tables.specs.Codes.{way_at}
 use Rattle.policy_tables.specs.declared.leaving.Leaving.{Leaving}
 use Rattle.reach_laws.specs.Classes.{Test, AreInside, IsOpen}
 
@@ -48,12 +49,18 @@ pub record IsCubeOf (b : CompiledModel) (member : Test) (i : ℕ) (cube : List P
   pub first_cube : (other : List Pair) → PrimeImplicant b.model move other → AreInside member other → IsBeforeCube other plain → ⊥
   pub sorted : IsSorted b.order plain cube
 
--- the cubes of the first moves
-pub record AreCubesTo (b : CompiledModel) (member : Test) (numbers : List ℕ) (cubes : List (List Pair)) (n : ℕ) : Type 0 where
-  pub full : length cubes ≡ n
-  pub each : (k : ℕ) → k < n → IsCubeOf b member (slice_index numbers k) (slice_index_or cubes k [])
+-- the place is that of this prime implicant of the move
+pub record IsWayOf (b : CompiledModel) (ways : List (List (List Pair))) (member : Test) (i way : ℕ) : Type 0 where
+  pub move_within : i < length ways
+  pub within : way < length (slice_index_or ways i [])
+  pub cube : IsCubeOf b member i (way_at ways i way)
 
--- the open moves that leave the mode, each with its cube
-pub record IsLeavingOf (b : CompiledModel) (member : Test) (l : Leaving) : Type 0 where
-  pub numbers : AreLeaving b.model member l.component l.mode l.numbers
-  pub cubes : AreCubesTo b member l.numbers l.cubes (length l.numbers)
+-- the places of the first moves' prime implicants
+pub record AreWaysTo (b : CompiledModel) (ways : List (List (List Pair))) (member : Test) (numbers chosen : List ℕ) (n : ℕ) : Type 0 where
+  pub full : length chosen ≡ n
+  pub each : (k : ℕ) → k < n → IsWayOf b ways member (slice_index numbers k) (slice_index chosen k)
+
+-- the open moves that leave the mode, each with the prime implicant that it waits for
+pub record IsLeavingOf (b : CompiledModel) (sorted : List (List (List Pair))) (member : Test) (l : Leaving) : Type 0 where
+  pub numbers : AreLeaving b.model member l.component l.mode l.numbers.items
+  pub ways : AreWaysTo b sorted member l.numbers.items l.ways.items (length l.numbers.items)

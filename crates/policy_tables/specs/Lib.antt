@@ -1,4 +1,4 @@
-pub mod CellKinds
+pub mod Codes
 pub mod Leaving
 pub mod Distances
 pub mod Filling

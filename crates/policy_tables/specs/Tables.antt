@@ -1,5 +1,5 @@
 -- Tables, as contracts see them.
-use Rattle.std.specs.Prelude.{◌≡◌, ◌≢◌, ℕ, false, suc, List, slice_get, Some}
+use Rattle.std.specs.Prelude.{◌≡◌, ◌≢◌, ℕ, Bool, false, suc, List, length, slice_get, Some}
 use Rattle.cca_base.specs.declared.cube.Pair.{Pair}
 use Rattle.cca_base.specs.declared.model.Move.{Move}
 use Rattle.cca_base.specs.Accepted.{CompiledModel}
@@ -11,6 +11,9 @@ use Rattle.reach_laws.specs.declared.cell.Cell.{Cell}
 use Rattle.reach_laws.specs.declared.cell.Cell.TheVariants as cell
 use Rattle.reach_laws.specs.Cells.{AreCells}
 use Rattle.reversibility.specs.ClassParts.{ClassParts, IsClasses, CoversState, in_row}
+use Rattle.policy_tables.specs.Codes.{AreSorted}
+use Rattle.policy_tables.specs.Filling.{AreFilledTo}
+use Rattle.policy_tables.specs.declared.code.Code.{Code}
 
 -- classes with their cells
 pub record TableParts : Type 0 where
@@ -21,6 +24,14 @@ pub record TableParts : Type 0 where
 pub record IsTables (t : TableParts) : Type 0 where
   pub classes : IsClasses t.classes
   pub cells : AreCells t.classes.compiled t.classes.base (in_row t.classes.rows) t.cells
+
+-- what a table keeps is right for the classes; other classes of the same model, and a flag for each component, stand beside it
+pub record AreTables (p spare : ClassParts) (ways : List (List (List Pair))) (tables : List (List Code)) (flags : List Bool) : Type 0 where
+  pub classes : IsClasses p
+  pub same : spare.compiled ≡ p.compiled
+  pub sorted : AreSorted p.compiled ways
+  pub filled : AreFilledTo p ways tables (length p.compiled.model.components)
+  pub kept : length flags ≡ length p.compiled.model.components
 
 -- the cell stays where the component stands there, and is else the chosen move with its command, its chosen cube effects first, and its distance
 abbrev pub IsChoice : CompiledModel → List ℕ → ℕ → ℕ → Cell → Type 0

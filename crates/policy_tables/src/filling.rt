@@ -1,131 +1,130 @@
 //! The cells of one component, a row for each mode in which it may stand.
 
-ghost use Rattle.std.specs.Prelude.{◌≡◌, ◌+◌, ◌<◌, IfOk, OnOk, length, slice_index};
+ghost use Rattle.std.specs.Prelude.{◌≡◌, ◌+◌, ◌*◌, ◌<◌, length, slice_index};
 ghost use Rattle.cca_base.specs.Prelude.{mode_counts, HasMode};
-ghost use Rattle.policy_tables.specs.Filling.{MayStand, AreRightRows, AreRightCells};
+ghost use Rattle.policy_tables.specs.Codes.{AreSorted, IsCode, cell_of};
+ghost use Rattle.policy_tables.specs.Filling.{HasRoom, MayStand, AreRightRows, AreRightCells};
 ghost use Rattle.policy_tables.specs.Leaving.{IsLeavingOf};
 ghost use Rattle.reach_laws.specs.Cells.{IsCell};
 ghost use Rattle.reversibility.specs.ClassParts.{in_row};
 ghost use Rattle.reversibility.specs.Paths.{ArePaths};
 
-use crate::leaving::{Leaving, leaving_of};
+use crate::code::Code;
+use crate::leaving::Leaving;
 use crate::near::{distance, first_near};
-use crate::table::Table;
-use reach_laws::Cell;
-use reversibility::{Classes, Paths, paths_of};
-use std::alloc::{AllocError, Global};
+use cca_base::{Cube, List};
+use reversibility::{Classes, Paths};
+
+/// Room in which cells are made, the same for all components.
+#[derive(Debug, Drop)]
+pub(crate) struct Work {
+    pub paths: Paths,
+    pub leaving: Leaving,
+}
 
 /// The cell to a mode from the mode that the moves leave, in which the component may stand.
-fn cell(
-    alloc: Global,
-    classes: &Classes,
-    paths: &Paths,
-    leaving: &Leaving,
-    to: u8,
-) -> Result<Cell, AllocError>
-    requires within { leaving.now.component < length classes.now.compiled.model.components }
-    requires from { HasMode classes.now.compiled.model leaving.now.component leaving.now.mode }
-    requires to { HasMode classes.now.compiled.model leaving.now.component to }
-    requires stands { MayStand classes.now leaving.now.component leaving.now.mode }
+fn code(classes: &Classes, ways: &List<List<Cube>>, work: &Work, to: u8) -> Code
+    requires within { work.now.leaving.component < length classes.now.compiled.model.components }
+    requires from { HasMode classes.now.compiled.model work.now.leaving.component work.now.leaving.mode }
+    requires to { HasMode classes.now.compiled.model work.now.leaving.component to }
+    requires stands { MayStand classes.now work.now.leaving.component work.now.leaving.mode }
     requires paths { ArePaths classes.now.compiled.model (in_row classes.now.rows)
-        leaving.now.component paths.now }
-    requires leaving { IsLeavingOf classes.now.compiled (in_row classes.now.rows) leaving.now }
-    ensures { IfOk result (IsCell classes.now.compiled (in_row classes.now.rows)
-        leaving.now.component leaving.now.mode to) }
+        work.now.leaving.component work.now.paths }
+    requires leaving { IsLeavingOf classes.now.compiled ways.now (in_row classes.now.rows) work.now.leaving }
+    ensures cell { IsCell classes.now.compiled (in_row classes.now.rows)
+        work.now.leaving.component work.now.leaving.mode to (cell_of ways.now result) }
+    ensures code { IsCode ways.now result }
 {
+    let leaving = &work.leaving;
     if leaving.mode == to {
-        return Ok(Cell::Stay);
+        return Code::Stay;
     }
     if !classes.class(leaving.component).has(to) {
-        return Ok(Cell::Never);
+        return Code::Never;
     }
-    let Some(left) = distance(&paths.levels, leaving.mode, to) else {
+    let Some(left) = distance(&work.paths, leaving.mode, to) else {
         unreachable!()
     };
-    let level = paths.levels.get(left - 1).as_slice();
+    let level = work.paths.level(left - 1);
     let model = classes.compiled().model();
     let Some(place) = first_near(model, leaving.numbers.as_slice(), level, to) else {
         unreachable!()
     };
     let number = *leaving.numbers.get(place);
-    Ok(Cell::Step {
-        move_number: number,
+    Code::Step {
+        number,
         command: model.moves().get(number as usize).command,
-        cube: leaving.cubes.get(place).copy(alloc)?,
+        way: *leaving.ways.get(place),
         left: left as u8,
-    })
+    }
 }
 
-/// Puts the cells from a mode in which the component may stand behind the others.
-fn fill_row(
-    alloc: Global,
-    classes: &Classes,
-    paths: &Paths,
-    leaving: &Leaving,
-    cells: &mut Table,
-) -> Result<(), AllocError>
-    requires within { leaving.now.component < length classes.now.compiled.model.components }
-    requires from { HasMode classes.now.compiled.model leaving.now.component leaving.now.mode }
-    requires stands { MayStand classes.now leaving.now.component leaving.now.mode }
+/// Writes the cells from a mode in which the component may stand.
+fn write_row(classes: &Classes, ways: &List<List<Cube>>, work: &Work, codes: &mut List<Code>)
+    requires within { work.now.leaving.component < length classes.now.compiled.model.components }
+    requires from { HasMode classes.now.compiled.model work.now.leaving.component work.now.leaving.mode }
+    requires stands { MayStand classes.now work.now.leaving.component work.now.leaving.mode }
     requires paths { ArePaths classes.now.compiled.model (in_row classes.now.rows)
-        leaving.now.component paths.now }
-    requires leaving { IsLeavingOf classes.now.compiled (in_row classes.now.rows) leaving.now }
-    requires rows { AreRightRows classes.now leaving.now.component leaving.now.mode cells.old }
-    ensures { OnOk result (AreRightRows classes.now leaving.now.component (leaving.now.mode + 1)
-        cells.new) }
+        work.now.leaving.component work.now.paths }
+    requires leaving { IsLeavingOf classes.now.compiled ways.now (in_row classes.now.rows) work.now.leaving }
+    requires rows { AreRightRows classes.now ways.now work.now.leaving.component work.now.leaving.mode codes.old }
+    ensures { AreRightRows classes.now ways.now work.now.leaving.component (work.now.leaving.mode + 1) codes.new }
 {
     let components = classes.compiled().model().components();
-    for to in 0..components.get(leaving.component as usize).modes.len() {
-        cells.push(cell(alloc, classes, paths, leaving, to as u8)?)?;
+    let modes = components.get(work.leaving.component as usize).modes.len();
+    for to in 0..modes {
+        let code = code(classes, ways, work, to as u8);
+        codes.set(work.leaving.mode as usize * modes + to, code);
     }
-    Ok(())
 }
 
-/// Puts a cell that says never for each mode behind the others.
+/// Writes a cell that says never for each mode.
 fn skip_row(
     classes: &Classes,
+    ways: &List<List<Cube>>,
     component: u16,
     from: u8,
-    cells: &mut Table,
-) -> Result<(), AllocError>
+    codes: &mut List<Code>,
+)
     requires within { component < length classes.now.compiled.model.components }
     requires from { HasMode classes.now.compiled.model component from }
     requires stands { MayStand classes.now component from → ⊥ }
-    requires rows { AreRightRows classes.now component from cells.old }
-    ensures { OnOk result (AreRightRows classes.now component (from + 1) cells.new) }
+    requires rows { AreRightRows classes.now ways.now component from codes.old }
+    ensures { AreRightRows classes.now ways.now component (from + 1) codes.new }
 {
     let components = classes.compiled().model().components();
-    for _to in 0..components.get(component as usize).modes.len() {
-        cells.push(Cell::Never)?;
+    let modes = components.get(component as usize).modes.len();
+    for to in 0..modes {
+        codes.set(from as usize * modes + to, Code::Never);
     }
-    Ok(())
 }
 
-/// The cells of a component, each row of its modes after the other.
-pub(crate) fn cells_of(
-    alloc: Global,
+/// Writes the cells of a component, each row of its modes after the other.
+pub(crate) fn write_cells(
     classes: &Classes,
+    ways: &List<List<Cube>>,
     component: u16,
-) -> Result<Table, AllocError>
-    requires { component < length classes.now.compiled.model.components }
-    ensures { IfOk result (AreRightCells classes.now component) }
+    work: &mut Work,
+    codes: &mut List<Code>,
+)
+    requires within { component < length classes.now.compiled.model.components }
+    requires ways { AreSorted classes.now.compiled ways.now }
+    requires room { HasRoom work.old }
+    requires full { length codes.old ≡ slice_index (mode_counts classes.now.compiled.model) component
+        * slice_index (mode_counts classes.now.compiled.model) component }
+    ensures cells { AreRightCells classes.now ways.now component codes.new }
+    ensures room { HasRoom work.new }
 {
     let compiled = classes.compiled();
-    let paths = paths_of(alloc, compiled, classes.rows(), component)?;
-    let modes = compiled
-        .model()
-        .components()
-        .get(component as usize)
-        .modes
-        .len();
-    let mut cells = Table::new(alloc)?;
-    for from in 0..modes {
+    work.paths.find(compiled, classes.rows(), component);
+    let components = compiled.model().components();
+    for from in 0..components.get(component as usize).modes.len() {
         if classes.stands(component, from as u8) {
-            let leaving = leaving_of(alloc, classes, &paths, component, from as u8)?;
-            fill_row(alloc, classes, &paths, &leaving, &mut cells)?;
+            work.leaving
+                .find(classes, ways, &work.paths, component, from as u8);
+            write_row(classes, ways, work, codes);
         } else {
-            skip_row(classes, component, from as u8, &mut cells)?;
+            skip_row(classes, ways, component, from as u8, codes);
         }
     }
-    Ok(cells)
 }

@@ -1,13 +1,12 @@
 //! Which components' cells stay right for other classes: those whose own sets are the same, where each way of their moves
 //! is inside both classes or inside neither.
 
-ghost use Rattle.std.specs.Prelude.{◌≡◌, ◌<◌, IsTrue, IfOk, All, length};
+ghost use Rattle.std.specs.Prelude.{◌≡◌, ◌<◌, IsTrue, All, length};
 ghost use Rattle.policy_tables.specs.Keeping.{AgreeOn, HasSameSets, AreKeptTo, AreKept};
 ghost use Rattle.reversibility.specs.ClassParts.{in_row};
 
 use cca_base::{Cube, List, ValueSet};
 use reversibility::{Classes, is_inside};
-use std::alloc::{AllocError, Global};
 
 /// True only where each of the cubes is inside both sets or inside neither.
 fn agree(cubes: &[Cube], one: &[ValueSet], other: &[ValueSet]) -> bool
@@ -32,25 +31,24 @@ fn has_same_sets(one: &Classes, other: &Classes, c: usize) -> bool
     one.rows()[c] == other.rows()[c] && one.chains()[c] == other.chains()[c]
 }
 
-/// Flags of components. What is flagged has the same sets. The error is out of memory.
-fn same_sets(alloc: Global, one: &Classes, other: &Classes) -> Result<List<bool>, AllocError>
-    requires { one.now.compiled ≡ other.now.compiled }
-    ensures { IfOk result (λ flags. AreKeptTo one.now other.now flags 0) }
+/// Flags components: what is flagged has the same sets.
+fn flag_same(one: &Classes, other: &Classes, flags: &mut List<bool>)
+    requires model { one.now.compiled ≡ other.now.compiled }
+    requires full { length flags.old ≡ length other.now.compiled.model.components }
+    ensures { AreKeptTo one.now other.now flags.new 0 }
 {
-    let mut flags = List::new(alloc);
     for c in 0..other.rows().len() {
-        flags.push(has_same_sets(one, other, c))?;
+        flags.set(c, has_same_sets(one, other, c));
     }
-    Ok(flags)
 }
 
-/// Flags of components. What is flagged stays right: where its cells are right by the one, they are by the other. The error
-/// is out of memory.
-pub(crate) fn kept(alloc: Global, one: &Classes, other: &Classes) -> Result<List<bool>, AllocError>
-    requires { one.now.compiled ≡ other.now.compiled }
-    ensures { IfOk result (AreKept one.now other.now) }
+/// Flags components: what is flagged stays right, so where its cells are right by the one, they are by the other.
+pub(crate) fn flag_kept(one: &Classes, other: &Classes, flags: &mut List<bool>)
+    requires model { one.now.compiled ≡ other.now.compiled }
+    requires full { length flags.old ≡ length other.now.compiled.model.components }
+    ensures { AreKept one.now other.now flags.new }
 {
-    let mut flags = same_sets(alloc, one, other)?;
+    flag_same(one, other, flags);
     let compiled = other.compiled();
     let moves = compiled.model().moves();
     for i in 0..moves.len() {
@@ -59,5 +57,4 @@ pub(crate) fn kept(alloc: Global, one: &Classes, other: &Classes) -> Result<List
             flags.set(c, false);
         }
     }
-    Ok(flags)
 }

@@ -4,26 +4,27 @@ ghost use Rattle.std.specs.Prelude.{◌≡◌, ◌<◌, ℕ, List, MatchOption, 
 ghost use Rattle.policy_tables.specs.Distances.{AreRising, IsFirstLevel, IsNoLevel, NearAt, IsFirstPlace};
 ghost use Rattle.reversibility.specs.Levels.{AreMovesWithin};
 
-use cca_base::{List, Model, ValueSet};
+use cca_base::{Model, ValueSet};
+use reversibility::Paths;
 
 /// The first level at which the one mode leads to the other, found by halving.
-pub(crate) fn distance(levels: &List<List<ValueSet>>, from: u8, to: u8) -> Option<usize>
-    requires within { (k : ℕ) (level : List ℕ) → slice_get levels.now k ≡ Some level →
+pub(crate) fn distance(paths: &Paths, from: u8, to: u8) -> Option<usize>
+    requires within { (k : ℕ) (level : List ℕ) → slice_get paths.now.levels k ≡ Some level →
         from < length level }
-    requires rising { AreRising levels.now from to }
-    ensures { MatchOption result (IsNoLevel levels.now from to) (IsFirstLevel levels.now from to) }
+    requires rising { AreRising paths.now.levels from to }
+    ensures { MatchOption result (IsNoLevel paths.now.levels from to) (IsFirstLevel paths.now.levels from to) }
 {
     let mut low = 0;
-    let mut high = levels.len();
+    let mut high = paths.height();
     'halving: while low < high {
         let middle = low + (high - low) / 2;
-        if levels.get(middle).get(from as usize).has(to) {
+        if paths.level(middle)[from as usize].has(to) {
             high = middle;
         } else {
             low = middle + 1;
         }
     }
-    if low < levels.len() {
+    if low < paths.height() {
         return Some(low);
     }
     None

@@ -1,8 +1,6 @@
 -- Open chains: the broken modes that open repairs lead to.
-use Rattle.std.proofs.Common.{◌≡◌, ◌<◌, ◌+◌, ◌⊎◌, ◌↔◌, ◌==◌, ◌||◌, ◌++◌, ℕ, zero, suc, true, false, List, [], ◌∷◌, length, slice_index, refl, sym, subst, ◌∙◌, inl, inr, arith}
-use Rattle.std.proofs.Math.Seq.{get_or-append_seam}
+use Rattle.std.proofs.Common.{◌≡◌, ◌<◌, ◌+◌, ◌⊎◌, ◌↔◌, ◌==◌, ◌||◌, ℕ, zero, suc, true, false, List, length, slice_index, slice_set, refl, sym, subst, ◌∙◌, inl, inr, arith, get_or-set_same, get_or-set_other}
 use Rattle.std.proofs.lemmas.Bool.{cases_lt, both_ways, or_cases, or_left, or_right, eqb-true, eq-eqb}
-use Rattle.std.proofs.lemmas.List.{get_or_append_left}
 use Rattle.std.proofs.lemmas.List.Elements.{All-contains}
 use Rattle.cca_base.specs.declared.limits.TheConstants.{MAX_CHOICES}
 use Rattle.cca_base.specs.PlantModel.{PlantModel}
@@ -100,13 +98,12 @@ module _ (m : PlantModel) (w : WellFormed m) (member : Test) (c from : ℕ) wher
         (repairs_join m member c from at leaves.0 n 1 way (leaves.0, broken, leaves.1, refl))
 
 -- one chain more
-pub chains_push : (m : PlantModel) (base : List ℕ) (member : Test) (chains : List ℕ) (set n mode : ℕ) → length chains ≡ n → slice_index base n ≡ mode → AreOpenChains m base member chains n
-    → IsOpenChain m member n mode set → AreOpenChains m base member (chains ++ set ∷ []) (n + 1)
-chains_push m base member chains set n mode count at each own u less = elim (cases_lt u n) [
-  | inl before ↦ subst (IsOpenChain m member u (slice_index base u)) (sym (get_or_append_left chains (set ∷ []) 0 u (omega (arith, before, count)))) (each u before)
+pub chains_set : (m : PlantModel) (base : List ℕ) (member : Test) (chains : List ℕ) (set n mode : ℕ) → n < length chains → slice_index base n ≡ mode → AreOpenChains m base member chains n
+    → IsOpenChain m member n mode set → AreOpenChains m base member (slice_set chains n set) (n + 1)
+chains_set m base member chains set n mode within at each own u less = elim (cases_lt u n) [
+  | inl before ↦ subst (IsOpenChain m member u (slice_index base u)) (sym (get_or-set_other chains n u set 0 (λ e. absurd (omega (arith, before, e))))) (each u before)
   | inr last ↦
       let same : n ≡ u = omega (arith, less, last) in
-      let here : slice_index (chains ++ set ∷ []) n ≡ set = subst (λ k. slice_index (chains ++ set ∷ []) k ≡ set) count (get_or-append_seam chains set [] 0) in
-      subst (λ k. IsOpenChain m member k (slice_index base k) (slice_index (chains ++ set ∷ []) k)) same
-      (subst (IsOpenChain m member n (slice_index base n)) (sym here) (subst (λ y. IsOpenChain m member n y set) (sym at) own))
+      subst (λ k. IsOpenChain m member k (slice_index base k) (slice_index (slice_set chains n set) k)) same
+      (subst (IsOpenChain m member n (slice_index base n)) (sym (get_or-set_same chains n set 0 within)) (subst (λ y. IsOpenChain m member n y set) (sym at) own))
 ]

@@ -1,11 +1,12 @@
 -- The open moves of a component, by their numbers.
-use Rattle.std.proofs.Common.{◌≡◌, ◌+◌, ◌<◌, ℕ, List, length, slice_get, slice_index, get_or, Some, All, inl, inr, sym, ap, subst, ◌∙◌, arith}
+use Rattle.std.proofs.Common.{◌≡◌, ◌+◌, ◌<◌, ◌≤◌, ℕ, List, length, slice_get, slice_index, get_or, Some, All, inl, inr, sym, ap, subst, ◌∙◌, arith}
 use Rattle.std.proofs.lemmas.Bool.{cases_lt}
 use Rattle.std.proofs.lemmas.Option.{slice_get_within, slice_get-get_or, same_Some}
 use Rattle.std.proofs.lemmas.List.{get_or_default}
 use Rattle.std.proofs.lemmas.List.Elements.{All-contains, Contains-get_or}
 use Rattle.list_laws.proofs.Members.{all_from}
 use Rattle.cca_base.specs.declared.cube.Pair.{Pair}
+use Rattle.cca_base.specs.declared.limits.TheConstants.{MAX_MOVES}
 use Rattle.cca_base.specs.declared.model.Move.{Move}
 use Rattle.cca_base.specs.PlantModel.{PlantModel}
 use Rattle.cca_base.specs.Accepted.{CompiledModel, IsCompiled, AreWays}
@@ -14,6 +15,7 @@ use Rattle.cca_base.specs.MoveIndex.{IsMoveOf}
 use Rattle.cca_base.specs.Relations.{AreExactly}
 use Rattle.cca_base.specs.Model.{WellFormed, IsMove, HasMode, mode_counts}
 use Rattle.cca_base.proofs.Within.{mode_within}
+use Rattle.cca_laws.proofs.CausesFirstOrders.{rising_few}
 use Rattle.reach_laws.specs.Classes.{Test, IsOpen, OpenMove}
 use Rattle.reach_laws.proofs.Needed.{move_in}
 use Rattle.reversibility.specs.Levels.{SomeInside, IsOpenNumber, AreOpenMoves, AreMovesWithin, MoveLeads}
@@ -52,6 +54,12 @@ module _ (m : PlantModel) (c : ℕ) (row : List ℕ) (h : AreExactly (IsMoveOf m
 
   pub move_of : (move : Move) → slice_get m.moves (slice_index row place) ≡ Some move → move.component ≡ c
   move_of move at = ap (λ (z : Move). z.component) (same_Some move named.0 (sym at ∙ named.1)) ∙ named.2
+
+-- a component has no more moves than there may be
+pub row_few : (m : PlantModel) (w : WellFormed m) (c : ℕ) (row : List ℕ) → AreExactly (IsMoveOf m.moves c) row → length row ≤ MAX_MOVES
+row_few m w c row h =
+    let below : All (λ i. i < length m.moves) row = all_from (λ i. i < length m.moves) row (λ i among. let is = (h.each i).0 among in slice_get_within m.moves i is.0 is.1) in
+    omega (arith, rising_few (length m.moves) row h.rising below, w.limits.moves)
 
 -- what is true of the moves at the first places, and of the one at the next, is true of those at one place more
 pub one_more : (moves : List Move) (P : Move → Type 0) (row : List ℕ) (k : ℕ) (m : Move) → slice_get moves (slice_index row k) ≡ Some m → P m

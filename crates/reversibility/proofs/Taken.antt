@@ -1,5 +1,6 @@
 -- Classes taken one component after the other, causes first.
-use Rattle.std.proofs.Common.{◌≡◌, ◌≢◌, ◌<◌, ◌+◌, ◌-◌, ◌↔◌, ℕ, Bool, true, false, zero, suc, List, [], ◌∷◌, length, slice_get, slice_index, slice_set, drop, get_or, Some, refl, sym, ap, subst, ◌∙◌, inl, inr, arith, get_or-set_same, get_or-set_other, length-set}
+use Rattle.std.proofs.Common.{◌≡◌, ◌≢◌, ◌<◌, ◌≤◌, ◌+◌, ◌-◌, ◌↔◌, ℕ, Bool, true, false, zero, suc, List, [], ◌∷◌, length, slice_get, slice_index, slice_set, drop, get_or, Some, refl, sym, ap, subst, ◌∙◌, inl, inr, arith, get_or-set_same, get_or-set_other, length-set}
+use Rattle.std.proofs.Math.ListN.{drop_of_length-le}
 use Rattle.std.proofs.Math.Seq.{drop-cons}
 use Rattle.std.proofs.lemmas.Bool.{cases_eq, cases_lt, both_ways}
 use Rattle.std.proofs.lemmas.Option.{slice_get_within, get_or_from_slice_get}
@@ -22,7 +23,8 @@ use Rattle.reach_laws.proofs.Walk.{one_end, repairs_from}
 use Rattle.reach_laws.proofs.Needed.{needed_among}
 use Rattle.reversibility.specs.ClassParts.{in_row, IsClasses}
 use Rattle.reversibility.specs.Chains.{AreOpenChains}
-use Rattle.reversibility.specs.Homes.{IsHomeFrom, IsClassFrom, AreDone}
+use Rattle.reversibility.specs.Homes.{IsHomeFrom, IsClassFrom, IsNothing, AreDone}
+use Rattle.reversibility.specs.declared.taking.Taken.{Taken}
 
 -- ---- what depends on the needed components alone
 
@@ -180,6 +182,45 @@ module _ (m : PlantModel) (base rows : List ℕ) (flags : List Bool) (c : ℕ) (
       unflagged = λ d apart. flag_other d (λ e. apart (inl e)) ∙ h.unflagged d (λ there. apart (inr there));
     }
 
+-- ---- nothing taken
+
+-- of the first n components there is no class, and none is flagged
+abbrev pub AreBare : List ℕ → List Bool → ℕ → Type 0
+AreBare rows flags n = (c : ℕ) → c < n → (slice_index rows c ≡ 0) × (is_set flags c ≡ false)
+
+-- one component more is let go
+pub bare_more : (rows : List ℕ) (flags : List Bool) (n : ℕ) → n < length rows → n < length flags → AreBare rows flags n → AreBare (slice_set rows n 0) (slice_set flags n false) (n + 1)
+bare_more rows flags n in_rows in_flags bare c less = elim (cases_eq c n) [
+  | inl e ↦ (ap (λ k. slice_index (slice_set rows n 0) k) e ∙ get_or-set_same rows n 0 0 in_rows, ap (λ k. is_set (slice_set flags n false) k) e ∙ get_or-set_same flags n false false in_flags)
+  | inr ne ↦ let before = bare c (omega (arith, less, ne)) in (get_or-set_other rows n c 0 0 ne ∙ before.0, get_or-set_other flags n c false false ne ∙ before.1)
+]
+
+-- all are let go
+pub all_bare : (count : ℕ) (taken : Taken) → length taken.rows ≡ count → length taken.mendable ≡ count → AreBare taken.rows taken.mendable count → IsNothing count taken
+all_bare count taken rows_full flags_full bare = record {
+  rows_full = rows_full;
+  flags_full = flags_full;
+  rows = λ c x. ap (λ r. has r x) (elim (cases_lt c count) [
+    | inl less ↦ (bare c less).0
+    | inr past ↦ get_or_past taken.rows c 0 (omega (arith, past, rows_full))
+  ]) ∙ has-empty x;
+  flags = λ c. elim (cases_lt c count) [
+    | inl less ↦ (bare c less).1
+    | inr past ↦ get_or_past taken.mendable c false (omega (arith, past, flags_full))
+  ];
+}
+
+-- where nothing is taken, the classes of no component are done
+pub nothing_done : (m : PlantModel) (base order : List ℕ) (taken : Taken) (n : ℕ) → length order ≤ n → IsNothing (length m.components) taken → AreDone m base taken.rows taken.mendable (drop n order)
+nothing_done m base order taken n past none = subst (AreDone m base taken.rows taken.mendable) (sym (drop_of_length-le order past)) (record {
+  rows_full = none.rows_full;
+  flags_full = none.flags_full;
+  each = λ d x among. absurd among;
+  rest = λ d x _. none.rows d x;
+  flagged = λ d among. absurd among;
+  unflagged = λ d _. none.flags d;
+})
+
 -- ---- the rest of an order
 
 effects_drop : (m : PlantModel) (k : ℕ) (order : List ℕ) → AreEffectsFirst m order → AreEffectsFirst m (drop k order)
@@ -198,7 +239,7 @@ next_done order i c lt at =
     drop-cons order j 0 within ∙ (ap (λ x. x ∷ drop (suc j) order) item ∙ ap (λ k. c ∷ drop k order) next)
 
 -- all components are done
-pub all_done : (b : CompiledModel) (is : IsCompiled b) (base rows chains : List ℕ) (flags : List Bool) → IsState b.model base → AreDone b.model base rows flags b.order
+all_done : (b : CompiledModel) (is : IsCompiled b) (base rows chains : List ℕ) (flags : List Bool) → IsState b.model base → AreDone b.model base rows flags b.order
     → length chains ≡ length rows → AreOpenChains b.model base (in_row rows) chains (length rows)
     → IsClasses (record { compiled = b; base = base; rows = rows; chains = chains; mendable = flags })
 all_done b is base rows chains flags state h full open_ones =
@@ -224,6 +265,15 @@ all_done b is base rows chains flags state h full open_ones =
       };
       mendable = λ c lt. h.flagged c (ordered.all_there c lt);
     }
+
+-- all components are done, by the model and the sets as calls read them
+pub all_done_by : (b x y : CompiledModel) (is : IsCompiled b) (base rows read chains : List ℕ) (flags : List Bool) → x ≡ b → y ≡ b → read ≡ rows → IsState b.model base
+    → AreDone x.model base rows flags x.order → length chains ≡ length read → AreOpenChains y.model base (in_row read) chains (length read)
+    → IsClasses (record { compiled = b; base = base; rows = rows; chains = chains; mendable = flags })
+all_done_by b x y is base rows read chains flags same_x same_y same_rows state done full each =
+    all_done b is base rows chains flags state (subst (λ (z : CompiledModel). AreDone z.model base rows flags z.order) same_x done) (full ∙ ap length same_rows)
+    (subst (λ (z : CompiledModel). AreOpenChains z.model base (in_row rows) chains (length rows)) same_y
+    (subst (λ l. AreOpenChains y.model base (in_row l) chains (length l)) same_rows each))
 
 -- a component of the order is one of the model
 pub order_at : (b : CompiledModel) → IsCompiled b → (j c : ℕ) → slice_get b.order j ≡ Some c → c < length b.model.components

@@ -9,6 +9,7 @@ use Rattle.reach_laws.specs.Classes.{Test, Joined, OpenRepairs, IsHome, InClass}
 use Rattle.reach_laws.proofs.Order.{Among}
 use Rattle.reversibility.specs.Levels.{Edges}
 use Rattle.reversibility.specs.ClassParts.{in_row}
+use Rattle.reversibility.specs.declared.taking.Taken.{Taken}
 
 -- the numbers that the last level joins both ways with the home
 abbrev pub IsAround : List ℕ → ℕ → ℕ → ℕ → Type 0
@@ -34,6 +35,13 @@ pub record IsClassFrom (m : PlantModel) (member : Test) (c mode set : ℕ) : Typ
   pub home : ℕ
   pub is_home : IsHomeFrom m member c mode home
   pub each : (x : ℕ) → (has set x ≡ true) ↔ (Joined m member c home x × Joined m member c x home)
+
+-- nothing is taken of so many components
+pub record IsNothing (count : ℕ) (taken : Taken) : Type 0 where
+  pub rows_full : length taken.rows ≡ count
+  pub flags_full : length taken.mendable ≡ count
+  pub rows : (c x : ℕ) → in_row taken.rows c x ≡ false
+  pub flags : (c : ℕ) → is_set taken.mendable c ≡ false
 
 -- the classes of these components stand, and the others are empty
 pub record AreDone (m : PlantModel) (base rows : List ℕ) (flags : List Bool) (done : List ℕ) : Type 0 where

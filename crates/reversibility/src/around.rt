@@ -1,15 +1,14 @@
 //! The class of a component: the strongly connected component of its home among the modes that open moves lead to.
 
-ghost use Rattle.std.specs.Prelude.{◌≡◌, ◌<◌, ◌≤◌, ◌↔◌, ℕ, IfOk, IfSome, IsNone, IsTrue, MatchOption, length};
+ghost use Rattle.std.specs.Prelude.{◌≡◌, ◌<◌, ◌≤◌, ◌↔◌, ℕ, IfSome, IsNone, IsTrue, MatchOption, length};
 ghost use Rattle.cca_base.specs.Prelude.{HasMode};
 ghost use Rattle.cca_base.specs.declared.limits.TheConstants.{MAX_CHOICES};
 ghost use Rattle.reversibility.specs.Homes.{IsAround, IsHomeBy, IsHomeFrom, IsClassFrom};
 ghost use Rattle.reversibility.specs.Levels.{AreMovesWithin, MoveLeads};
 ghost use Rattle.reversibility.specs.ClassParts.{in_row};
 
-use crate::paths::paths_of;
+use crate::paths::Paths;
 use cca_base::{Compiled, MAX_CHOICES, Model, ValueSet};
-use std::alloc::{AllocError, Global};
 
 /// Whether one of the moves leads from the one mode to the other.
 fn leads(model: &Model, numbers: &[u16], from: u8, to: u8) -> bool
@@ -68,25 +67,20 @@ fn around(closed: &[ValueSet], home: u8) -> ValueSet
 
 /// The class of a component around a mode, where the classes of what it needs are there.
 pub(crate) fn class_around(
-    alloc: Global,
     compiled: &Compiled,
     rows: &[ValueSet],
     component: u16,
     mode: u8,
-) -> Result<Option<ValueSet>, AllocError>
+    paths: &mut Paths,
+) -> Option<ValueSet>
     requires within { component < length compiled.now.model.components }
     requires full { length rows.now ≡ length compiled.now.model.components }
     requires mode { HasMode compiled.now.model component mode }
-    ensures some { IfOk result (λ o.
-        IfSome o (IsClassFrom compiled.now.model (in_row rows.now) component mode)) }
-    ensures none { IfOk result (λ o.
-        IsNone o → (a : ℕ) → IsHomeFrom compiled.now.model (in_row rows.now) component mode a →
-        ⊥) }
+    ensures some { IfSome result (IsClassFrom compiled.now.model (in_row rows.now) component mode) }
+    ensures none { IsNone result → (a : ℕ) → IsHomeFrom compiled.now.model (in_row rows.now) component mode a → ⊥ }
 {
-    let paths = paths_of(alloc, compiled, rows, component)?;
-    let Some(home) = home_of(compiled.model(), paths.numbers.as_slice(), component, mode) else {
-        return Ok(None);
-    };
-    let closed = paths.levels.get(paths.levels.len() - 1);
-    Ok(Some(around(closed.as_slice(), home)))
+    paths.find(compiled, rows, component);
+    let home = home_of(compiled.model(), paths.numbers(), component, mode)?;
+    let closed = paths.level(paths.height() - 1);
+    Some(around(closed, home))
 }

@@ -8,7 +8,8 @@ ghost use Rattle.reversibility.specs.ClassParts.{IsClasses, CoversState, in_row}
 ghost use Rattle.reversibility.specs.Promises.{IsMendable, IsLost, IsEmptySet, IsReachOf, AllowsInside, MendsInside, StaysInside, StandsAt, StandsByChain};
 
 use crate::open::open_chain;
-use crate::taking::{Taken, take};
+use crate::paths::Paths;
+use crate::taking::{Taken, take_all};
 use cca_base::{Compiled, List, State, ValueSet};
 use std::alloc::{AllocError, Global};
 use std::rc::Rc;
@@ -18,9 +19,8 @@ use std::rc::Rc;
 pub struct Classes {
     compiled: Rc<Compiled>,
     base: State,
-    rows: List<ValueSet>,
+    taken: Taken,
     chains: List<ValueSet>,
-    mendable: List<bool>,
 }
 
 impl std::marker::Model for Classes {
@@ -37,40 +37,44 @@ impl std::marker::Model for Classes {
     ghost view = { λ c. record {
       compiled = c.compiled.value;
       base = c.base.modes;
-      rows = c.rows;
+      rows = c.taken.rows;
       chains = c.chains;
-      mendable = c.mendable;
+      mendable = c.taken.mendable;
     } };
 
     ghost invariant = { λ c. IsClasses (record {
       compiled = c.compiled.value;
       base = c.base.modes;
-      rows = c.rows;
+      rows = c.taken.rows;
       chains = c.chains;
-      mendable = c.mendable;
+      mendable = c.taken.mendable;
     }) };
 }
 
-/// The broken modes of each component's open chain.
-fn open_chains(
-    alloc: Global,
-    compiled: &Compiled,
-    rows: &[ValueSet],
-    base: &State,
-) -> Result<List<ValueSet>, AllocError>
+/// Writes the broken modes of each component's open chain.
+fn write_chains(compiled: &Compiled, rows: &[ValueSet], base: &State, chains: &mut List<ValueSet>)
     requires rows { length rows.now ≡ length compiled.now.model.components }
     requires base { IsState compiled.now.model base.now.modes }
-    ensures full { IfOk result (λ chains. length chains ≡ length rows.now) }
-    ensures each { IfOk result (λ chains.
-        AreOpenChains compiled.now.model base.now.modes (in_row rows.now) chains
-        (length rows.now)) }
+    requires full { length chains.old ≡ length rows.now }
+    ensures full { length chains.new ≡ length rows.now }
+    ensures each { AreOpenChains compiled.now.model base.now.modes (in_row rows.now) chains.new
+        (length rows.now) }
 {
     let _model = compiled.model();
-    let mut chains = List::new(alloc);
     for c in 0..rows.len() {
-        chains.push(open_chain(compiled, rows, c as u16, *base.modes.get(c)))?;
+        let chain = open_chain(compiled, rows, c as u16, *base.modes.get(c));
+        chains.set(c, chain);
     }
-    Ok(chains)
+}
+
+/// Writes the modes of another state of as many components.
+fn write_state(state: &mut State, other: &State)
+    requires { length state.old.modes ≡ length other.now.modes }
+    ensures { state.new.modes ≡ other.now.modes }
+{
+    for c in 0..other.modes.len() {
+        state.modes.set(c, *other.modes.get(c));
+    }
 }
 
 impl Classes {
@@ -81,23 +85,47 @@ impl Classes {
         ensures base { IfOk result (λ c. c.base ≡ state.now.modes) }
         ensures covered { IfOk result (λ c. CoversState c state.now.modes) }
     {
-        let n = compiled.model().components().len();
-        let mut taken = Taken {
-            rows: List::of(vec![in alloc; ValueSet::empty(); n]?),
-            mendable: List::of(vec![in alloc; false; n]?),
-        };
-        for i in 0..compiled.order().len() {
-            take(alloc, compiled, state, &mut taken, i)?;
-        }
-        let Taken { rows, mendable } = taken;
-        let chains = open_chains(alloc, compiled, rows.as_slice(), state)?;
+        let count = compiled.model().components().len();
+        let mut paths = Paths::with_room(alloc)?;
+        let mut taken = Taken::with_room(alloc, count)?;
+        take_all(compiled, state, &mut taken, &mut paths);
+        let mut chains = List::of(vec![in alloc; ValueSet::empty(); count]?);
+        write_chains(compiled, taken.rows.as_slice(), state, &mut chains);
         Ok(Classes {
             compiled: compiled.clone()?,
             base: state.copy(alloc)?,
-            rows,
+            taken,
             chains,
-            mendable,
         })
+    }
+
+    /// Other classes with the same values. The error is out of memory.
+    pub fn copy(&self, alloc: Global) -> Result<Classes, AllocError>
+        ensures { IfOk result (λ c. c ≡ self.now) }
+    {
+        Ok(Classes {
+            compiled: self.compiled.clone()?,
+            base: self.base.copy(alloc)?,
+            taken: Taken {
+                rows: self.taken.rows.copy(alloc)?,
+                mendable: self.taken.mendable.copy(alloc)?,
+            },
+            chains: self.chains.copy(alloc)?,
+        })
+    }
+
+    /// Takes the classes around another state in place of these. It takes no memory.
+    pub fn renew(&mut self, state: &State, paths: &mut Paths)
+        requires { IsState self.old.compiled.model state.now.modes }
+        ensures compiled { self.new.compiled ≡ self.old.compiled }
+        ensures base { self.new.base ≡ state.now.modes }
+        ensures covered { CoversState self.new state.now.modes }
+    {
+        self.taken.clear();
+        take_all(&self.compiled, state, &mut self.taken, paths);
+        let rows = self.taken.rows.as_slice();
+        write_chains(&self.compiled, rows, state, &mut self.chains);
+        write_state(&mut self.base, state);
     }
 
     /// What the classes are of.
@@ -124,7 +152,7 @@ impl Classes {
         ensures empty { IsEmptySet result ↔ IsLost self.now c }
         ensures classes { IsClasses self.now }
     {
-        *self.rows.get(c as usize)
+        *self.taken.rows.get(c as usize)
     }
 
     /// The sets of all components.
@@ -132,7 +160,7 @@ impl Classes {
         ensures value { result.now ≡ self.now.rows }
         ensures classes { IsClasses self.now }
     {
-        self.rows.as_slice()
+        self.taken.rows.as_slice()
     }
 
     /// The broken modes of each component's open chain.
@@ -151,7 +179,8 @@ impl Classes {
         ensures mode { IsTrue result ↔ StandsAt self.now component mode }
         ensures classes { IsClasses self.now }
     {
-        self.rows.get(component as usize).has(mode) || self.chains.get(component as usize).has(mode)
+        self.taken.rows.get(component as usize).has(mode)
+            || self.chains.get(component as usize).has(mode)
     }
 
     /// Whether the component is broken in the base, and can be mended.
@@ -161,7 +190,7 @@ impl Classes {
         ensures mendable { IsTrue result ↔ IsMendable self.now c }
         ensures classes { IsClasses self.now }
     {
-        *self.mendable.get(c as usize)
+        *self.taken.mendable.get(c as usize)
     }
 
     /// Whether each component of the state stands in its class or in a broken mode of its open chain.
@@ -174,7 +203,7 @@ impl Classes {
         ensures mended { IsTrue result → MendsInside self.now state.now.modes }
         ensures later { IsTrue result → StaysInside self.now state.now.modes }
     {
-        for c in 0..self.rows.len() {
+        for c in 0..self.taken.rows.len() {
             if !self.stands(c as u16, *state.modes.get(c)) {
                 return false;
             }

@@ -10,4 +10,4 @@ mod taking;
 
 pub use classes::Classes;
 pub use open::is_inside;
-pub use paths::{Paths, paths_of};
+pub use paths::Paths;

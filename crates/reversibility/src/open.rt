@@ -1,13 +1,14 @@
 //! Which moves are open: those that have a prime implicant inside the classes.
 
-ghost use Rattle.std.specs.Prelude.{◌≡◌, ◌↔◌, ◌<◌, IsTrue, IfOk, All, length};
+ghost use Rattle.std.specs.Prelude.{◌≡◌, ◌↔◌, ◌<◌, ◌≤◌, IsTrue, All, length};
+ghost use Rattle.cca_base.specs.declared.limits.TheConstants.{MAX_MOVES};
 ghost use Rattle.reach_laws.specs.Classes.{AreInside};
 ghost use Rattle.reversibility.specs.Levels.{AreOpenMoves, SomeInside};
 ghost use Rattle.reversibility.specs.ClassParts.{in_row};
 ghost use Rattle.reversibility.specs.Chains.{LeavesMode, IsOpenChain};
 
-use cca_base::{Compiled, Cube, List, MAX_CHOICES, Pair, ValueSet};
-use std::alloc::{AllocError, Global};
+use bounded_list::BoundedList;
+use cca_base::{Compiled, Cube, MAX_CHOICES, Pair, ValueSet};
 
 /// Whether each pair of the cube is in the sets.
 pub fn is_inside(cube: &[Pair], rows: &[ValueSet]) -> bool
@@ -82,24 +83,25 @@ pub(crate) fn open_chain(
     unreachable!()
 }
 
-/// The numbers of the component's open moves, rising.
-pub(crate) fn open_moves(
-    alloc: Global,
+/// Writes the numbers of the component's open moves, rising.
+pub(crate) fn write_open_moves(
     compiled: &Compiled,
     rows: &[ValueSet],
     component: u16,
-) -> Result<List<u16>, AllocError>
+    numbers: &mut BoundedList<u16>,
+)
     requires component { component < length compiled.now.model.components }
     requires full { length rows.now ≡ length compiled.now.model.components }
-    ensures { IfOk result (AreOpenMoves compiled.now.model (in_row rows.now) component) }
+    requires room { MAX_MOVES ≤ numbers.old.room }
+    ensures numbers { AreOpenMoves compiled.now.model (in_row rows.now) component numbers.new.items }
+    ensures room { numbers.new.room ≡ numbers.old.room }
 {
     let model = compiled.model();
     let _moves = model.moves();
-    let mut numbers = List::new(alloc);
+    numbers.clear();
     for number in model.moves_of(component) {
         if is_open(compiled.ways().get(*number as usize).as_slice(), rows) {
-            numbers.push(*number)?;
+            numbers.push(*number);
         }
     }
-    Ok(numbers)
 }

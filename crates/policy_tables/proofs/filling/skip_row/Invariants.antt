@@ -5,5 +5,5 @@ use Rattle.policy_tables.proofs.filling.skip_row.Given as goal
 
 abbrev pub invariant-loop-to : goal.invariant-loop-to
 invariant-loop-to l =
-    AreRightTo l.classes l.component (slice_index (mode_counts l.classes.compiled.model) l.component) l.cells
-    (l.from * slice_index (mode_counts l.classes.compiled.model) l.component + l._to)
+    AreRightTo l.classes l.ways l.component (slice_index (mode_counts l.classes.compiled.model) l.component) l.codes
+    (l.from * slice_index (mode_counts l.classes.compiled.model) l.component + l.to)

@@ -47,7 +47,7 @@ returns-in-Some c =
     let b : CompiledModel = c.args.compiled.now in
     let base : List ℕ = c.args.base.now.modes in
     let d : ℕ = c.get-c.result.now in
-    let class = around_at d base (λ l mode. IsClassFrom b.model (in_row l) d mode c.in-Some.class) c.as_slice.ensures c.get-mode.ensures.value (rw c.in-Some.is at c.in_ok-class.ensures.some) in
+    let class = around_at d base (λ l mode. IsClassFrom b.model (in_row l) d mode c.in-Some.class) c.as_slice.ensures c.get-mode.ensures.value (rw c.in-Some.is at c.class_around.ensures.some) in
     let flag_is : c.broken-broken.result ≡ is_broken b.model.moves d (slice_index base d) =
     c.broken-broken.ensures ∙ ap (λ (m : PlantModel). is_broken m.moves d c.get-mode.result.now) c.model.ensures.value
     ∙ ap (λ y. is_broken b.model.moves d y) (sym (value_at base d c.get-mode.result.now c.get-mode.ensures.value)) in
@@ -63,4 +63,4 @@ returns-in_default c =
     (place c.order-order.result.now c.args.compiled.now.order c.len.result c.args.i c.get-c.result.now c.len.ensures c.order-order.ensures.value c.get-c.ensures.value)
     c.args.taken.now.rows c.args.taken.now.mendable c.requires.done
     (around_at c.get-c.result.now c.args.base.now.modes (λ l mode. (a : ℕ) → IsHomeFrom c.args.compiled.now.model (in_row l) c.get-c.result.now mode a → ⊥)
-    c.as_slice.ensures c.get-mode.ensures.value ((rw c.in_default.is at c.in_ok-class.ensures.none) refl))
+    c.as_slice.ensures c.get-mode.ensures.value ((rw c.in_default.is at c.class_around.ensures.none) refl))

@@ -1,16 +1,22 @@
-use Rattle.std.proofs.Common.{◌+◌, ◌∷◌, [], length, map, rc_value, sym, ap, subst, ◌∙◌, arith}
-use Rattle.std.proofs.lemmas.List.{map-append}
-use Rattle.policy_tables.specs.Filling.{AreFilledTo, AreRightCells}
-use Rattle.reversibility.specs.ClassParts.{ClassParts}
-use Rattle.policy_tables.proofs.Filled.{filled_next, filled_tables}
 use Rattle.policy_tables.proofs.tables.Tables.of.Goals as goal
 
-pub loop-c-preserved : goal.loop-c-preserved
-loop-c-preserved c =
-    let p : ClassParts = c.args.classes in
-    subst (λ l. AreFilledTo p l (c.loop-c.c + 1)) (sym (ap (map rc_value) c.in_ok-push.ensures.ok ∙ map-append rc_value c.loop-c.tables (c.in_ok-new.field-0 ∷ [])))
-    (filled_next p (map rc_value c.loop-c.tables) c.loop-c.c c.in_ok-new.field-0.value c.loop-c.invariant (subst (AreRightCells p c.loop-c.c) (sym c.in_ok-new.ensures.ok) c.in_ok-cells_of.ensures))
+pub filled-requires-clause-same : goal.filled-requires-clause-same
+filled-requires-clause-same c = c.in_ok-parts.ensures.same
 
-pub invariant_of-result : goal.invariant_of-result
-invariant_of-result c =
-    filled_tables c.args.classes (map rc_value c.loop-c.tables) c.loop-c.c c.rows-n.ensures.classes (omega (arith, c.loop-c.auto.c-end, c.loop-c-test.false, ap (λ l. length l) c.rows-n.ensures.value)) c.loop-c.invariant
+pub filled-requires-clause-ways : goal.filled-requires-clause-ways
+filled-requires-clause-ways c = c.in_ok-parts.ensures.ways
+
+pub filled-requires-clause-places : goal.filled-requires-clause-places
+filled-requires-clause-places c = c.in_ok-parts.ensures.places
+
+pub filled-requires-clause-flags : goal.filled-requires-clause-flags
+filled-requires-clause-flags c = c.in_ok-parts.ensures.flags
+
+pub filled-requires-clause-unset : goal.filled-requires-clause-unset
+filled-requires-clause-unset c = c.in_ok-parts.ensures.unset
+
+pub filled-requires-clause-room : goal.filled-requires-clause-room
+filled-requires-clause-room c = c.in_ok-parts.ensures.room
+
+pub returns : goal.returns
+returns c = c.filled.ensures

@@ -9,12 +9,12 @@ pub returns-clause-reach : goal.returns-clause-reach
 returns-clause-reach c =
     let p : ClassParts = c.args.self.now in
     let is : IsClasses p = subst IsClasses c.self.view_is c.self.invariant in
-    let row_is : c.get.result.now ≡ slice_index p.rows c.args.c = sym (get_or_from_slice_get c.self.inside.rows c.args.c c.get.result.now 0 c.get.ensures.value) ∙ ap (λ (z : ClassParts). slice_index z.rows c.args.c) c.self.view_is in
+    let row_is : c.get.result.now ≡ slice_index p.rows c.args.c = sym (get_or_from_slice_get c.self.inside.taken.rows c.args.c c.get.result.now 0 c.get.ensures.value) ∙ ap (λ (z : ClassParts). slice_index z.rows c.args.c) c.self.view_is in
     subst (IsReachOf p c.args.c) (sym row_is) (reach_of p is c.args.c)
 
 pub returns-clause-empty : goal.returns-clause-empty
 returns-clause-empty c =
     let p : ClassParts = c.args.self.now in
     let is : IsClasses p = subst IsClasses c.self.view_is c.self.invariant in
-    let row_is : c.get.result.now ≡ slice_index p.rows c.args.c = sym (get_or_from_slice_get c.self.inside.rows c.args.c c.get.result.now 0 c.get.ensures.value) ∙ ap (λ (z : ClassParts). slice_index z.rows c.args.c) c.self.view_is in
+    let row_is : c.get.result.now ≡ slice_index p.rows c.args.c = sym (get_or_from_slice_get c.self.inside.taken.rows c.args.c c.get.result.now 0 c.get.ensures.value) ∙ ap (λ (z : ClassParts). slice_index z.rows c.args.c) c.self.view_is in
     subst (λ set. IsEmptySet set ↔ IsLost p c.args.c) (sym row_is) (empty_lost p is c.args.c c.requires)

@@ -1,5 +1,0 @@
-use Rattle.policy_tables.specs.Keeping.{AreKeptTo}
-use Rattle.policy_tables.proofs.keeping.kept.Given as goal
-
-abbrev pub invariant-loop-i : goal.invariant-loop-i
-invariant-loop-i l = AreKeptTo l.one l.other l.flags l.i

@@ -1,7 +1,0 @@
-use Rattle.cca_base.specs.Relations.{AreExactly}
-use Rattle.policy_tables.specs.Leaving.{LeavesMode}
-use Rattle.reversibility.specs.Levels.{IsAmong}
-use Rattle.policy_tables.proofs.leaving.numbers_leaving.Given as goal
-
-abbrev pub invariant-loop-k : goal.invariant-loop-k
-invariant-loop-k l = AreExactly (λ i. IsAmong l.numbers l.k i × LeavesMode l.model l.from i) l.leaving
