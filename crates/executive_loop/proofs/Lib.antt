@@ -1,3 +1,4 @@
 pub mod CoveredStates
+pub mod Policies
 pub mod ExecutiveFits
 pub mod ShownTicks

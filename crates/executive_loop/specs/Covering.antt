@@ -1,5 +1,5 @@
 -- Which states are covered by tables.
-use Rattle.std.specs.Prelude.{◌≡◌, ◌≢◌, ◌||◌, ℕ, Bool, List, Option, Some, None, length, slice_index}
+use Rattle.std.specs.Prelude.{◌≡◌, ◌≢◌, ◌||◌, ℕ, Bool, cond, List, Option, Some, None, length, slice_index}
 use Rattle.std.specs.List.{list_all}
 use Rattle.cca_base.specs.Accepted.{CompiledModel}
 use Rattle.cca_base.specs.Orders.{numbers_below}
@@ -10,6 +10,7 @@ use Rattle.cca_base.specs.declared.events.Shown.TheVariants.{Estimated, Unexplai
 use Rattle.cca_base.specs.declared.events.TickReport.{TickReport}
 use Rattle.reversibility.specs.ClassParts.{ClassParts, CoversState, in_row}
 use Rattle.policy_tables.specs.Tables.{TableParts}
+use Rattle.executive_loop.specs.declared.policy.Policy.{Policy}
 
 -- the state for which the tables were made
 abbrev pub base_of : TableParts → List ℕ
@@ -27,6 +28,10 @@ covers t s = list_all (stands_at t.classes s) (numbers_below (length t.classes.c
 pub record AreTablesOf (b : CompiledModel) (t : TableParts) : Type 0 where
   pub own : t.classes.compiled ≡ b
   pub base : IsState b.model (base_of t)
+
+-- the tables, where they are in use
+abbrev pub tables_in : Policy → Option TableParts
+tables_in p = cond p.in_use (Some p.tables) None
 
 -- there are tables, and they cover the state
 abbrev pub AreCovering : Option TableParts → List ℕ → Type 0

@@ -1,22 +1,21 @@
 //! The answer of a tick.
 
-ghost use Rattle.std.specs.Prelude.{◌≡◌, ◌≢◌, ◌<◌, IfSome, IfOk, OnOk, OnErr};
+ghost use Rattle.std.specs.Prelude.{◌≡◌, ◌≢◌, ◌<◌, IfSome};
 ghost use Rattle.std.specs.Option.{option_map};
+ghost use Rattle.cca_base.specs.Accepted.{CompiledModel};
 ghost use Rattle.cca_base.specs.Prelude.{IsReply, IsState, Promising};
 ghost use Rattle.cca_base.specs.declared.events.Reply.TheVariants.{Idle};
 ghost use Rattle.planner_step.specs.Planning.{reply_of, IsGoal};
 ghost use Rattle.reversibility.specs.ClassParts.{CoversState};
 ghost use Rattle.trace_laws.specs.Fits.{IsKeptGoal};
 ghost use Rattle.trace_laws.specs.Tables.{TakesFor};
-ghost use Rattle.executive_loop.specs.Covering.{base_of, covers, AreTablesOf, AreCovering};
+ghost use Rattle.executive_loop.specs.Covering.{base_of, covers, tables_in, AreCovering, AreTablesOf};
 
-use crate::cover::take;
-use cca_base::{Compiled, Goal, Reply, State, Steps};
+use crate::policy::Policy;
+use cca_base::{Goal, Reply, State, Steps};
 use planner_step::{Answer, next_command};
 use policy_tables::Tables;
-use std::alloc::{AllocError, Global};
 use std::marker::Brand;
-use std::rc::Rc;
 use std::sync::ledger::{Blank, Ledger};
 
 /// The answer as a reply.
@@ -43,29 +42,20 @@ fn reply_by<L: Ledger>(tables: &Tables, state: &State, goal: &Goal, blank: Blank
     reply_of(next_command(tables, state, goal, &mut steps))
 }
 
-/// The reply in a state: idle without a goal, and else by tables that cover the state. The error is out of memory.
-pub(crate) fn reply_in(
-    alloc: Global,
-    compiled: &Rc<Compiled>,
-    tables: &mut Option<Tables>,
-    state: &State,
-    goal: &Option<Goal>,
-) -> Result<Reply, AllocError>
-    requires tables { IfSome tables.old (AreTablesOf compiled.now.value) }
-    requires state { IsState compiled.now.value.model state.now.modes }
-    requires goal { IfSome goal.now (λ g. IsKeptGoal compiled.now.value g.pairs) }
-    ensures reply { IfOk result (IsReply (Promising compiled.now.value) state.now.modes
-        (option_map (λ g. g.pairs) goal.now)) }
-    ensures takes { OnOk result (TakesFor base_of covers (option_map (λ g.
-        g.pairs) goal.now) tables.old state.now.modes tables.new) }
-    ensures covers { IfOk result (λ reply. reply ≢ Idle → AreCovering tables.new state.now.modes) }
-    ensures tables { OnOk result (IfSome tables.new (AreTablesOf compiled.now.value)) }
-    ensures err { OnErr result (tables.new ≡ tables.old) }
+/// The reply in a state: idle without a goal, and else by tables that cover the state.
+pub(crate) fn reply_in(policy: &mut Policy, state: &State, goal: &Option<Goal>) -> Reply
+    requires state { IsState policy.old.tables.classes.compiled.model state.now.modes }
+    requires goal { IfSome goal.now (λ g. IsKeptGoal policy.old.tables.classes.compiled g.pairs) }
+    ensures reply { IsReply (Promising policy.old.tables.classes.compiled) state.now.modes
+        (option_map (λ g. g.pairs) goal.now) result }
+    ensures takes { TakesFor base_of covers (option_map (λ g. g.pairs) goal.now) (tables_in policy.old)
+        state.now.modes (tables_in policy.new) }
+    ensures covers { result ≢ Idle → AreCovering (tables_in policy.new) state.now.modes }
+    ensures of { (b : CompiledModel) → AreTablesOf b policy.old.tables → AreTablesOf b policy.new.tables }
 {
     let Some(goal) = goal else {
-        return Ok(Reply::Idle);
+        return Reply::Idle;
     };
-    take(alloc, compiled, tables, state)?;
-    let Some(tables) = tables else { unreachable!() };
-    Ok(reply_by::<Brand>(tables, state, goal, Blank::new(1)))
+    policy.take(state);
+    reply_by::<Brand>(&policy.tables, state, goal, Blank::new(1))
 }

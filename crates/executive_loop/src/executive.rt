@@ -2,17 +2,21 @@
 
 ghost use Rattle.std.specs.Prelude.{◌≡◌, ◌↔◌, ◌+◌, ◌<◌, ◌^◌, [], None, Some, IsSome, IfOk, OnErr};
 ghost use Rattle.std.specs.Option.{option_map};
-ghost use Rattle.cca_base.specs.Prelude.{start, MayCome, Promising};
+ghost use Rattle.cca_base.specs.Prelude.{start, IsCompiled, IsState, MayCome, Promising};
 ghost use Rattle.trace_laws.specs.Events.{Acts, IsTick};
+ghost use Rattle.trace_laws.specs.Fits.{Fits};
 ghost use Rattle.trace_laws.specs.Tables.{TablesAfter};
 ghost use Rattle.consistency.specs.Worlds.{AreWorldsOf};
-ghost use Rattle.executive_loop.specs.Covering.{base_of, covers, AreCoveringAfter};
+ghost use Rattle.executive_loop.specs.Covering.{base_of, covers, tables_in, AreCoveringAfter, AreTablesOf};
 ghost use Rattle.executive_loop.specs.Parts.{IsExecutive, SeenAfter};
+ghost use Rattle.mode_estimator.specs.Spaces.{IsEstimateSpace};
 
 use crate::events::change;
+use crate::policy::Policy;
 use crate::tick::make_tick;
 use cca_base::{Compiled, Event, Goal, Seen, State, TickReport, VarSet};
-use consistency::{Mirror, WorldSpace, Worlds};
+use consistency::{Mirror, Worlds};
+use mode_estimator::EstimateSpace;
 use policy_tables::Tables;
 use std::alloc::{AllocError, Global};
 use std::marker::Model;
@@ -26,21 +30,22 @@ pub struct Executive {
     compiled: Rc<Compiled>,
     /// The clauses of the model's rules, made once for all ticks.
     worlds: Worlds,
-    /// Memory in which their worlds are sought, made once for all ticks.
-    space: WorldSpace,
+    /// Memory for estimates, made once for all ticks.
+    space: EstimateSpace,
     /// What the mirrored variables showed last, asked for again only after the plant has moved or others are mirrored.
     mirror: Mirror,
     standing: Standing,
-    tables: Option<Tables>,
+    policy: Policy,
     last_seen: Seen,
 }
 
 impl Model for Executive {
     ghost use Rattle.std.specs.Option.{option_map};
     ghost use Rattle.consistency.specs.Observed.{IsMirror};
-    ghost use Rattle.consistency.specs.Spaces.{IsWorldSpace};
     ghost use Rattle.consistency.specs.Worlds.{AreWorldsOf};
+    ghost use Rattle.executive_loop.specs.Covering.{tables_in, AreTablesOf};
     ghost use Rattle.executive_loop.specs.Parts.{ExecutiveParts, IsExecutive};
+    ghost use Rattle.mode_estimator.specs.Spaces.{IsEstimateSpace};
 
     ghost Value = { ExecutiveParts };
 
@@ -52,15 +57,67 @@ impl Model for Executive {
       compiled = e.compiled.value;
       state = e.standing;
       last_seen = e.last_seen.pairs;
-      tables = e.tables;
+      tables = tables_in e.policy;
     } };
 
-    ghost invariant = { λ e. (AreWorldsOf e.compiled.value.model e.worlds × IsWorldSpace e.worlds e.space × IsMirror e.compiled.value.model e.mirror) × IsExecutive (record {
-      compiled = e.compiled.value;
-      state = e.standing;
-      last_seen = e.last_seen.pairs;
-      tables = e.tables;
-    }) };
+    ghost invariant = { λ e. (AreWorldsOf e.compiled.value.model e.worlds × IsEstimateSpace e.compiled.value.model e.worlds e.space × IsMirror e.compiled.value.model e.mirror
+        × AreTablesOf e.compiled.value e.policy.tables) × IsExecutive (record {
+          compiled = e.compiled.value;
+          state = e.standing;
+          last_seen = e.last_seen.pairs;
+          tables = tables_in e.policy;
+        }) };
+}
+
+/// Tables that are not in use yet, and memory for estimates. The error is out of memory.
+fn memory_of(
+    alloc: Global,
+    compiled: &Rc<Compiled>,
+    worlds: &Worlds,
+    state: &State,
+) -> Result<(Policy, EstimateSpace), AllocError>
+    requires { IsState compiled.now.value.model state.now.modes }
+    ensures tables { IfOk result (λ r. AreTablesOf compiled.now.value r.0.tables) }
+    ensures unused { IfOk result (λ r. tables_in r.0 ≡ None) }
+    ensures space { IfOk result (λ r. IsEstimateSpace compiled.now.value.model worlds.now r.1) }
+{
+    let policy = Policy::of(alloc, compiled, state)?;
+    let space = EstimateSpace::of(alloc, compiled.model(), worlds)?;
+    Ok((policy, space))
+}
+
+/// The executive of these parts, which has observed nothing.
+fn at_start(
+    alloc: Global,
+    compiled: Rc<Compiled>,
+    worlds: Worlds,
+    space: EstimateSpace,
+    standing: Standing,
+    policy: Policy,
+) -> Executive
+    requires compiled { IsCompiled compiled.value }
+    requires worlds { AreWorldsOf compiled.value.model worlds }
+    requires space { IsEstimateSpace compiled.value.model worlds space }
+    requires fits { Fits compiled.value standing }
+    requires tables { AreTablesOf compiled.value policy.tables }
+    requires unused { tables_in policy ≡ None }
+    ensures { result ≡ record {
+      compiled = compiled.value;
+      state = standing;
+      last_seen = [];
+      tables = None;
+    } }
+{
+    Executive {
+        alloc,
+        compiled,
+        worlds,
+        space,
+        mirror: Mirror::new(),
+        standing,
+        policy,
+        last_seen: nothing_seen(alloc),
+    }
 }
 
 impl Executive {
@@ -75,20 +132,10 @@ impl Executive {
             }) }
     {
         let worlds = Worlds::of(alloc, compiled.model())?;
-        let space = worlds.space(alloc)?;
-        let mirror = Mirror::new();
         let standing = Standing::start(alloc, compiled.model(), 0)?;
         let compiled = Rc::new(alloc, compiled)?;
-        Ok(Executive {
-            alloc,
-            compiled,
-            worlds,
-            space,
-            mirror,
-            standing,
-            tables: None,
-            last_seen: nothing_seen(alloc),
-        })
+        let (policy, space) = memory_of(alloc, &compiled, &worlds, &standing.estimate)?;
+        Ok(at_start(alloc, compiled, worlds, space, standing, policy))
     }
 
     /// Makes one event. A report comes exactly for a tick. The error is out of memory.
@@ -118,14 +165,14 @@ impl Executive {
                 &mut self.space,
                 &mut self.mirror,
                 &mut self.standing,
-                &mut self.tables,
+                &mut self.policy,
                 &mut self.last_seen,
             )?;
             return Ok(Some(report));
         }
         change(self.alloc, &self.compiled, &mut self.standing, event)?;
         if let Event::Reset = event {
-            self.tables = None;
+            self.policy.in_use = false;
             self.last_seen = nothing_seen(self.alloc);
         }
         Ok(None)
@@ -158,7 +205,7 @@ impl Executive {
         ensures value { option_map (λ t. t.now) result ≡ self.now.tables }
         ensures executive { IsExecutive self.now }
     {
-        self.tables.as_ref()
+        self.policy.get()
     }
 
     /// What the next tick observes besides the mirrored variables.

@@ -2,10 +2,10 @@
 #![tactic(auto)]
 
 mod answer;
-mod cover;
 mod events;
 mod executive;
 mod observed;
+mod policy;
 mod tick;
 
 pub use executive::Executive;

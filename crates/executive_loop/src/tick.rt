@@ -1,23 +1,23 @@
 //! One tick.
 
-ghost use Rattle.std.specs.Prelude.{◌≡◌, ◌<◌, ◌+◌, ◌^◌, [], true, IfSome, IfOk, OnOk, OnErr, None};
+ghost use Rattle.std.specs.Prelude.{◌≡◌, ◌<◌, ◌+◌, ◌^◌, [], true, IfOk, OnErr, None};
 ghost use Rattle.std.specs.Option.{option_map};
 ghost use Rattle.cca_base.specs.Prelude.{IsState, Nominal, Promising, TickShows};
 ghost use Rattle.consistency.specs.Observed.{IsMirror};
-ghost use Rattle.consistency.specs.Spaces.{IsWorldSpace};
 ghost use Rattle.consistency.specs.Worlds.{AreWorldsOf};
 ghost use Rattle.trace_laws.specs.Fits.{Fits};
 ghost use Rattle.trace_laws.specs.Tables.{TablesShown};
 ghost use Rattle.executive_loop.specs.Answered.{IsAnswered};
-ghost use Rattle.executive_loop.specs.Covering.{base_of, covers, AreTablesOf, AreCoveringShown};
+ghost use Rattle.executive_loop.specs.Covering.{base_of, covers, tables_in, AreCoveringShown, AreTablesOf};
 ghost use Rattle.executive_loop.specs.Parts.{SeenAt};
+ghost use Rattle.mode_estimator.specs.Spaces.{IsEstimateSpace};
 
 use crate::answer::reply_in;
 use crate::observed::observe;
+use crate::policy::Policy;
 use cca_base::{Compiled, Seen, Shown, State, TickReport};
-use consistency::{Mirror, WorldSpace, Worlds};
-use mode_estimator::{Estimate, estimate_by};
-use policy_tables::Tables;
+use consistency::{Mirror, Worlds};
+use mode_estimator::{Estimate, EstimateSpace, estimate_by};
 use std::alloc::{AllocError, Global};
 use std::rc::Rc;
 use successors::obey;
@@ -28,26 +28,26 @@ fn answer(
     alloc: Global,
     compiled: &Rc<Compiled>,
     standing: &mut Standing,
-    tables: &mut Option<Tables>,
+    policy: &mut Policy,
     state: State,
     cost: u64,
 ) -> Result<Shown, AllocError>
     requires fits { Fits compiled.now.value standing.old }
-    requires tables { IfSome tables.old (AreTablesOf compiled.now.value) }
+    requires tables { AreTablesOf compiled.now.value policy.old.tables }
     requires state { IsState compiled.now.value.model state.modes }
     requires room { standing.old.ticks + 1 < 2 ^ 64 }
     ensures answered { IfOk result (λ shown.
         IsAnswered compiled.now.value standing.old cost state shown
         standing.new) }
     ensures takes { IfOk result (λ shown.
-        TablesShown base_of covers standing.old.goal tables.old shown tables.new) }
-    ensures covers { IfOk result (λ shown. AreCoveringShown tables.new state.modes shown) }
-    ensures tables { OnOk result (IfSome tables.new (AreTablesOf compiled.now.value)) }
+        TablesShown base_of covers standing.old.goal (tables_in policy.old) shown (tables_in policy.new)) }
+    ensures covers { IfOk result (λ shown. AreCoveringShown (tables_in policy.new) state.modes shown) }
+    ensures tables { AreTablesOf compiled.now.value policy.new.tables }
     ensures err { OnErr result (standing.new ≡ standing.old) }
-    ensures err_tables { OnErr result (tables.new ≡ tables.old) }
+    ensures err_tables { OnErr result (policy.new ≡ policy.old) }
 {
     let shown = state.copy(alloc)?;
-    let reply = reply_in(alloc, compiled, tables, &state, &standing.goal)?;
+    let reply = reply_in(policy, &state, &standing.goal);
     let command = command_of(reply);
     let tick = standing.ticks + 1;
     obey(compiled, &mut standing.plant, command);
@@ -65,33 +65,33 @@ pub(crate) fn make_tick(
     alloc: Global,
     compiled: &Rc<Compiled>,
     worlds: &Worlds,
-    space: &mut WorldSpace,
+    space: &mut EstimateSpace,
     mirror: &mut Mirror,
     standing: &mut Standing,
-    tables: &mut Option<Tables>,
+    policy: &mut Policy,
     last_seen: &mut Seen,
 ) -> Result<TickReport, AllocError>
     requires worlds { AreWorldsOf compiled.now.value.model worlds.now }
-    requires space { IsWorldSpace worlds.now space.old }
+    requires space { IsEstimateSpace compiled.now.value.model worlds.now space.old }
     requires mirror { IsMirror compiled.now.value.model mirror.old }
     requires fits { Fits compiled.now.value standing.old }
-    requires tables { IfSome tables.old (AreTablesOf compiled.now.value) }
+    requires tables { AreTablesOf compiled.now.value policy.old.tables }
     requires room { standing.old.ticks + 1 < 2 ^ 64 }
     ensures number { IfOk result (λ report. report.tick ≡ standing.old.ticks + 1) }
     ensures shows { IfOk result (λ report.
         TickShows compiled.now.value.model (Promising compiled.now.value) standing.old
         report.shown standing.new) }
     ensures takes { IfOk result (λ report.
-        TablesShown base_of covers standing.old.goal tables.old report.shown tables.new) }
+        TablesShown base_of covers standing.old.goal (tables_in policy.old) report.shown (tables_in policy.new)) }
     ensures covers { IfOk result (λ report.
-        AreCoveringShown tables.new standing.new.estimate report.shown) }
-    ensures tables { OnOk result (IfSome tables.new (AreTablesOf compiled.now.value)) }
-    ensures space { IsWorldSpace worlds.now space.new }
+        AreCoveringShown (tables_in policy.new) standing.new.estimate report.shown) }
+    ensures tables { AreTablesOf compiled.now.value policy.new.tables }
+    ensures space { IsEstimateSpace compiled.now.value.model worlds.now space.new }
     ensures mirror { IsMirror compiled.now.value.model mirror.new }
     ensures seen { IfOk result (λ report.
         SeenAt compiled.now.value.model standing.old report.shown last_seen.new.pairs) }
     ensures err { OnErr result (standing.new ≡ standing.old) }
-    ensures err_tables { OnErr result (tables.new ≡ tables.old) }
+    ensures err_tables { OnErr result (policy.new ≡ policy.old) }
     ensures err_seen { OnErr result (last_seen.new ≡ last_seen.old) }
 {
     let tick = standing.ticks + 1;
@@ -114,7 +114,7 @@ pub(crate) fn make_tick(
         space,
     )? {
         Estimate::Found { state, cost } => {
-            answer(alloc, compiled, standing, tables, state, cost)?
+            answer(alloc, compiled, standing, policy, state, cost)?
         }
         Estimate::Unexplained => {
             standing.holding = true;

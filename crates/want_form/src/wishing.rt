@@ -6,7 +6,7 @@ ghost use Rattle.cca_base.specs.declared.limits.TheConstants.{MAX_WEIGHT};
 ghost use Rattle.reversibility.specs.ClassParts.{CoversState};
 ghost use Rattle.want_form.specs.Wishes.{put_in};
 ghost use Rattle.line_machine.specs.Next.{next_of};
-ghost use Rattle.line_machine.specs.Outs.{Appended, IsFront};
+ghost use Rattle.byte_buffer.specs.Outs.{Appended, IsFront};
 ghost use Rattle.model_form.specs.FormStates.{form_first};
 ghost use Rattle.want_lines.specs.declared.request.Request.TheVariants.{Want};
 ghost use Rattle.want_form.specs.WishMachine.{ServesRequest, put_at, weighed};
@@ -123,6 +123,47 @@ impl Wishing {
         Tables::of(alloc, classes)
     }
 
+    /// Answers a wish by the tables, and appends the text of the answer. The error is out of memory.
+    fn answer_by(
+        &self,
+        alloc: Global,
+        tables: &Tables,
+        number: u64,
+        formula: &Formula,
+        out: &mut Out,
+    ) -> Result<Option<End>, AllocError>
+        requires compiled { tables.now.classes.compiled ≡ self.now.compiled }
+        requires covers { CoversState tables.now.classes self.now.settings.modes }
+        requires formula { IsFormula self.now.compiled.model formula.now }
+        ensures answers { IfOk result (λ end. Appended
+            (ServesRequest (Want formula.now) self.now number (next_of self.now end))
+            out.old out.new) }
+        ensures front { IsFront out.old out.new }
+    {
+        let model = self.compiled.model();
+        let from = self.plant.state();
+        match interpret_by(alloc, tables, &self.rules, from, formula, &self.weights)? {
+            Target::Found {
+                state,
+                weight,
+                goal,
+            } => {
+                let plan = whole_plan(alloc, tables, from, &goal)?;
+                let text = target_lines(alloc, model, weight, &state, &plan)?;
+                out.push(text.as_slice())?;
+                Ok(None)
+            }
+            Target::Nowhere => {
+                out.push(b"none\n")?;
+                Ok(None)
+            }
+            Target::Many => {
+                refuse_code_to(alloc, false, model, number, MANY, out)?;
+                Ok(Some(End::Refused))
+            }
+        }
+    }
+
     /// Answers a wish, and appends the text of the answer. The error is out of memory.
     fn answer(
         &self,
@@ -137,29 +178,8 @@ impl Wishing {
             out.old out.new) }
         ensures front { IsFront out.old out.new }
     {
-        let model = self.compiled.model();
         let tables = self.tables(alloc)?;
-        let from = self.plant.state();
-        match interpret_by(alloc, &tables, &self.rules, from, formula, &self.weights)? {
-            Target::Found {
-                state,
-                weight,
-                goal,
-            } => {
-                let plan = whole_plan(alloc, &tables, from, &goal)?;
-                let text = target_lines(alloc, model, weight, &state, &plan)?;
-                out.push(text.as_slice())?;
-                Ok(None)
-            }
-            Target::Nowhere => {
-                out.push(b"none\n")?;
-                Ok(None)
-            }
-            Target::Many => {
-                refuse_code_to(alloc, false, model, number, MANY, out)?;
-                Ok(Some(End::Refused))
-            }
-        }
+        self.answer_by(alloc, &tables, number, formula, out)
     }
 }
 

@@ -2,7 +2,7 @@ use Rattle.std.proofs.Common.{◌≡◌, ◌↔◌, true, subst}
 use Rattle.reversibility.specs.ClassParts.{ClassParts}
 use Rattle.reversibility.specs.Promises.{StandsByChain}
 use Rattle.executive_loop.proofs.CoveredStates.{covers_is}
-use Rattle.executive_loop.proofs.cover.cover.Goals as goal
+use Rattle.executive_loop.proofs.policy.cover.Goals as goal
 
 pub returns-clause-value : goal.returns-clause-value
 returns-clause-value c =
