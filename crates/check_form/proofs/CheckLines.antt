@@ -8,7 +8,7 @@ use Rattle.cca_base.specs.PlantModel.{PlantModel}
 use Rattle.cca_base.specs.Trace.{ExecutiveState}
 use Rattle.cca_base.specs.declared.events.Route.{Route}
 use Rattle.cca_base.specs.declared.state.World.{World}
-use Rattle.line_machine.specs.Outs.{Appended, Buffered}
+use Rattle.byte_buffer.specs.Outs.{Appended, Buffered}
 use Rattle.line_machine.specs.declared.machine.End.{End}
 use Rattle.line_machine.specs.declared.machine.End.TheVariants as ends
 use Rattle.plan_checker.specs.Checked.{Takes, TakesAtYes, OnYes, IsExplained, ShowsSuccessor}

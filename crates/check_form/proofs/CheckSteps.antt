@@ -7,7 +7,7 @@ use Rattle.cca_base.specs.Accepted.{CompiledModel}
 use Rattle.cca_base.specs.PlantModel.{PlantModel}
 use Rattle.cca_base.specs.Trace.{start}
 use Rattle.line_machine.specs.Next.{GoesOn, next_of}
-use Rattle.line_machine.specs.Outs.{Appended, Buffered}
+use Rattle.byte_buffer.specs.Outs.{Appended, Buffered}
 use Rattle.line_machine.specs.declared.machine.End.{End}
 use Rattle.trace_laws.specs.Events.{PendingAfter}
 use Rattle.check_form.specs.CheckMachine.{CheckState, InScript, InTrace, ServesIn, TraceSteps}

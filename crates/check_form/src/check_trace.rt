@@ -4,7 +4,7 @@ ghost use Rattle.std.specs.Prelude.{◌≡◌, [], IfOk, OnOk, None};
 ghost use Rattle.std.specs.Option.{option_map};
 ghost use Rattle.cca_base.specs.Prelude.{start, HasWorlds, IsCompiled};
 ghost use Rattle.consistency.specs.Worlds.{AreWorldsOf};
-ghost use Rattle.line_machine.specs.Outs.{Appended, IsFront};
+ghost use Rattle.byte_buffer.specs.Outs.{Appended, IsFront};
 ghost use Rattle.model_form.specs.Answers.{answer};
 ghost use Rattle.plan_checker.specs.Standing.{FitsModel};
 ghost use Rattle.check_form.specs.CheckMachine.{trace_closing};

@@ -3,7 +3,7 @@
 ghost use Rattle.std.specs.Prelude.{◌≡◌, ◌+◌, ℕ, Bool, List, [], Option, Result, Ok, Some, None, IfOk, IfSome, IsTrue};
 ghost use Rattle.cca_base.specs.Prelude.{Answers, CompiledModel};
 ghost use Rattle.line_machine.specs.Next.{Next, next_of};
-ghost use Rattle.line_machine.specs.Outs.{Appended, IsFront};
+ghost use Rattle.byte_buffer.specs.Outs.{Appended, IsFront};
 ghost use Rattle.model_form.specs.Answers.{answer};
 ghost use Rattle.line_forms.specs.LineMeaning.{LineMeaning};
 

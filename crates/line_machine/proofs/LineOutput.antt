@@ -1,7 +1,7 @@
 -- A line that is taken: what it may print.
 use Rattle.std.proofs.Common.{◌≡◌, ℕ, List, [], ◌++◌, length, Option, Some, None, sym, ap, subst, ◌∙◌}
 use Rattle.line_machine.specs.Next.{Next, Stops}
-use Rattle.line_machine.specs.Outs.{Appended, Buffered}
+use Rattle.byte_buffer.specs.Outs.{Appended, Buffered}
 use Rattle.line_machine.specs.Runs.{length_code, TransitionByCode, Transition}
 use Rattle.line_machine.specs.Sent.{SentFront}
 use Rattle.line_machine.specs.SentCut.{SentCut}

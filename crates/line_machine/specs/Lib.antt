@@ -9,7 +9,6 @@ pub mod IsDriven
 pub mod KnownInput
 pub mod Lines
 pub mod Next
-pub mod Outs
 pub mod Runs
 pub mod Sent
 pub mod SentCut

@@ -14,8 +14,8 @@ use crate::buffer::{FillStop, Found, LineBuffer};
 use crate::intake::Intake;
 use crate::line::{refuse, take_last, take_line};
 use crate::machine::{End, LONG_LINE, MAX_LINES, Machine, TOO_MANY_LINES};
-use crate::out::Out;
 use crate::send::Cut;
+use byte_buffer::Out;
 use std::alloc::Global;
 use titan_wire::Sink;
 

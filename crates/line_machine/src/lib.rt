@@ -10,15 +10,14 @@ mod laws;
 mod line;
 mod machine;
 mod opened;
-mod out;
 mod send;
 
 pub use buffer::lf_place;
+pub use byte_buffer::Out;
 pub use driver::drive;
 pub use intake::{Intake, Unwatched};
 pub use laws::sure_text_laws;
 pub use line::length_code;
 pub use machine::{End, LONG_LINE, MAX_LINES, Machine, TOO_MANY_LINES};
 pub use opened::drive_opened;
-pub use out::Out;
 pub use send::Cut;

@@ -8,8 +8,8 @@ ghost use Rattle.line_machine.specs.Runs.{length_code, MayPrint, Transition, End
 ghost use Rattle.line_machine.specs.declared.machine.End.{End};
 
 use crate::machine::{End, LONG_LINE, MAX_LINES, Machine, TOO_MANY_LINES};
-use crate::out::Out;
 use crate::send::{Cut, send_out};
+use byte_buffer::Out;
 use std::alloc::Global;
 use titan_wire::Sink;
 

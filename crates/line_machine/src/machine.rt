@@ -1,9 +1,9 @@
 //! A form of words as a transducer over lines: a state machine that prints at each step (a Mealy machine).
 ghost use Rattle.std.specs.Prelude.{◌≡◌, ◌≤◌, ◌+◌, ◌++◌, ℕ, List, [], length, None, IfOk, IsTrue, OnOk};
 ghost use Rattle.line_machine.specs.Next.{Next, GoesOn, next_of};
-ghost use Rattle.line_machine.specs.Outs.{Appended, IsFront};
+ghost use Rattle.byte_buffer.specs.Outs.{Appended, IsFront};
 
-use crate::out::Out;
+use byte_buffer::Out;
 use std::alloc::{AllocError, Global};
 
 /// How a program ends that meets no fault.

@@ -5,7 +5,7 @@ ghost use Rattle.line_machine.specs.Lines.{IsOneLine};
 ghost use Rattle.line_machine.specs.Sent.{Sent, SentFront};
 
 use crate::buffer::lf_place;
-use crate::out::Out;
+use byte_buffer::Out;
 use titan_wire::{PutEnd, Sink, put_all};
 
 /// Why a program stopped short of its end.

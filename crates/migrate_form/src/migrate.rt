@@ -3,7 +3,7 @@
 ghost use Rattle.std.specs.Prelude.{◌≡◌, ◌++◌, ◌∷◌, ◌+◌, [], ℕ, codes, IfOk, OnOk};
 ghost use Rattle.cca_base.specs.Prelude.{PlantModel};
 ghost use Rattle.formula_syntax.specs.Lookups.{NamesFit};
-ghost use Rattle.line_machine.specs.Outs.{IsFront};
+ghost use Rattle.byte_buffer.specs.Outs.{IsFront};
 ghost use Rattle.model_syntax.specs.Printing.{printed_model};
 ghost use Rattle.model_form.specs.FormStates.{form_first};
 

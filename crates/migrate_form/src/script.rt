@@ -2,7 +2,7 @@
 
 ghost use Rattle.std.specs.Prelude.{◌≡◌, ◌++◌, ◌∷◌, [], OnOk, OnErr};
 ghost use Rattle.cca_base.specs.Prelude.{MayCome};
-ghost use Rattle.line_machine.specs.Outs.{IsFront};
+ghost use Rattle.byte_buffer.specs.Outs.{IsFront};
 ghost use Rattle.trace_laws.specs.Events.{PendingAfter, mirrored_after};
 
 use crate::migrate::OpensSecond;

@@ -2,7 +2,7 @@
 
 ghost use Rattle.std.specs.Prelude.{◌≡◌, ℕ, ◌++◌, Some, OnOk, OnErr};
 ghost use Rattle.cca_base.specs.Prelude.{bare, stop_code};
-ghost use Rattle.line_machine.specs.Outs.{Appended, IsFront};
+ghost use Rattle.byte_buffer.specs.Outs.{Appended, IsFront};
 ghost use Rattle.model_form.specs.Acceptance.{SaysNotAccepted};
 ghost use Rattle.trace_text.specs.Json.{refusal_text};
 

@@ -1,10 +1,11 @@
 //! The machine of a form that reads a model.
 
-ghost use Rattle.std.specs.Prelude.{◌≡◌, ◌+◌, IfOk};
+ghost use Rattle.std.specs.Prelude.{◌≡◌, ◌≤◌, ◌+◌, None, IfOk, length};
 ghost use Rattle.cca_base.specs.Prelude.{IsComplete};
 ghost use Rattle.formula_syntax.specs.Lookups.{NamesFit};
-ghost use Rattle.line_machine.specs.Outs.{Appended, IsFront};
-ghost use Rattle.model_form.specs.FormMachine.{AtScript};
+ghost use Rattle.byte_buffer.specs.Outs.{Appended, IsFront};
+ghost use Rattle.line_machine.specs.Next.{next_of};
+ghost use Rattle.model_form.specs.FormMachine.{AtScript, FormAwaits, FormSteps, limit_in};
 ghost use Rattle.model_form.specs.FormStates.{form_first};
 ghost use Rattle.model_form.specs.Openings.{next_by, AwaitsBy};
 
@@ -26,8 +27,8 @@ use std::mem;
 enum Stage<F, B> {
     /// In its model.
     Model(F, ModelReader),
-    /// Behind it.
-    Behind(B),
+    /// Behind it. The machine there is large and made once, so it has a place of its own.
+    Behind(Box<B>),
 }
 
 /// A form that reads a model.
@@ -83,6 +84,46 @@ impl<F: ModelForm<B> + Drop, B: Machine + Drop> WithModel<F, B> {
         Ok(WithModel {
             stage: Stage::Model(form, reader),
         })
+    }
+
+    /// Takes a line, by a call of its own: its locals are as large as the machine behind the model, and a function pays for its locals at
+    /// each call.
+    fn step_rarely(
+        &mut self,
+        alloc: Global,
+        number: u64,
+        line: &[u8],
+        out: &mut Out,
+    ) -> Result<Option<End>, AllocError>
+        requires short { length line.now ≤ limit_in F.ModelForm B.Machine self.old }
+        requires turn { FormAwaits F.ModelForm B.Machine self.old number }
+        ensures steps { IfOk result (λ end. Appended
+            (FormSteps F.ModelForm B.Machine self.old number line.now (next_of self.new end)) out.old out.new) }
+        ensures turn { IfOk result (λ end. end ≡ None → FormAwaits F.ModelForm B.Machine self.new (number + 1)) }
+        ensures front { IsFront out.old out.new }
+    {
+        match &mut self.stage {
+            Stage::Behind(behind) => behind.step(alloc, number, line, out),
+            Stage::Model(form, reader) => match reader.line(line) {
+                Ok(LineEnd::Going) => Ok(None),
+                Ok(LineEnd::Script) => {
+                    let read = mem::replace(reader, ModelReader::open(alloc)?);
+                    let (model, names) = read.finish_named();
+                    match at_script(alloc, form, model, names, number, out)? {
+                        Opened::Lines(behind) => {
+                            self.stage = Stage::Behind(Box::new(alloc, behind)?);
+                            Ok(None)
+                        }
+                        Opened::Ended(end) => Ok(Some(end)),
+                    }
+                }
+                Err(stop) => {
+                    let json = form.is_json();
+                    refuse_stop_to(alloc, json, reader.model(), number, &stop, out)?;
+                    Ok(Some(End::Refused))
+                }
+            },
+        }
     }
 }
 
@@ -141,28 +182,10 @@ impl<F: ModelForm<B> + Drop, B: Machine + Drop> Machine for WithModel<F, B> {
         line: &[u8],
         out: &mut Out,
     ) -> Result<Option<End>, AllocError> {
-        match &mut self.stage {
-            Stage::Behind(behind) => behind.step(alloc, number, line, out),
-            Stage::Model(form, reader) => match reader.line(line) {
-                Ok(LineEnd::Going) => Ok(None),
-                Ok(LineEnd::Script) => {
-                    let read = mem::replace(reader, ModelReader::open(alloc)?);
-                    let (model, names) = read.finish_named();
-                    match at_script(alloc, form, model, names, number, out)? {
-                        Opened::Lines(behind) => {
-                            self.stage = Stage::Behind(behind);
-                            Ok(None)
-                        }
-                        Opened::Ended(end) => Ok(Some(end)),
-                    }
-                }
-                Err(stop) => {
-                    let json = form.is_json();
-                    refuse_stop_to(alloc, json, reader.model(), number, &stop, out)?;
-                    Ok(Some(End::Refused))
-                }
-            },
+        if let Stage::Behind(behind) = &mut self.stage {
+            return behind.step(alloc, number, line, out);
         }
+        self.step_rarely(alloc, number, line, out)
     }
 
     fn close(&mut self, alloc: Global, count: u64, out: &mut Out) -> Result<End, AllocError> {

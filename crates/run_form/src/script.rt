@@ -3,7 +3,7 @@
 ghost use Rattle.std.specs.Prelude.{◌≡◌, ◌+◌, ◌-◌, ◌<◌, ◌^◌, IfOk, IfSome, OnOk, option_to_list};
 ghost use Rattle.cca_base.specs.Prelude.{IsCompiled, MayCome, Promising};
 ghost use Rattle.formula_syntax.specs.Lookups.{NamesFit};
-ghost use Rattle.line_machine.specs.Outs.{Appended, IsFront};
+ghost use Rattle.byte_buffer.specs.Outs.{Appended, IsFront};
 ghost use Rattle.script_reader.specs.EventLines.{AnswersAs, event_line};
 ghost use Rattle.run_form.specs.Summaries.{AreFewer, added, counts_of};
 ghost use Rattle.run_form.specs.TickTexts.{EventText};

@@ -2,7 +2,7 @@
 
 ghost use Rattle.std.specs.Prelude.{◌≡◌, ◌≤◌, ◌+◌, None, IfOk};
 ghost use Rattle.line_machine.specs.Next.{next_of};
-ghost use Rattle.line_machine.specs.Outs.{Appended, IsFront};
+ghost use Rattle.byte_buffer.specs.Outs.{Appended, IsFront};
 ghost use Rattle.line_machine.specs.Runs.{Transition};
 ghost use Rattle.line_machine.specs.declared.machine.TheConstants.{MAX_LINES};
 

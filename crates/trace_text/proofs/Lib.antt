@@ -5,6 +5,7 @@ mod CutLines
 pub mod FittingLines
 mod JsonExamples
 mod KeyOrder
+pub mod LeftToPush
 mod LineExamples
 mod LinesAsWords
 mod MappedCommands
@@ -14,6 +15,7 @@ mod PairsApart
 mod PlainNames
 mod ReadReports
 mod ReadWords
+mod ReportRoom
 mod RowsOfModels
 mod SameMembers
 pub mod ShortLines

@@ -85,7 +85,7 @@ plan_count names (plans.Plan ks) h = go (is_only_long names ks)
 -- ---- how many bytes there are
 
 -- words below a length, each behind a space
-spaced_length : (k : ℕ) (words : List (List ℕ)) → All (λ word. length word < k) words → length (behind_spaces words) ≤ length words * k
+pub spaced_length : (k : ℕ) (words : List (List ℕ)) → All (λ word. length word < k) words → length (behind_spaces words) ≤ length words * k
 spaced_length k words h = subst (λ n. n ≤ length words * k) (sym (length-flat_map (λ word. 32 ∷ word) words)) (sum_by-le (λ word. length (32 ∷ word)) k words h)
 
 -- words of at most 65 bytes, as those of a tick or a world

@@ -72,7 +72,7 @@ name_short name h =
     let limits = and_parts (nat_le (length name) MAX_NAME) (not (is_reserved name)) parts.1 in
     record { plain = word_bytes name h; short = leb-true (length name) MAX_NAME limits.0 }
 
-name_at_short : (names : List (List ℕ)) (k : ℕ) → All IsName names → IsShortWord (name_at names k)
+pub name_at_short : (names : List (List ℕ)) (k : ℕ) → All IsName names → IsShortWord (name_at names k)
 name_at_short [] k h = none_short
 name_at_short (x ∷ xs) zero h = name_short x (All-head IsName x xs h)
 name_at_short (x ∷ xs) (suc k) h = name_at_short xs k (All-tail IsName x xs h)
@@ -99,14 +99,14 @@ decimal_short n h = record { plain = go (decimal n) (decimal_digits n (omega ari
 choice_formed : (name : List ℕ) (choices : List (List ℕ)) (k : ℕ) → IsName name → All IsName choices → IsLineWord (choice_text name choices k)
 choice_formed name choices k h p = inr (record { name = name; choice = name_at choices k; is = refl; of_name = name_short name h; of_choice = name_at_short choices k p })
 
-choices_formed : (rows : List Row) (ks : List ℕ) → All HasRowNames rows → All IsLineWord (choice_words rows ks)
+pub choices_formed : (rows : List Row) (ks : List ℕ) → All HasRowNames rows → All IsLineWord (choice_words rows ks)
 choices_formed [] ks h = All-nil IsLineWord
 choices_formed (r ∷ rs) [] h = All-nil IsLineWord
 choices_formed (r ∷ rs) (k ∷ ks) h =
     let first = All-head HasRowNames r rs h in
     All-cons IsLineWord (choice_text r.name r.choices k) (choice_words rs ks) (choice_formed r.name r.choices k first.name first.choices.each) (choices_formed rs ks (All-tail HasRowNames r rs h))
 
-pair_formed : (cs : List Component) (c mode : ℕ) → All HasNames cs → IsLineWord (pair_text_at cs c mode)
+pub pair_formed : (cs : List Component) (c mode : ℕ) → All HasNames cs → IsLineWord (pair_text_at cs c mode)
 pair_formed [] c mode h = inl none_short
 pair_formed (x ∷ xs) zero mode h = let first = All-head HasNames x xs h in choice_formed x.name x.modes mode first.0 first.1
 pair_formed (x ∷ xs) (suc c) mode h = pair_formed xs c mode (All-tail HasNames x xs h)

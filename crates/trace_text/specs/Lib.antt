@@ -7,6 +7,7 @@ pub mod LineWords
 pub mod Names
 pub mod ProofLines
 pub mod Refusals
+pub mod ReportRefs
 pub mod Reports
 pub mod TargetLines
 pub mod TraceLines

@@ -9,6 +9,7 @@ ghost use Rattle.trace_text.specs.Json.{with_members, reply_members, shown_membe
 use crate::members::{modes_value, put_number, put_text, put_word};
 use crate::names::{component_bytes, mode_bytes};
 use crate::refusal::{code_name, push_detail};
+use byte_buffer::Out;
 use cca_base::{List, Model, Refusal, Reply, Shown, TickReport};
 use model_syntax::name_at;
 use serde_json::{Map, Value};
@@ -102,9 +103,9 @@ fn put_detail(
         ≡ put (codes "detail") (string (bare_detail model.now refusal.now)) (members_view map.old.entries)) }
 {
     let _components = model.components();
-    let mut detail = Vec::new(alloc);
+    let mut detail = Out::new(alloc);
     push_detail(&mut detail, model, &refusal.detail)?;
-    put_text(map, alloc, "detail", behind_first(&detail))
+    put_text(map, alloc, "detail", behind_first(detail.as_slice()))
 }
 
 /// A refusal as an object.

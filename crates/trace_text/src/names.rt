@@ -1,19 +1,38 @@
 //! Pairs, components and moves by their names.
 
-ghost use Rattle.std.specs.Prelude.{◌≡◌, ◌++◌, OnOk};
+ghost use Rattle.std.specs.Prelude.{◌≡◌, ◌∷◌, ◌++◌};
 ghost use Rattle.std.specs.Fmt.{decimal};
+ghost use Rattle.byte_buffer.specs.Outs.{Pushes};
 ghost use Rattle.trace_text.specs.Names.{name_at, choice_text, mode_text, mode_text_at, pair_text, pair_text_at, pairs_text, component_name, components_text, mode_name, move_text, move_text_at};
 
+use byte_buffer::Out;
 use cca_base::{Component, Model, Move, Name, Pair};
+use itoa::Buffer;
 use model_syntax::name_at;
-use std::alloc::{AllocError, Global};
+use std::alloc::AllocError;
 
-pub fn push_number(alloc: Global, out: &mut Vec<u8>, n: u64) -> Result<(), AllocError>
-    ensures { OnOk result (out.new.items ≡ out.old.items ++ decimal n) }
+/// A number by its digits, which take no memory.
+pub fn push_number(out: &mut Out, n: u64) -> Result<(), AllocError>
+    ensures { Pushes (decimal n) out.old result out.new }
 {
-    let digits = n.to_string(alloc)?;
-    out.extend_from_slice(digits.as_bytes())?;
-    Ok(())
+    let mut digits = Buffer::new();
+    out.push(digits.format(n).as_bytes())
+}
+
+/// A number behind a word.
+pub fn push_field(out: &mut Out, word: &[u8], n: u64) -> Result<(), AllocError>
+    ensures { Pushes (word.now ++ decimal n) out.old result out.new }
+{
+    out.push(word)?;
+    push_number(out, n)
+}
+
+/// A word behind a space.
+pub fn push_word(out: &mut Out, word: &[u8]) -> Result<(), AllocError>
+    ensures { Pushes (32 ∷ word.now) out.old result out.new }
+{
+    out.push_byte(b' ')?;
+    out.push(word)
 }
 
 /// The name of a component, or no bytes.
@@ -36,51 +55,52 @@ pub fn mode_bytes(components: &[Component], c: usize, mode: u8) -> &[u8]
     }
 }
 
-pub fn push_name(out: &mut Vec<u8>, names: &[Name], at: usize) -> Result<(), AllocError>
-    ensures { OnOk result (out.new.items ≡ out.old.items ++ name_at names.now at) }
+pub fn push_name(out: &mut Out, names: &[Name], at: usize) -> Result<(), AllocError>
+    ensures { Pushes (name_at names.now at) out.old result out.new }
 {
-    out.extend_from_slice(name_at(names, at))?;
-    Ok(())
+    out.push(name_at(names, at))
 }
 
 /// A name with one of its choices.
-pub fn push_choice(
-    out: &mut Vec<u8>,
+fn push_choice(out: &mut Out, name: &[u8], choices: &[Name], at: u8) -> Result<(), AllocError>
+    ensures { Pushes (choice_text name.now choices.now at) out.old result out.new }
+{
+    out.push(name)?;
+    out.push_byte(b'=')?;
+    push_name(out, choices, at as usize)
+}
+
+/// The same behind a space.
+pub fn push_choice_word(
+    out: &mut Out,
     name: &[u8],
     choices: &[Name],
     at: u8,
 ) -> Result<(), AllocError>
-    ensures { OnOk result (out.new.items ≡ out.old.items ++ choice_text name.now choices.now at) }
+    ensures { Pushes (32 ∷ choice_text name.now choices.now at) out.old result out.new }
 {
-    out.extend_from_slice(name)?;
-    out.push(b'=')?;
-    push_name(out, choices, at as usize)
+    out.push_byte(b' ')?;
+    push_choice(out, name, choices, at)
 }
 
 /// A component with one of its modes, and a byte between them.
-fn push_mode(
-    out: &mut Vec<u8>,
-    between: u8,
-    component: &Component,
-    mode: u8,
-) -> Result<(), AllocError>
-    ensures { OnOk result (out.new.items ≡ out.old.items ++ mode_text between component.now mode) }
+fn push_mode(out: &mut Out, between: u8, component: &Component, mode: u8) -> Result<(), AllocError>
+    ensures { Pushes (mode_text between component.now mode) out.old result out.new }
 {
-    out.extend_from_slice(component.name.bytes())?;
-    out.push(between)?;
+    out.push(component.name.bytes())?;
+    out.push_byte(between)?;
     push_name(out, component.modes.as_slice(), mode as usize)
 }
 
 /// The same of a component of the model.
 fn push_mode_at(
-    out: &mut Vec<u8>,
+    out: &mut Out,
     between: u8,
     components: &[Component],
     number: usize,
     mode: u8,
 ) -> Result<(), AllocError>
-    ensures { OnOk result (out.new.items
-        ≡ out.old.items ++ mode_text_at between components.now number mode) }
+    ensures { Pushes (mode_text_at between components.now number mode) out.old result out.new }
 {
     if let Some(component) = components.get(number) {
         push_mode(out, between, component, mode)?;
@@ -88,78 +108,84 @@ fn push_mode_at(
     Ok(())
 }
 
-pub fn push_pair(out: &mut Vec<u8>, component: &Component, mode: u8) -> Result<(), AllocError>
-    ensures { OnOk result (out.new.items ≡ out.old.items ++ pair_text component.now mode) }
+pub fn push_pair(out: &mut Out, component: &Component, mode: u8) -> Result<(), AllocError>
+    ensures { Pushes (pair_text component.now mode) out.old result out.new }
 {
     push_mode(out, b'=', component, mode)
 }
 
 pub fn push_pair_at(
-    out: &mut Vec<u8>,
+    out: &mut Out,
     components: &[Component],
     number: usize,
     mode: u8,
 ) -> Result<(), AllocError>
-    ensures { OnOk result (out.new.items
-        ≡ out.old.items ++ pair_text_at components.now number mode) }
+    ensures { Pushes (pair_text_at components.now number mode) out.old result out.new }
 {
     push_mode_at(out, b'=', components, number, mode)
 }
 
+/// A pair behind a space.
+fn push_pair_word(out: &mut Out, components: &[Component], pair: Pair) -> Result<(), AllocError>
+    ensures { Pushes (32 ∷ pair_text_at components.now pair.item pair.value) out.old result out.new }
+{
+    out.push_byte(b' ')?;
+    push_pair_at(out, components, pair.item as usize, pair.value)
+}
+
 /// Each pair, behind a space.
-pub fn push_pairs(
-    out: &mut Vec<u8>,
-    components: &[Component],
-    pairs: &[Pair],
-) -> Result<(), AllocError>
-    ensures { OnOk result (out.new.items ≡ out.old.items ++ pairs_text components.now pairs.now) }
+pub fn push_pairs(out: &mut Out, components: &[Component], pairs: &[Pair]) -> Result<(), AllocError>
+    ensures { Pushes (pairs_text components.now pairs.now) out.old result out.new }
 {
     for pair in pairs {
-        out.push(b' ')?;
-        push_pair_at(out, components, pair.item as usize, pair.value)?;
+        push_pair_word(out, components, *pair)?;
     }
     Ok(())
 }
 
 /// Each component's name, behind a space.
 pub fn push_components(
-    out: &mut Vec<u8>,
+    out: &mut Out,
     components: &[Component],
     list: &[u16],
 ) -> Result<(), AllocError>
-    ensures { OnOk result (out.new.items
-        ≡ out.old.items ++ components_text components.now list.now) }
+    ensures { Pushes (components_text components.now list.now) out.old result out.new }
 {
     for c in list {
-        out.push(b' ')?;
-        out.extend_from_slice(component_bytes(components, *c as usize))?;
+        push_word(out, component_bytes(components, *c as usize))?;
     }
     Ok(())
 }
 
 /// The component of a move, the mode that it leaves, and its command.
-pub fn push_move(out: &mut Vec<u8>, model: &Model, x: &Move) -> Result<(), AllocError>
-    ensures { OnOk result (out.new.items ≡ out.old.items ++ move_text model.now x.now) }
+pub fn push_move(out: &mut Out, model: &Model, x: &Move) -> Result<(), AllocError>
+    ensures { Pushes (move_text model.now x.now) out.old result out.new }
 {
     let components = model.components().as_slice();
     push_mode_at(out, b' ', components, x.component as usize, x.source)?;
-    out.push(b' ')?;
+    out.push_byte(b' ')?;
     push_name(out, model.commands().as_slice(), x.command as usize)
+}
+
+/// A move behind a space.
+fn push_move_word(out: &mut Out, model: &Model, x: &Move) -> Result<(), AllocError>
+    ensures { Pushes (32 ∷ move_text model.now x.now) out.old result out.new }
+{
+    out.push_byte(b' ')?;
+    push_move(out, model, x)
 }
 
 /// The move at a place of a list, behind a space.
 pub fn push_move_at(
-    out: &mut Vec<u8>,
+    out: &mut Out,
     model: &Model,
     moves: &[Move],
     move_number: usize,
 ) -> Result<(), AllocError>
-    ensures { OnOk result (out.new.items
-        ≡ out.old.items ++ move_text_at model.now moves.now move_number) }
+    ensures { Pushes (move_text_at model.now moves.now move_number) out.old result out.new }
 {
     if let Some(x) = moves.get(move_number) {
-        out.push(b' ')?;
-        push_move(out, model, x)?;
+        push_move_word(out, model, x)?;
     }
     Ok(())
 }

@@ -1,12 +1,14 @@
 //! The line of a refusal.
 
-ghost use Rattle.std.specs.Prelude.{◌≡◌, ◌++◌, ◌∷◌, [], codes, IfOk, OnOk};
+ghost use Rattle.std.specs.Prelude.{◌≡◌, ◌++◌, ◌∷◌, [], codes, IfOk};
 ghost use Rattle.std.specs.Fmt.{decimal};
+ghost use Rattle.byte_buffer.specs.Outs.{Pushes};
 ghost use Rattle.trace_text.specs.Json.{refusal_text};
 ghost use Rattle.trace_text.specs.Refusals.{code_name, detail_text, refusal_line};
 
 use crate::json::refusal_json;
-use crate::names::{push_components, push_move_at, push_number, push_pairs};
+use crate::names::{push_components, push_field, push_move_at, push_pairs, push_word};
+use byte_buffer::Out;
 use cca_base::{Detail, List, Model, Refusal, codes};
 use std::alloc::{AllocError, Global};
 
@@ -42,21 +44,38 @@ pub fn code_name(code: u8) -> &'static str
 }
 
 /// What a refusal names besides its code, behind the code's name.
-pub fn push_detail(out: &mut Vec<u8>, model: &Model, detail: &Detail) -> Result<(), AllocError>
-    ensures { OnOk result (out.new.items ≡ out.old.items ++ detail_text model.now detail.now) }
+pub fn push_detail(out: &mut Out, model: &Model, detail: &Detail) -> Result<(), AllocError>
+    ensures { Pushes (detail_text model.now detail.now) out.old result out.new }
 {
     let components = model.components().as_slice();
     match detail {
-        Detail::Nothing => {}
-        Detail::Pairs(cube) => push_pairs(out, components, cube.as_slice())?,
-        Detail::Components(list) => push_components(out, components, list.as_slice())?,
-        Detail::OfMove(k) => push_move_at(out, model, model.moves().as_slice(), *k as usize)?,
+        Detail::Nothing => Ok(()),
+        Detail::Pairs(cube) => push_pairs(out, components, cube.as_slice()),
+        Detail::Components(list) => push_components(out, components, list.as_slice()),
+        Detail::OfMove(k) => push_move_at(out, model, model.moves().as_slice(), *k as usize),
     }
-    Ok(())
+}
+
+/// A code, and its name behind a space.
+fn push_code(out: &mut Out, code: u8) -> Result<(), AllocError>
+    ensures { Pushes (32 ∷ decimal code ++ 32 ∷ code_name code) out.old result out.new }
+{
+    push_field(out, b" ", u64::from(code))?;
+    push_word(out, code_name(code).as_bytes())
+}
+
+/// Appends the line of a refusal in words. The error is out of memory.
+#[tactic(auto, unfolding(crate::specs::Refusals::refusal_line))]
+fn refusal_to(model: &Model, line: u64, refusal: &Refusal, out: &mut Out) -> Result<(), AllocError>
+    ensures { Pushes (refusal_line model.now line refusal.now) out.old result out.new }
+{
+    push_field(out, b"refused ", line)?;
+    push_code(out, refusal.code)?;
+    push_detail(out, model, &refusal.detail)?;
+    out.push_byte(b'\n')
 }
 
 /// The line of a refusal in words.
-#[tactic(auto, unfolding(crate::specs::Refusals::refusal_line))]
 fn refusal_words(
     alloc: Global,
     model: &Model,
@@ -65,16 +84,9 @@ fn refusal_words(
 ) -> Result<List<u8>, AllocError>
     ensures { IfOk result (λ text. text ≡ refusal_line model.now line refusal.now) }
 {
-    let mut out = Vec::new(alloc);
-    out.extend_from_slice(b"refused ")?;
-    push_number(alloc, &mut out, line)?;
-    out.push(b' ')?;
-    push_number(alloc, &mut out, u64::from(refusal.code))?;
-    out.push(b' ')?;
-    out.extend_from_slice(code_name(refusal.code).as_bytes())?;
-    push_detail(&mut out, model, &refusal.detail)?;
-    out.push(b'\n')?;
-    Ok(List::of(out))
+    let mut out = Out::new(alloc);
+    refusal_to(model, line, refusal, &mut out)?;
+    Ok(List::of(out.into_vec()))
 }
 
 /// The line of a refusal at a line of the input, with its LF, by the names of the model that was read so far: a line of

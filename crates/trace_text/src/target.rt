@@ -3,9 +3,10 @@
 ghost use Rattle.std.specs.Prelude.{◌≡◌, IfOk};
 ghost use Rattle.trace_text.specs.TargetLines.{target_text};
 
-use crate::names::push_number;
+use crate::names::push_field;
 use crate::proof_lines::push_plan_line;
 use crate::report::push_modes;
+use byte_buffer::Out;
 use cca_base::{List, Model, PlanEnd, State};
 use std::alloc::{AllocError, Global};
 
@@ -22,12 +23,11 @@ pub fn target_lines(
     ensures { IfOk result (λ text.
         text ≡ target_text model.now weight state.now.modes plan.now) }
 {
-    let mut out = Vec::new(alloc);
-    out.extend_from_slice(b"target ")?;
-    push_number(alloc, &mut out, weight)?;
+    let mut out = Out::new(alloc);
+    push_field(&mut out, b"target ", weight)?;
     let components = model.components().as_slice();
     push_modes(&mut out, components, state.modes.as_slice())?;
-    out.push(b'\n')?;
+    out.push_byte(b'\n')?;
     push_plan_line(&mut out, b"plan", model, plan)?;
-    Ok(List::of(out))
+    Ok(List::of(out.into_vec()))
 }

@@ -1,11 +1,13 @@
 //! The line of a tick whose window has a best trajectory.
 
-ghost use Rattle.std.specs.Prelude.{◌≡◌, ◌++◌, IfOk, OnOk};
+ghost use Rattle.std.specs.Prelude.{◌≡◌, ◌++◌, IfOk};
+ghost use Rattle.byte_buffer.specs.Outs.{Pushes};
 ghost use Rattle.trace_text.specs.WindowLines.{revised_words, window_line, window_words};
 ghost use Rattle.trace_text.specs.Words.{behind_spaces};
 
-use crate::names::push_number;
-use crate::report::push_modes;
+use crate::names::push_field;
+use crate::report::push_estimate;
+use byte_buffer::Out;
 use cca_base::{List, Model};
 use std::alloc::{AllocError, Global};
 
@@ -24,39 +26,41 @@ pub struct WindowReport<'a> {
 }
 
 /// The first tick that has changed, where there is one.
-fn push_revised(alloc: Global, out: &mut Vec<u8>, revised: Option<u64>) -> Result<(), AllocError>
-    ensures { OnOk result (out.new.items
-        ≡ out.old.items ++ behind_spaces (revised_words revised)) }
+fn push_revised(out: &mut Out, revised: Option<u64>) -> Result<(), AllocError>
+    ensures { Pushes (behind_spaces (revised_words revised)) out.old result out.new }
 {
-    if let Some(tick) = revised {
-        out.extend_from_slice(b" revised ")?;
-        push_number(alloc, out, tick)?;
+    match revised {
+        Some(tick) => push_field(out, b" revised ", tick),
+        None => Ok(()),
     }
-    Ok(())
 }
 
 /// What is printed behind the tick's number: its words, each behind a space.
-fn push_window(
-    alloc: Global,
-    out: &mut Vec<u8>,
-    model: &Model,
-    report: &WindowReport,
-) -> Result<(), AllocError>
-    ensures { OnOk result (out.new.items ≡ out.old.items
-        ++ behind_spaces (window_words model.now report.now.count report.now.cost
-        report.now.modes.now report.now.revised)) }
+fn push_window(out: &mut Out, model: &Model, report: &WindowReport) -> Result<(), AllocError>
+    ensures { Pushes (behind_spaces (window_words model.now report.now.count report.now.cost report.now.modes.now report.now.revised)) out.old result out.new }
 {
-    out.extend_from_slice(b" window ")?;
-    push_number(alloc, out, report.count)?;
-    out.extend_from_slice(b" cost ")?;
-    push_number(alloc, out, report.cost)?;
-    out.extend_from_slice(b" modes")?;
-    push_modes(out, model.components().as_slice(), report.modes)?;
-    push_revised(alloc, out, report.revised)
+    push_field(out, b" window ", report.count)?;
+    push_estimate(
+        out,
+        model.components().as_slice(),
+        report.cost,
+        report.modes,
+    )?;
+    push_revised(out, report.revised)
+}
+
+/// Appends the line of a tick whose window has a best trajectory, with its LF, by the model's names. The error is out of memory.
+#[tactic(auto, unfolding(crate::specs::WindowLines::window_line))]
+pub fn window_to(model: &Model, report: &WindowReport, out: &mut Out) -> Result<(), AllocError>
+    ensures { Pushes (window_line model.now report.now.tick report.now.count report.now.cost
+        report.now.modes.now report.now.revised) out.old result out.new }
+{
+    push_field(out, b"tick ", report.tick)?;
+    push_window(out, model, report)?;
+    out.push_byte(b'\n')
 }
 
 /// The line of a tick whose window has a best trajectory, with its LF, by the model's names. The error is out of memory.
-#[tactic(auto, unfolding(crate::specs::WindowLines::window_line))]
 pub fn window_line(
     alloc: Global,
     model: &Model,
@@ -65,10 +69,7 @@ pub fn window_line(
     ensures { IfOk result (λ text. text ≡ window_line model.now report.now.tick
         report.now.count report.now.cost report.now.modes.now report.now.revised) }
 {
-    let mut out = Vec::new(alloc);
-    out.extend_from_slice(b"tick ")?;
-    push_number(alloc, &mut out, report.tick)?;
-    push_window(alloc, &mut out, model, report)?;
-    out.push(b'\n')?;
-    Ok(List::of(out))
+    let mut out = Out::new(alloc);
+    window_to(model, report, &mut out)?;
+    Ok(List::of(out.into_vec()))
 }

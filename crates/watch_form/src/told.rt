@@ -1,13 +1,15 @@
 //! What is printed of a tick.
 
-ghost use Rattle.std.specs.Prelude.{◌≡◌, IfOk};
+ghost use Rattle.std.specs.Prelude.{◌≡◌};
+ghost use Rattle.byte_buffer.specs.Outs.{Pushes};
 ghost use Rattle.trajectory_estimator.specs.Asked.{modes_of};
 ghost use Rattle.trajectory_estimator.specs.Tracked.{answer_of};
 ghost use Rattle.watch_form.specs.Answered.{answer_line, last_modes};
 
-use cca_base::{Model, Shown, State, TickReport};
-use std::alloc::{AllocError, Global};
-use trace_text::{WindowReport, line_of, window_line};
+use cca_base::{Model, State};
+use line_machine::Out;
+use std::alloc::AllocError;
+use trace_text::{ReportRef, ShownRef, WindowReport, report_to, window_to};
 use trajectory_estimator::Window;
 
 /// The modes of the last state.
@@ -20,12 +22,12 @@ fn last_modes(states: &[State]) -> &[u8]
     }
 }
 
-/// The line of a tick's answer.
-pub fn told(alloc: Global, model: &Model, tick: u64, answer: &Window) -> Result<Vec<u8>, AllocError>
-    ensures { IfOk result (λ text. text.items
-        ≡ answer_line model.now (record { tick = tick; answer = answer_of answer.now })) }
+/// Appends the line of a tick's answer. The error is out of memory.
+pub fn told(model: &Model, tick: u64, answer: &Window, out: &mut Out) -> Result<(), AllocError>
+    ensures { Pushes (answer_line model.now (record { tick = tick; answer = answer_of answer.now }))
+        out.old result out.new }
 {
-    let text = match answer {
+    match answer {
         Window::Found { path, revised } => {
             let report = WindowReport {
                 tick,
@@ -34,16 +36,15 @@ pub fn told(alloc: Global, model: &Model, tick: u64, answer: &Window) -> Result<
                 modes: last_modes(path.states.as_slice()),
                 revised: *revised,
             };
-            window_line(alloc, model, &report)?
+            window_to(model, &report, out)
         }
         Window::Unexplained => {
-            let shown = Shown::Unexplained;
-            line_of(alloc, model, &TickReport { tick, shown })?
+            let shown = ShownRef::Unexplained;
+            report_to(model, ReportRef { tick, shown }, out)
         }
         Window::Holding => {
-            let shown = Shown::Holding;
-            line_of(alloc, model, &TickReport { tick, shown })?
+            let shown = ShownRef::Holding;
+            report_to(model, ReportRef { tick, shown }, out)
         }
-    };
-    Ok(text.into_vec())
+    }
 }

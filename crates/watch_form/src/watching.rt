@@ -207,8 +207,7 @@ impl LineForm<WatchEvent> for Watching {
             WatchEvent::Tick => {
                 let answer = self.tick(alloc)?;
                 let model = self.tracker.compiled().model();
-                let text = told(alloc, model, self.ticks, &answer)?;
-                out.push(text.as_slice())?;
+                told(model, self.ticks, &answer, out)?;
                 Ok(None)
             }
         }

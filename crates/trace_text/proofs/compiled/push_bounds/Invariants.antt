@@ -1,7 +1,8 @@
-use Rattle.std.proofs.Common.{◌≡◌, ◌++◌, drop}
+use Rattle.std.proofs.Common.{drop}
 use Rattle.trace_text.specs.Compiled.{bound_lines}
+use Rattle.byte_buffer.proofs.Pushing.{Continues}
 use Rattle.trace_text.proofs.compiled.push_bounds.Given as goal
 
--- with what is left, the text is whole
+-- the lines that are left
 abbrev pub invariant-loop-i : goal.invariant-loop-i
-invariant-loop-i l = l.out.items ++ bound_lines (drop l.i l.components) (drop l.i l.bounds) ≡ l.fn.out.items ++ bound_lines l.components l.bounds
+invariant-loop-i l = Continues (bound_lines l.components l.bounds) (bound_lines (drop l.i l.components) (drop l.i l.bounds)) l.fn.out l.out

@@ -1,7 +1,8 @@
-use Rattle.std.proofs.Common.{◌≡◌, ◌++◌, take}
+use Rattle.std.proofs.Common.{drop}
 use Rattle.trace_text.specs.Names.{components_text}
+use Rattle.byte_buffer.proofs.Pushing.{Continues}
 use Rattle.trace_text.proofs.names.push_components.Given as goal
 
--- the names so far
+-- the names that are left
 abbrev pub invariant-loop-c : goal.invariant-loop-c
-invariant-loop-c l = l.out.items ≡ l.fn.out.items ++ components_text l.components (take l.c-index l.list)
+invariant-loop-c l = Continues (components_text l.components l.list) (components_text l.components (drop l.c-index l.list)) l.fn.out l.out

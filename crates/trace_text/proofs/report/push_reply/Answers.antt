@@ -1,10 +1,8 @@
-use Rattle.std.proofs.Common.{◌∙◌, append_assoc, append-nil}
+use Rattle.std.proofs.Common.{append-nil}
+use Rattle.byte_buffer.proofs.Pushing.{pushed_then, pushed_as}
 use Rattle.trace_text.proofs.report.push_reply.Goals as goal
 
-pub returns-in_ok-push_pair_at-in-Unreachable : goal.returns-in_ok-push_pair_at-in-Unreachable
-returns-in_ok-push_pair_at-in-Unreachable c =
-    let pair = c.in_ok-push_pair_at-in-Unreachable.ensures in
-    let front = c.in_ok-extend_from_slice-in-Unreachable.ensures.items in
-    let slice = c.as_slice-in-Unreachable.ensures in
-    let components = c.components.ensures.value in
-    rw c.in-Unreachable.is (pair ∙ rw (front, slice, components) (simp (append_assoc, append-nil)))
+pub returns-in_ok-push-in-Unreachable : goal.returns-in_ok-push-in-Unreachable
+returns-in_ok-push-in-Unreachable c =
+    pushed_as (rw (c.in-Unreachable.is, c.as_slice-in-Unreachable.ensures, c.components.ensures.value) (simp append-nil))
+    (pushed_then c.in_ok-push-in-Unreachable.ensures.pushes c.push_pair_at.ensures)

@@ -1,7 +1,7 @@
 use Rattle.std.proofs.Common.{List, ℕ, sym, ap, subst, ◌∙◌}
 use Rattle.std.specs.Prelude.{IfOk}
 use Rattle.cca_base.specs.Accepted.{CompiledModel}
-use Rattle.line_machine.specs.Outs.{Appended}
+use Rattle.byte_buffer.specs.Outs.{Appended}
 use Rattle.check_form.specs.CheckStages.{SaysOf, part_state, script_of, trace_of}
 use Rattle.check_form.specs.CheckTrace.{TraceLeads}
 use Rattle.check_form.proofs.CheckSteps.{begins_trace, judges_line, keeps_event}

@@ -6,5 +6,7 @@ use Rattle.model_form.proofs.with_model.WithModelMachine.skips_empty.Goals as go
 
 pub returns-in-Behind-clause-skips : goal.returns-in-Behind-clause-skips
 returns-in-Behind-clause-skips g c h n =
-    let at : c.args.self.now ≡ Behind c.in-Behind.behind = cc in
-    subst (λ s. FormSteps g.F.ModelForm g.B.Machine s n [] (GoesOn s) []) (sym at) (GoesOn c.in-Behind.behind, c.skips_empty.ensures.skips h n, refl)
+    let at : c.args.self.now ≡ Behind c.in-Behind.behind.value = cc in
+    let lent : c.deref.result.now ≡ c.in-Behind.behind.value = cc in
+    subst (λ s. FormSteps g.F.ModelForm g.B.Machine s n [] (GoesOn s) []) (sym at)
+    (GoesOn c.in-Behind.behind.value, subst (λ b. g.B.Machine.steps b n [] (GoesOn b) []) lent (c.skips_empty.ensures.skips h n), refl)

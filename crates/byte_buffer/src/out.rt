@@ -1,6 +1,7 @@
 //! What is to be printed: a buffer of bytes that the caller keeps. A contract sees its bytes, and how many it has room for.
-ghost use Rattle.std.specs.Prelude.{◌≡◌, ◌+◌, ◌≤◌, [], ◌++◌, length, take, IsOk, IfOk, OnOk, OnErr};
-ghost use Rattle.line_machine.specs.Outs.{HasRoomLeft, IsFront};
+
+ghost use Rattle.std.specs.Prelude.{◌≡◌, ◌≤◌, [], ◌∷◌, ◌++◌, length, take, IsOk, IfOk, OnOk, OnErr};
+ghost use Rattle.byte_buffer.specs.Outs.{HasRoomLeft, Pushes};
 
 use std::alloc::{AllocError, Global};
 use std::marker::Model;
@@ -14,7 +15,7 @@ pub struct Out {
 
 impl Model for Out {
     ghost use Rattle.std.specs.Prelude.{◌≤◌, length, take};
-    ghost use Rattle.line_machine.specs.Outs.{Buffered};
+    ghost use Rattle.byte_buffer.specs.Outs.{Buffered};
 
     ghost Value = { Buffered };
 
@@ -54,6 +55,15 @@ impl Out {
         ensures { result.now ≡ self.now.bytes }
     {
         &self.room[..self.len]
+    }
+
+    /// The bytes, in a vector that has no others.
+    pub fn into_vec(self) -> Vec<u8>
+        ensures { result.items ≡ self.bytes }
+    {
+        let mut room = self.room;
+        room.truncate(self.len);
+        room
     }
 
     /// The number of bytes.
@@ -110,17 +120,21 @@ impl Out {
 
     /// Appends bytes, and takes memory only where they don't fit. The error is out of memory, and then all is as it was.
     pub fn push(&mut self, bytes: &[u8]) -> Result<(), AllocError>
-        ensures ok { OnOk result (self.new.bytes ≡ self.old.bytes ++ bytes.now) }
+        ensures pushes { Pushes bytes.now self.old result self.new }
         ensures err { OnErr result (self.new ≡ self.old) }
-        ensures front { IsFront self.old self.new }
-
-        // Where they fit it can't fail, and the room is as before; it never shrinks.
-        ensures succeeds { HasRoomLeft self.old (length bytes.now) → IsOk result }
-        ensures stays { HasRoomLeft self.old (length bytes.now) → self.new.capacity ≡ self.old.capacity }
-        ensures capacity { self.old.capacity ≤ self.new.capacity }
     {
         self.reserve(bytes.len())?;
         self.push_within(bytes);
+        Ok(())
+    }
+
+    /// Appends one byte, and takes memory only where it doesn't fit. The error is out of memory, and then all is as it was.
+    pub fn push_byte(&mut self, byte: u8) -> Result<(), AllocError>
+        ensures pushes { Pushes (byte ∷ []) self.old result self.new }
+        ensures err { OnErr result (self.new ≡ self.old) }
+    {
+        self.reserve(1)?;
+        self.put(byte);
         Ok(())
     }
 
@@ -133,5 +147,15 @@ impl Out {
         let end = self.len + bytes.len();
         self.room[self.len..end].copy_from_slice(bytes);
         self.len = end;
+    }
+
+    /// Appends one byte that fits.
+    fn put(&mut self, byte: u8)
+        requires { HasRoomLeft self.old 1 }
+        ensures bytes { self.new.bytes ≡ self.old.bytes ++ byte ∷ [] }
+        ensures capacity { self.new.capacity ≡ self.old.capacity }
+    {
+        self.room[self.len] = byte;
+        self.len += 1;
     }
 }
