@@ -1,21 +1,21 @@
 -- Parts that have their turns one behind the other, as far as a loop has come.
-use Rattle.std.proofs.Common.{◌≡◌, ◌+◌, ◌<◌, ◌≤◌, ◌&&◌, ℕ, Bool, true, false, List, [], ◌++◌, length, Option, Some, None, All, refl, sym, ap, subst, ◌∙◌, arith, append_assoc, append-nil}
+use Rattle.std.proofs.Common.{◌≡◌, ◌+◌, ◌<◌, ◌≤◌, ◌&&◌, ℕ, Bool, true, false, List, [], ◌++◌, length, Option, Some, None, refl, sym, ap, subst, ◌∙◌, arith, append_assoc, append-nil}
 use Rattle.std.proofs.lemmas.List.{length-append}
 use Rattle.std.proofs.Math.Bool.{and-true, and_assoc}
-use Rattle.list_laws.proofs.Elements.{all_left, all_right}
 use Rattle.cca_base.specs.declared.cube.Pair.{Pair}
 use Rattle.cca_base.specs.PlantModel.{PlantModel}
 use Rattle.control_laws.specs.Rest.{Rest as rest, Rests as rests, joined}
 use Rattle.control_program.specs.Flat.{Entry, count, size, laid, all_laid}
-use Rattle.control_program.specs.Formulas.{formulas_left, all_formulas_left, IsWithin}
-use Rattle.control_program.specs.Marks.{Tree, Trees, none, more, begun, all_begun, rest_of, rests_of, has_ended, is_nothing, is_none, IsProper, AreProper}
+use Rattle.control_program.specs.Goals.{with_pairs}
+use Rattle.control_program.specs.Marks.{Tree, Trees, none, more, rest_of, rests_of, has_ended, is_nothing, is_none, IsProper, AreProper}
 use Rattle.control_program.specs.Places.{StandsAt, StandAt}
 use Rattle.control_program.specs.Turned.{AllBecame, HasTurned, HaveTurned}
+use Rattle.control_program.proofs.GoalLaws.{with_pairs-append}
 use Rattle.control_program.proofs.PartTurns.{none_became, seq_stops, all_go}
 use Rattle.control_program.proofs.Sizes.{before as plus, all_laid-append, all_laid-before, length-laid}
 
 -- some parts are done, the others are as they were; what the others become makes what all become
-pub record Along (in_order : Bool) (m : PlantModel) (e : List ℕ) (front : List Entry) (xs : Trees) (after : List Entry) (asked : List Pair) (entries : List Entry) (all : List Pair)
+pub record Along (in_order : Bool) (m : PlantModel) (e : List ℕ) (front : List Entry) (xs : Trees) (after : List Entry) (goal : List Pair) (entries : List Entry) (all : List Pair)
     (place gone parts : ℕ) (over : Bool) : Type 0 where
   pub own : List Pair
   pub done : Trees
@@ -23,9 +23,8 @@ pub record Along (in_order : Bool) (m : PlantModel) (e : List ℕ) (front : List
   pub nodes : entries ≡ (front ++ all_laid done []) ++ all_laid todo after
   pub at : length (front ++ all_laid done []) ≡ place
   pub many : count todo + gone ≡ parts
-  pub asks : all ≡ asked ++ own
+  pub asks : all ≡ with_pairs goal own
   pub proper : AreProper todo
-  pub formulas : All (IsWithin m) (all_formulas_left (all_begun todo))
   pub ended : over ≡ is_none (rests_of done)
   pub goes : (others : List Pair) (ys : Trees) → AllBecame in_order m e todo others ys → AllBecame in_order m e xs (own ++ others) (plus done ys)
 
@@ -70,25 +69,24 @@ laid_done : (front : List Entry) (done : Trees) (rest : List Entry) → (front +
 laid_done front done rest = append_assoc front (all_laid done []) rest ∙ ap (λ l. front ++ l) (sym (all_laid-append done rest))
 
 module _ (m : PlantModel) (e : List ℕ) where
-  pub along_start : (in_order : Bool) (entries : List Entry) (at parts : ℕ) (asked : List Pair) (s : StandAt m entries at parts)
-      → Along in_order m e s.before s.trees s.after asked entries asked at 0 parts true
+  pub along_start : (in_order : Bool) (entries : List Entry) (at parts : ℕ) (goal : List Pair) (s : StandAt entries at parts)
+      → Along in_order m e s.before s.trees s.after goal entries goal at 0 parts true
   unfolding laid rest_of
-  along_start in_order entries at parts asked s = record {
+  along_start in_order entries at parts goal s = record {
     own = [];
     done = none;
     todo = s.trees;
     nodes = s.nodes ∙ ap (λ l. l ++ all_laid s.trees s.after) (sym (append-nil s.before));
     at = ap length (append-nil s.before) ∙ s.place;
     many = omega (arith, s.number);
-    asks = sym (append-nil asked);
+    asks = refl;
     proper = s.proper;
-    formulas = s.formulas;
     ended = refl;
     goes = λ others ys h. h;
   }
 
-  module _ (in_order : Bool) (front : List Entry) (xs : Trees) (after : List Entry) (asked : List Pair) (entries : List Entry) (all : List Pair)
-      (place gone parts : ℕ) (over : Bool) (a : Along in_order m e front xs after asked entries all place gone parts over) where
+  module _ (in_order : Bool) (front : List Entry) (xs : Trees) (after : List Entry) (goal : List Pair) (entries : List Entry) (all : List Pair)
+      (place gone parts : ℕ) (over : Bool) (a : Along in_order m e front xs after goal entries all place gone parts over) where
     pub along_from : length front ≤ place
     along_from = omega (arith, a.at, length-append front (all_laid a.done []))
 
@@ -96,19 +94,11 @@ module _ (m : PlantModel) (e : List ℕ) where
     unfolding IsProper
     part_proper f = subst AreProper f.is a.proper
 
-    pub part_formulas : (f : FirstLeft a.todo) → All (IsWithin m) (formulas_left (begun f.part)) × All (IsWithin m) (all_formulas_left (all_begun f.others))
-    unfolding formulas_left begun
-    part_formulas f =
-        let both = subst (λ v. All (IsWithin m) (all_formulas_left (all_begun v))) f.is a.formulas in (
-          all_left (IsWithin m) (formulas_left (begun f.part)) (all_formulas_left (all_begun f.others)) both,
-          all_right (IsWithin m) (formulas_left (begun f.part)) (all_formulas_left (all_begun f.others)) both,
-        )
-
     pub part_nodes : (f : FirstLeft a.todo) → entries ≡ (front ++ all_laid a.done []) ++ laid f.part (all_laid f.others after)
     unfolding laid
     part_nodes f = a.nodes ∙ ap (λ v. (front ++ all_laid a.done []) ++ all_laid v after) f.is
 
-    abbrev pub along_stands : FirstLeft a.todo → StandsAt m entries place
+    abbrev pub along_stands : FirstLeft a.todo → StandsAt entries place
     along_stands f = record {
       before = front ++ all_laid a.done [];
       tree = f.part;
@@ -116,7 +106,6 @@ module _ (m : PlantModel) (e : List ℕ) where
       place = a.at;
       nodes = part_nodes f;
       proper = (part_proper f).0;
-      formulas = (part_formulas f).0;
     }
 
     step_nodes : (f : FirstLeft a.todo) (next : Tree)
@@ -150,7 +139,7 @@ module _ (m : PlantModel) (e : List ℕ) where
 
     pub along_step : (f : FirstLeft a.todo) (d : Bool) (entries' : List Entry) (all' : List Pair)
         → HasTurned m e (front ++ all_laid a.done []) f.part (all_laid f.others after) all d entries' all' → (in_order ≡ true → d ≡ true)
-        → Along in_order m e front xs after asked entries' all' (place + size f.part) (gone + 1) parts (over && d)
+        → Along in_order m e front xs after goal entries' all' (place + size f.part) (gone + 1) parts (over && d)
     along_step f d entries' all' h ended = record {
       own = a.own ++ h.own;
       done = plus a.done (more h.next none);
@@ -158,9 +147,8 @@ module _ (m : PlantModel) (e : List ℕ) where
       nodes = h.nodes ∙ step_nodes f h.next;
       at = step_at f h.next h.became.size;
       many = omega (arith, a.many, ap count f.is);
-      asks = h.asks ∙ ap (λ l. l ++ h.own) a.asks ∙ append_assoc asked a.own h.own;
+      asks = h.asks ∙ ap (λ l. with_pairs l h.own) a.asks ∙ sym (with_pairs-append goal a.own h.own);
       proper = (part_proper f).1;
-      formulas = (part_formulas f).1;
       ended = step_ended h.next d h.left;
       goes = λ others ys k.
           subst (λ o. AllBecame in_order m e xs o (plus (plus a.done (more h.next none)) ys)) (sym (append_assoc a.own h.own others))
@@ -170,7 +158,7 @@ module _ (m : PlantModel) (e : List ℕ) where
           (all_go m e in_order f.part h.next f.others ys h.own others (λ o. sym h.left ∙ ended o) h.became k))));
     }
 
-    pub along_finish : parts ≤ gone → HaveTurned in_order m e front xs after asked over entries all
+    pub along_finish : parts ≤ gone → HaveTurned in_order m e front xs after goal over entries all
     unfolding laid
     along_finish le =
         let empty : a.todo ≡ none = none_left a.todo gone parts a.many le in
@@ -193,20 +181,20 @@ module _ (m : PlantModel) (e : List ℕ) where
       ∙ ap (λ b. is_none (rests_of done) && b) (is_none-joined (rest_of next) (rests_of others) ∙ ap (λ b. b && is_none (rests_of others)) left)
       ∙ and-false (is_none (rests_of done)))
 
-  pub along_stop : (front : List Entry) (xs : Trees) (after : List Entry) (asked : List Pair) (entries : List Entry) (all : List Pair) (place gone parts : ℕ) (over : Bool)
-      (a : Along true m e front xs after asked entries all place gone parts over) (f : FirstLeft a.todo) (entries' : List Entry) (all' : List Pair)
-      → HasTurned m e (front ++ all_laid a.done []) f.part (all_laid f.others after) all false entries' all' → HaveTurned true m e front xs after asked false entries' all'
+  pub along_stop : (front : List Entry) (xs : Trees) (after : List Entry) (goal : List Pair) (entries : List Entry) (all : List Pair) (place gone parts : ℕ) (over : Bool)
+      (a : Along true m e front xs after goal entries all place gone parts over) (f : FirstLeft a.todo) (entries' : List Entry) (all' : List Pair)
+      → HasTurned m e (front ++ all_laid a.done []) f.part (all_laid f.others after) all false entries' all' → HaveTurned true m e front xs after goal false entries' all'
   unfolding laid
-  along_stop front xs after asked entries all place gone parts over a f entries' all' h = record {
+  along_stop front xs after goal entries all place gone parts over a f entries' all' h = record {
     own = a.own ++ h.own;
     next = plus a.done (more h.next f.others);
     became =
         a.goes h.own (more h.next f.others)
         (subst (λ v. AllBecame true m e v h.own (more h.next f.others)) (sym f.is)
-        (seq_stops m e f.part h.next f.others h.own (sym h.left) (part_proper true front xs after asked entries all place gone parts over a f).1 h.became));
+        (seq_stops m e f.part h.next f.others h.own (sym h.left) (part_proper true front xs after goal entries all place gone parts over a f).1 h.became));
     nodes =
         h.nodes ∙ laid_done front a.done (laid h.next (all_laid f.others after))
         ∙ ap (λ l. front ++ l) (sym (all_laid-before a.done (more h.next f.others) after));
-    asks = h.asks ∙ ap (λ l. l ++ h.own) a.asks ∙ append_assoc asked a.own h.own;
+    asks = h.asks ∙ ap (λ l. with_pairs l h.own) a.asks ∙ sym (with_pairs-append goal a.own h.own);
     left = stop_left a.done h.next f.others (sym h.left);
   }

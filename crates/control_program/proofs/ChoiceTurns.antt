@@ -1,9 +1,6 @@
 -- The turns of choices, on the flat list.
-use Rattle.std.proofs.Common.{◌≡◌, ◌+◌, ◌<◌, ◌≤◌, ℕ, suc, Bool, true, false, List, [], ◌∷◌, ◌++◌, length, slice_get, slice_set, Some, Result, IfOk, All, refl, sym, ap, subst, ◌∙◌, arith, append_assoc}
+use Rattle.std.proofs.Common.{◌≡◌, ◌+◌, ◌<◌, ◌≤◌, ℕ, suc, Bool, true, false, List, [], ◌∷◌, ◌++◌, length, slice_get, slice_set, Some, refl, sym, ap, subst, ◌∙◌, arith, append_assoc}
 use Rattle.std.proofs.lemmas.List.{length-append}
-use Rattle.std.proofs.lemmas.List.Elements.{All-head, All-tail}
-use Rattle.std.proofs.lemmas.Result.{IfOk-weaker}
-use Rattle.list_laws.proofs.Elements.{all_left, all_right}
 use Rattle.cca_base.specs.declared.cube.Pair.{Pair}
 use Rattle.cca_base.specs.declared.formula.Formula.{Formula}
 use Rattle.control_program.specs.declared.asking.Asking.{Asking}
@@ -13,8 +10,7 @@ use Rattle.control_program.specs.declared.nodes.Mark.{Mark}
 use Rattle.control_program.specs.declared.nodes.Node.{Node}
 use Rattle.control_program.specs.Courses.{StandsIn, Takes, TakesIn, TurnsIn}
 use Rattle.control_program.specs.Flat.{Marked, Entry, size, laid, tail_of}
-use Rattle.control_program.specs.Formulas.{formulas_left, IsWithin}
-use Rattle.control_program.specs.Marks.{first, second, Tree, begun, rest_of, IsProper}
+use Rattle.control_program.specs.Marks.{first, second, Tree, rest_of, IsProper}
 use Rattle.control_program.specs.Places.{IsOfKind, choice_of, marked}
 use Rattle.control_program.specs.Turned.{Became, HasTurned, Chooses}
 use Rattle.control_program.proofs.PartTurns.{takes_first, takes_second}
@@ -37,16 +33,6 @@ module _ (a : Asking) (ms : List Mark) (at : ℕ) (s : StandsIn a ms at) (f : Fo
   unfolding IsProper
   parts_proper = let p = subst IsProper two.2 s.proper in (p.1, p.2)
 
-  choose_formulas : All (IsWithin a.rules.now.model.now) (f ∷ formulas_left (begun two.0) ++ formulas_left (begun two.1))
-  unfolding formulas_left begun
-  choose_formulas = subst (λ v. All (IsWithin a.rules.now.model.now) (formulas_left (begun v))) two.2 s.formulas
-
-  one_left : All (IsWithin a.rules.now.model.now) (f ∷ formulas_left (begun two.0))
-  one_left = all_left (IsWithin a.rules.now.model.now) (f ∷ formulas_left (begun two.0)) (formulas_left (begun two.1)) choose_formulas
-
-  pub choose_formula : IsWithin a.rules.now.model.now f
-  choose_formula = All-head (IsWithin a.rules.now.model.now) f (formulas_left (begun two.0)) one_left
-
   -- the list with the choice written
   module _ (w : Mark) where
     abbrev head : Entry
@@ -67,7 +53,6 @@ module _ (a : Asking) (ms : List Mark) (at : ℕ) (s : StandsIn a ms at) (f : Fo
       place = place_behind s.before head at s.place;
       nodes = chosen_nodes;
       proper = parts_proper.0;
-      formulas = All-tail (IsWithin a.rules.now.model.now) f (formulas_left (begun two.0)) one_left;
     }
 
     two_place : (n : ℕ) → n ≡ size two.0 → length ((s.before ++ head ∷ []) ++ laid two.0 []) ≡ at + 1 + n
@@ -83,19 +68,18 @@ module _ (a : Asking) (ms : List Mark) (at : ℕ) (s : StandsIn a ms at) (f : Fo
       place = two_place n is;
       nodes = chosen_nodes ∙ behind_one_part (s.before ++ head ∷ []) two.0 (laid two.1 s.after);
       proper = parts_proper.1;
-      formulas = all_right (IsWithin a.rules.now.model.now) (f ∷ formulas_left (begun two.0)) (formulas_left (begun two.1)) choose_formulas;
     }
 
-  one_turns : Chooses a.rules.now.model.now a.estimate.now.modes (choice_of k) f true → (asked : List Pair) (ended : Bool) (entries : List Entry) (all : List Pair)
-      → HasTurned a.rules.now.model.now a.estimate.now.modes (s.before ++ head Mark.First ∷ []) two.0 (laid two.1 s.after) asked ended entries all
-      → HasTurned a.rules.now.model.now a.estimate.now.modes s.before s.tree s.after asked ended entries all
+  one_turns : Chooses a.model.now a.estimate.now.modes (choice_of k) f true → (goal : List Pair) (ended : Bool) (entries : List Entry) (all : List Pair)
+      → HasTurned a.model.now a.estimate.now.modes (s.before ++ head Mark.First ∷ []) two.0 (laid two.1 s.after) goal ended entries all
+      → HasTurned a.model.now a.estimate.now.modes s.before s.tree s.after goal ended entries all
   unfolding laid rest_of
-  one_turns takes asked ended entries all b = record {
+  one_turns takes goal ended entries all b = record {
     own = b.own;
     next = Tree.Choose first f b.next two.1;
     became =
-        subst (λ v. Became a.rules.now.model.now a.estimate.now.modes v b.own (Tree.Choose first f b.next two.1)) (sym two.2)
-        (takes_first a.rules.now.model.now a.estimate.now.modes (choice_of k) f two.0 two.1 b.next b.own takes choose_proper b.became);
+        subst (λ v. Became a.model.now a.estimate.now.modes v b.own (Tree.Choose first f b.next two.1)) (sym two.2)
+        (takes_first a.model.now a.estimate.now.modes (choice_of k) f two.0 two.1 b.next b.own takes choose_proper b.became);
     nodes =
         b.nodes ∙ append_assoc s.before (head Mark.First ∷ []) (laid b.next (laid two.1 s.after))
         ∙ ap (λ v. s.before ++ (Marked.Choose first f, suc (v + size two.1)) ∷ laid b.next (laid two.1 s.after)) (sym b.became.size);
@@ -103,22 +87,22 @@ module _ (a : Asking) (ms : List Mark) (at : ℕ) (s : StandsIn a ms at) (f : Fo
     left = b.left;
   }
 
-  pub takes_one : (d : Bool) → Chooses a.rules.now.model.now a.estimate.now.modes (choice_of k) f d → d ≡ true → (new : List Mark) → new ≡ slice_set ms at Mark.First
+  pub takes_one : (d : Bool) → Chooses a.model.now a.estimate.now.modes (choice_of k) f d → d ≡ true → (new : List Mark) → new ≡ slice_set ms at Mark.First
       → Takes a at ms (at + 1) new s
   takes_one d takes is new set =
       subst (λ v. Takes a at ms (at + 1) v s) (sym set)
-      (record { stands = one_stands Mark.First; behind = omega arith; turns = one_turns (subst (Chooses a.rules.now.model.now a.estimate.now.modes (choice_of k) f) is takes) })
+      (record { stands = one_stands Mark.First; behind = omega arith; turns = one_turns (subst (Chooses a.model.now a.estimate.now.modes (choice_of k) f) is takes) })
 
-  two_turns : Chooses a.rules.now.model.now a.estimate.now.modes (choice_of k) f false → (asked : List Pair) (ended : Bool) (entries : List Entry) (all : List Pair)
-      → HasTurned a.rules.now.model.now a.estimate.now.modes ((s.before ++ head Mark.Second ∷ []) ++ laid two.0 []) two.1 s.after asked ended entries all
-      → HasTurned a.rules.now.model.now a.estimate.now.modes s.before s.tree s.after asked ended entries all
+  two_turns : Chooses a.model.now a.estimate.now.modes (choice_of k) f false → (goal : List Pair) (ended : Bool) (entries : List Entry) (all : List Pair)
+      → HasTurned a.model.now a.estimate.now.modes ((s.before ++ head Mark.Second ∷ []) ++ laid two.0 []) two.1 s.after goal ended entries all
+      → HasTurned a.model.now a.estimate.now.modes s.before s.tree s.after goal ended entries all
   unfolding laid rest_of
-  two_turns takes asked ended entries all b = record {
+  two_turns takes goal ended entries all b = record {
     own = b.own;
     next = Tree.Choose second f two.0 b.next;
     became =
-        subst (λ v. Became a.rules.now.model.now a.estimate.now.modes v b.own (Tree.Choose second f two.0 b.next)) (sym two.2)
-        (takes_second a.rules.now.model.now a.estimate.now.modes (choice_of k) f two.0 two.1 b.next b.own takes choose_proper b.became);
+        subst (λ v. Became a.model.now a.estimate.now.modes v b.own (Tree.Choose second f two.0 b.next)) (sym two.2)
+        (takes_second a.model.now a.estimate.now.modes (choice_of k) f two.0 two.1 b.next b.own takes choose_proper b.became);
     nodes =
         b.nodes ∙ sym (behind_one_part (s.before ++ head Mark.Second ∷ []) two.0 (laid b.next s.after))
         ∙ append_assoc s.before (head Mark.Second ∷ []) (laid two.0 (laid b.next s.after))
@@ -137,19 +121,19 @@ module _ (a : Asking) (ms : List Mark) (at : ℕ) (s : StandsIn a ms at) (f : Fo
   pub passed_ends : (n : Node) → slice_get a.nodes.now (at + 1) ≡ Some n → at + 1 + n.size ≤ length a.nodes.now
   passed_ends n is = omega (arith, passed_size n is, end_in_nodes a.nodes.now (slice_set ms at Mark.Second) (at + 1) (lies (one_stands Mark.Second)))
 
-  pub takes_two : (d : Bool) → Chooses a.rules.now.model.now a.estimate.now.modes (choice_of k) f d → d ≡ false → (n : Node) → slice_get a.nodes.now (at + 1) ≡ Some n
+  pub takes_two : (d : Bool) → Chooses a.model.now a.estimate.now.modes (choice_of k) f d → d ≡ false → (n : Node) → slice_get a.nodes.now (at + 1) ≡ Some n
       → (new : List Mark) → new ≡ slice_set ms at Mark.Second → Takes a at ms (at + 1 + n.size) new s
   takes_two d takes is n of-n new set =
       subst (λ v. Takes a at ms (at + 1 + n.size) v s) (sym set)
       (record {
         stands = two_stands Mark.Second n.size (passed_size n of-n);
         behind = omega arith;
-        turns = two_turns (subst (Chooses a.rules.now.model.now a.estimate.now.modes (choice_of k) f) is takes);
+        turns = two_turns (subst (Chooses a.model.now a.estimate.now.modes (choice_of k) f) is takes);
       })
 
 -- the turn of the part that is taken is that of the choice
-pub choice_turned : {E : Type 0} (a : Asking) (at part : ℕ) (old new : Course) (marks : List Mark) → TakesIn a at old.marks part marks
-    → (result : Result Bool E) → IfOk result (λ d. TurnsIn a part (record { marks = marks; asked = old.asked }) d new) → IfOk result (λ d. TurnsIn a at old d new)
-choice_turned a at part old new marks takes result h =
-    IfOk-weaker result (λ d. TurnsIn a part (record { marks = marks; asked = old.asked }) d new) (λ d. TurnsIn a at old d new)
-    (λ d turns s. (takes s).turns old.asked d (marked a.nodes.now new.marks) new.asked (turns (takes s).stands)) h
+pub choice_turned : (a : Asking) (at part : ℕ) (old new between : Course) → between.goal.items ≡ old.goal.items → TakesIn a at old.marks part between.marks → (d : Bool)
+    → TurnsIn a part between d new → TurnsIn a at old d new
+choice_turned a at part old new between same takes d turns = λ s.
+    subst (λ g. HasTurned a.model.now a.estimate.now.modes s.before s.tree s.after g d (marked a.nodes.now new.marks) new.goal.items) same
+    ((takes s).turns between.goal.items d (marked a.nodes.now new.marks) new.goal.items (turns (takes s).stands))

@@ -1,3 +1,4 @@
+pub mod GoalLaws
 pub mod Flats
 pub mod MarkLaws
 pub mod OpenedPrograms
@@ -13,3 +14,6 @@ pub mod Clearing
 pub mod RunningLaws
 pub mod Laying
 pub mod ProgramFormulas
+pub mod SpaceLaws
+pub mod AskedParts
+pub mod RoomLaws

@@ -11,10 +11,10 @@ use Rattle.control_program.proofs.PlaceLaws.{lies, in_nodes, end_in_nodes, size_
 -- from the parts at a place so many had their turns, and the next stands at the place behind them
 abbrev pub AlongIn : Asking → Bool → ℕ → ℕ → Course → Course → ℕ → ℕ → Bool → Type 0
 AlongIn a o at n old now place gone over = (s : StandIn a old.marks at n)
-    → Along o a.rules.now.model.now a.estimate.now.modes s.before s.trees s.after old.asked (marked a.nodes.now now.marks) now.asked place gone n over
+    → Along o a.model.now a.estimate.now.modes s.before s.trees s.after old.goal.items (marked a.nodes.now now.marks) now.goal.items place gone n over
 
 pub start_in : (a : Asking) (o : Bool) (at n : ℕ) (old : Course) → AlongIn a o at n old old at 0 true
-start_in a o at n old = λ s. along_start a.rules.now.model.now a.estimate.now.modes o (marked a.nodes.now old.marks) at n old.asked s
+start_in a o at n old = λ s. along_start a.model.now a.estimate.now.modes o (marked a.nodes.now old.marks) at n old.goal.items s
 
 goes : (o d : Bool) → (o && not d) ≡ false → o ≡ true → d ≡ true
 goes true true h is = refl
@@ -29,12 +29,12 @@ module _ (a : Asking) (o : Bool) (at n : ℕ) (old now : Course) (place gone : �
 
     abbrev pub next_stands : gone < n → StandsIn a now.marks place
     next_stands lt =
-        along_stands a.rules.now.model.now a.estimate.now.modes o s.before s.trees s.after old.asked (marked a.nodes.now now.marks) now.asked place gone n over (i s) (next lt)
+        along_stands a.model.now a.estimate.now.modes o s.before s.trees s.after old.goal.items (marked a.nodes.now now.marks) now.goal.items place gone n over (i s) (next lt)
 
     pub is_behind : at ≤ place
     is_behind =
         subst (λ k. k ≤ place) s.place
-        (along_from a.rules.now.model.now a.estimate.now.modes o s.before s.trees s.after old.asked (marked a.nodes.now now.marks) now.asked place gone n over (i s))
+        (along_from a.model.now a.estimate.now.modes o s.before s.trees s.after old.goal.items (marked a.nodes.now now.marks) now.goal.items place gone n over (i s))
 
     pub next_in_nodes : gone < n → place < length a.nodes.now
     next_in_nodes lt = in_nodes a.nodes.now now.marks place (lies (next_stands lt))
@@ -47,19 +47,19 @@ module _ (a : Asking) (o : Bool) (at n : ℕ) (old now : Course) (place gone : �
       → AlongIn a o at n old new (place + node.size) (gone + 1) (over && d)
   step_in lt new d turns h node of = λ s.
       let here = next_stands s lt in
-      subst (λ k. Along o a.rules.now.model.now a.estimate.now.modes s.before s.trees s.after old.asked (marked a.nodes.now new.marks) new.asked (place + k) (gone + 1) n (over && d))
+      subst (λ k. Along o a.model.now a.estimate.now.modes s.before s.trees s.after old.goal.items (marked a.nodes.now new.marks) new.goal.items (place + k) (gone + 1) n (over && d))
       (sym (size_at a.nodes.now now.marks place (lies here) node of))
-      (along_step a.rules.now.model.now a.estimate.now.modes o s.before s.trees s.after old.asked (marked a.nodes.now now.marks) now.asked place gone n over (i s) (next s lt)
-      d (marked a.nodes.now new.marks) new.asked (turns here) (goes o d h))
+      (along_step a.model.now a.estimate.now.modes o s.before s.trees s.after old.goal.items (marked a.nodes.now now.marks) now.goal.items place gone n over (i s) (next s lt)
+      d (marked a.nodes.now new.marks) new.goal.items (turns here) (goes o d h))
 
   pub finish_in : n ≤ gone → TurnIn a o at n old over now
   finish_in le = λ s.
-      along_finish a.rules.now.model.now a.estimate.now.modes o s.before s.trees s.after old.asked (marked a.nodes.now now.marks) now.asked place gone n over (i s) le
+      along_finish a.model.now a.estimate.now.modes o s.before s.trees s.after old.goal.items (marked a.nodes.now now.marks) now.goal.items place gone n over (i s) le
 
 pub stop_in : (a : Asking) (o : Bool) (at n : ℕ) (old now : Course) (place gone : ℕ) (over : Bool) (i : AlongIn a o at n old now place gone over) → gone < n
     → (new : Course) (d : Bool) → TurnsIn a place now d new → (o && not d) ≡ true → TurnIn a o at n old false new
 stop_in a true at n old now place gone over i lt new false turns h = λ s.
-    along_stop a.rules.now.model.now a.estimate.now.modes s.before s.trees s.after old.asked (marked a.nodes.now now.marks) now.asked place gone n over (i s) (next a true at n old now place gone over i s lt)
-    (marked a.nodes.now new.marks) new.asked (turns (next_stands a true at n old now place gone over i s lt))
+    along_stop a.model.now a.estimate.now.modes s.before s.trees s.after old.goal.items (marked a.nodes.now now.marks) now.goal.items place gone n over (i s) (next a true at n old now place gone over i s lt)
+    (marked a.nodes.now new.marks) new.goal.items (turns (next_stands a true at n old now place gone over i s lt))
 stop_in a true at n old now place gone over i lt new true turns h = let no : false ≡ true = h in absurd cc
 stop_in a false at n old now place gone over i lt new d turns h = let no : false ≡ true = h in absurd cc

@@ -2,7 +2,6 @@
 use Rattle.std.proofs.Common.{◌≡◌, ◌+◌, ◌<◌, ◌≤◌, ℕ, List, [], ◌∷◌, ◌++◌, length, slice_get, slice_set, Some, refl, sym, ap, subst, ◌∙◌, arith}
 use Rattle.std.proofs.lemmas.List.{length-append}
 use Rattle.std.proofs.lemmas.Option.{same_Some, slice_get_within}
-use Rattle.cca_base.specs.PlantModel.{PlantModel}
 use Rattle.control_program.specs.declared.nodes.Kind.{Kind}
 use Rattle.control_program.specs.declared.nodes.Mark.{Mark}
 use Rattle.control_program.specs.declared.nodes.Node.{Node}
@@ -78,7 +77,7 @@ pub record LiesAt (entries : List Entry) (at : ℕ) : Type 0 where
   pub nodes : entries ≡ before ++ laid tree after
 
 -- what stands there lies there
-abbrev pub lies : {m : PlantModel} {entries : List Entry} {at : ℕ} → StandsAt m entries at → LiesAt entries at
+abbrev pub lies : {entries : List Entry} {at : ℕ} → StandsAt entries at → LiesAt entries at
 lies s = record { before = s.before; tree = s.tree; after = s.after; place = s.place; nodes = s.nodes }
 
 -- a tree by its first node

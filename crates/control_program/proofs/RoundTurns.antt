@@ -1,7 +1,6 @@
 -- The turns of repetitions, on the flat list.
-use Rattle.std.proofs.Common.{◌≡◌, ◌+◌, ◌-◌, ◌<◌, ◌≤◌, ℕ, suc, Bool, true, false, List, [], ◌∷◌, ◌++◌, length, map, get_or, slice_get, slice_set, Option, Some, None, All, refl, sym, ap, subst, ◌∙◌, arith, append_assoc}
+use Rattle.std.proofs.Common.{◌≡◌, ◌+◌, ◌-◌, ◌<◌, ◌≤◌, ℕ, suc, Bool, true, false, List, [], ◌∷◌, ◌++◌, length, map, get_or, slice_get, slice_set, Option, Some, None, refl, sym, ap, subst, ◌∙◌, arith, append_assoc}
 use Rattle.std.proofs.lemmas.Option.{slice_get-get_or}
-use Rattle.list_laws.proofs.Elements.{all_left}
 use Rattle.cca_base.specs.declared.cube.Pair.{Pair}
 use Rattle.control_laws.specs.Rest.{Rest as rest}
 use Rattle.control_program.specs.declared.asking.Asking.{Asking}
@@ -10,7 +9,6 @@ use Rattle.control_program.specs.declared.nodes.Mark.{Mark}
 use Rattle.control_program.specs.declared.nodes.Node.{Node}
 use Rattle.control_program.specs.Courses.{StandsIn, RoundAt, EndsRound}
 use Rattle.control_program.specs.Flat.{Marked, Entry, fresh_entry, size, laid}
-use Rattle.control_program.specs.Formulas.{formulas_left, IsWithin}
 use Rattle.control_program.specs.Marks.{Tree, begun, cleared, again, rest_of, has_ended, is_nothing, IsProper}
 use Rattle.control_program.specs.Places.{IsOfKind, IsCleared, marked, rounds_of}
 use Rattle.control_program.specs.Turned.{Became, HasTurned}
@@ -107,12 +105,6 @@ module _ (a : Asking) (ms : List Mark) (at : ℕ) (s : StandsIn a ms at) (number
   unfolding IsProper
   body_proper = (subst IsProper body.1 s.proper).1
 
-  pub body_formulas : All (IsWithin a.rules.now.model.now) (formulas_left (begun body.0))
-  unfolding formulas_left begun
-  body_formulas =
-      all_left (IsWithin a.rules.now.model.now) (formulas_left (begun body.0)) (formulas_left (begun body.0))
-      (subst (λ v. All (IsWithin a.rules.now.model.now) (formulas_left (begun v))) body.1 s.formulas)
-
   abbrev pub body_stands : StandsIn a ms (at + 1)
   body_stands = record {
     before = s.before ++ body_head ∷ [];
@@ -121,11 +113,10 @@ module _ (a : Asking) (ms : List Mark) (at : ℕ) (s : StandsIn a ms at) (number
     place = place_behind s.before body_head at s.place;
     nodes = body_nodes;
     proper = body_proper;
-    formulas = body_formulas;
   }
 
-  module _ (asked : List Pair) (ended : Bool) (ms' : List Mark) (all : List Pair)
-      (b : HasTurned a.rules.now.model.now a.estimate.now.modes (s.before ++ body_head ∷ []) body.0 s.after asked ended (marked a.nodes.now ms') all) where
+  module _ (goal : List Pair) (ended : Bool) (ms' : List Mark) (all : List Pair)
+      (b : HasTurned a.model.now a.estimate.now.modes (s.before ++ body_head ∷ []) body.0 s.after goal ended (marked a.nodes.now ms') all) where
     pub turned_nodes : marked a.nodes.now ms' ≡ s.before ++ laid (Tree.Repeat number (rounds_of k) b.next) s.after
     unfolding laid
     turned_nodes =
@@ -135,36 +126,36 @@ module _ (a : Asking) (ms : List Mark) (at : ℕ) (s : StandsIn a ms at) (number
     abbrev pub round_at : RoundAt (marked a.nodes.now ms') at number
     round_at = record { before = s.before; rounds = rounds_of k; body = b.next; after = s.after; place = s.place; nodes = turned_nodes }
 
-    turned : (j : ℕ) (y : Tree) (entries : List Entry) (d : Bool) → Became a.rules.now.model.now a.estimate.now.modes (Tree.Repeat number (rounds_of k) body.0) b.own (Tree.Repeat number j y)
+    turned : (j : ℕ) (y : Tree) (entries : List Entry) (d : Bool) → Became a.model.now a.estimate.now.modes (Tree.Repeat number (rounds_of k) body.0) b.own (Tree.Repeat number j y)
         → entries ≡ s.before ++ laid (Tree.Repeat number j y) s.after → d ≡ has_ended y
-        → HasTurned a.rules.now.model.now a.estimate.now.modes s.before s.tree s.after asked d entries all
+        → HasTurned a.model.now a.estimate.now.modes s.before s.tree s.after goal d entries all
     turned j y entries d c nodes left = record {
       own = b.own;
       next = Tree.Repeat number j y;
-      became = subst (λ v. Became a.rules.now.model.now a.estimate.now.modes v b.own (Tree.Repeat number j y)) (sym body.1) c;
+      became = subst (λ v. Became a.model.now a.estimate.now.modes v b.own (Tree.Repeat number j y)) (sym body.1) c;
       nodes = nodes;
       asks = b.asks;
       left = left ∙ sym (ended-repeat number j y);
     }
 
-    pub round_waits : ended ≡ false → HasTurned a.rules.now.model.now a.estimate.now.modes s.before s.tree s.after asked false (marked a.nodes.now ms') all
+    pub round_waits : ended ≡ false → HasTurned a.model.now a.estimate.now.modes s.before s.tree s.after goal false (marked a.nodes.now ms') all
     round_waits waits =
         let left = sym b.left ∙ waits in
         turned (rounds_of k) b.next (marked a.nodes.now ms') false
-        (round_goes a.rules.now.model.now a.estimate.now.modes number (rounds_of k) body.0 b.next b.own left b.became) turned_nodes (sym left)
+        (round_goes a.model.now a.estimate.now.modes number (rounds_of k) body.0 b.next b.own left b.became) turned_nodes (sym left)
 
     round_proper : (j : ℕ) → rounds_of k ≡ j → IsProper (Tree.Repeat number j body.0)
     round_proper j is = subst IsProper (body.1 ∙ ap (λ n. Tree.Repeat number n body.0) is) s.proper
 
     pub round_turned : ended ≡ true → (d : Bool) (new : List Entry) → EndsRound (marked a.nodes.now ms') at number d new
-        → HasTurned a.rules.now.model.now a.estimate.now.modes s.before s.tree s.after asked d new all
+        → HasTurned a.model.now a.estimate.now.modes s.before s.tree s.after goal d new all
     round_turned done true new ends =
         let left = sym b.left ∙ done in
         turned (rounds_of k) b.next new true
-        (last_round_ends a.rules.now.model.now a.estimate.now.modes number (rounds_of k) body.0 b.next b.own (ends.1 round_at) left b.became) (ends.0 ∙ turned_nodes) (sym left)
+        (last_round_ends a.model.now a.estimate.now.modes number (rounds_of k) body.0 b.next b.own (ends.1 round_at) left b.became) (ends.0 ∙ turned_nodes) (sym left)
     round_turned done false new ends =
         let next = ends round_at in
         turned (suc next.0) (cleared b.next) new false
-        (subst (λ n. Became a.rules.now.model.now a.estimate.now.modes (Tree.Repeat number n body.0) b.own (Tree.Repeat number (suc next.0) (cleared b.next))) (sym next.1)
-        (round_ends a.rules.now.model.now a.estimate.now.modes number next.0 body.0 b.next b.own (round_proper (suc (suc next.0)) next.1) (sym b.left ∙ done) b.became))
+        (subst (λ n. Became a.model.now a.estimate.now.modes (Tree.Repeat number n body.0) b.own (Tree.Repeat number (suc next.0) (cleared b.next))) (sym next.1)
+        (round_ends a.model.now a.estimate.now.modes number next.0 body.0 b.next b.own (round_proper (suc (suc next.0)) next.1) (sym b.left ∙ done) b.became))
         next.2 (sym (ap is_nothing (rest_of-cleared b.next)))

@@ -1,20 +1,20 @@
 -- What a runner's fields stand for, and what a turn and a reset make of them.
-use Rattle.std.proofs.Common.{◌≡◌, ◌≤◌, ℕ, Bool, true, false, List, [], ◌∷◌, length, Option, Some, None, All, IsNone, IsTrue, refl, sym, ap, subst, ◌∙◌, arith, append-nil}
+use Rattle.std.proofs.Common.{◌≡◌, ◌≤◌, ℕ, Bool, true, false, List, [], ◌∷◌, length, Option, Some, None, IsNone, IsTrue, refl, sym, ap, subst, ◌∙◌, arith, append-nil}
 use Rattle.cca_base.specs.declared.cube.Pair.{Pair}
 use Rattle.cca_base.specs.PlantModel.{PlantModel}
 use Rattle.control_syntax.specs.declared.part.Part.{Part}
 use Rattle.control_laws.specs.Rest.{Rest as rest, whole}
-use Rattle.control_laws.specs.Turns.{TurnsBy, firsts, fresh}
+use Rattle.control_laws.specs.Turns.{TurnsBy, fresh}
 use Rattle.control_program.specs.declared.nodes.Mark.{Mark}
 use Rattle.control_program.specs.declared.nodes.Node.{Node}
 use Rattle.control_program.specs.Flat.{Entry, laid, read, root}
-use Rattle.control_program.specs.Formulas.{formulas_left, IsWithin}
 use Rattle.control_program.specs.Marks.{Tree, begun, cleared, rest_of, is_nothing}
 use Rattle.control_program.specs.Opened.{opened}
 use Rattle.control_program.specs.Places.{StandsAt, IsCleared, marked}
 use Rattle.control_program.specs.Running.{RunsBy, control, control_of}
 use Rattle.control_program.specs.Turned.{HasTurned}
 use Rattle.control_program.proofs.Flats.{read-laid}
+use Rattle.control_program.proofs.GoalLaws.{with_pairs-firsts}
 use Rattle.control_program.proofs.MarkLaws.{begun-cleared, rest_of-cleared, cleared_proper}
 use Rattle.control_program.proofs.OpenedPrograms.{begun-opened, rest_of-opened}
 use Rattle.control_program.proofs.PlaceLaws.{marked-marks}
@@ -64,28 +64,26 @@ module _ (ns : List Node) (ms : List Mark) (over : Bool) (r : RunsBy ns ms over)
       control-laid ns ms' (cleared r.tree) (reset_nodes ms' count full clear) ∙ control-cleared r.tree ∙ ap (λ c. fresh c.program) (sym control_is)
 
   -- ---- a turn
-  abbrev pub whole_stands : (m : PlantModel) (entries : List Entry) → entries ≡ marked ns ms → All (IsWithin m) (formulas_left (control_of ns ms).program) → StandsAt m entries 0
-  whole_stands m entries same formulas = record {
+  abbrev pub whole_stands : (entries : List Entry) → entries ≡ marked ns ms → StandsAt entries 0
+  whole_stands entries same = record {
     before = [];
     tree = r.tree;
     after = [];
     place = refl;
     nodes = same ∙ r.is;
     proper = r.proper;
-    formulas = subst (λ c. All (IsWithin m) (formulas_left c.program)) control_is formulas;
   }
 
-module _ (ns : List Node) (ms : List Mark) (over : Bool) (r : RunsBy ns ms over) (m : PlantModel) (nodes : List Node) (marks : List Mark) (same_nodes : nodes ≡ ns) (same_marks : marks ≡ ms)
-    (formulas : All (IsWithin m) (formulas_left (control_of ns ms).program)) where
-  abbrev pub all_stands : StandsAt m (marked nodes marks) 0
-  all_stands = whole_stands ns ms over r m (marked nodes marks) (ap (λ v. marked v marks) same_nodes ∙ ap (marked ns) same_marks) formulas
+  module _ (nodes : List Node) (marks : List Mark) (same_nodes : nodes ≡ ns) (same_marks : marks ≡ ms) where
+    abbrev pub all_stands : StandsAt (marked nodes marks) 0
+    all_stands = whole_stands (marked nodes marks) (ap (λ v. marked v marks) same_nodes ∙ ap (marked ns) same_marks)
 
-  module _ (e : List ℕ) (asked all : List Pair) (none : asked ≡ []) (ended : Bool) (new : List Mark)
-      (turns : (s : StandsAt m (marked nodes marks) 0) → HasTurned m e s.before s.tree s.after asked ended (marked nodes new) all) where
+  module _ (m : PlantModel) (e : List ℕ) (nodes : List Node) (marks : List Mark) (same_nodes : nodes ≡ ns) (same_marks : marks ≡ ms) (goal all : List Pair) (none : goal ≡ []) (ended : Bool)
+      (new : List Mark) (turns : (s : StandsAt (marked nodes marks) 0) → HasTurned m e s.before s.tree s.after goal ended (marked nodes new) all) where
     turned : HasTurned m e [] r.tree [] [] ended (marked ns new) all
     turned =
         subst (λ l. HasTurned m e [] r.tree [] l ended (marked ns new) all) none
-        (subst (λ v. HasTurned m e [] r.tree [] asked ended (marked v new) all) same_nodes (turns all_stands))
+        (subst (λ v. HasTurned m e [] r.tree [] goal ended (marked v new) all) same_nodes (turns (all_stands nodes marks same_nodes same_marks)))
 
     pub turn_runs : RunsBy ns new ended
     turn_runs = record {
@@ -105,13 +103,13 @@ module _ (ns : List Node) (ms : List Mark) (over : Bool) (r : RunsBy ns ms over)
       ended = turned.left;
     }
 
-    pub turn_is : (goal : List Pair) → goal ≡ firsts all → TurnsBy m e (control_of ns ms) goal (control_of ns new)
-    turn_is goal is =
-        subst (λ x. TurnsBy m e x goal (control_of ns new)) (sym (control_is ns ms over r))
+    pub turn_is : TurnsBy m e (control_of ns ms) all (control_of ns new)
+    turn_is =
+        subst (λ x. TurnsBy m e x all (control_of ns new)) (sym control_is)
         (record {
           asked = turned.own;
           next = rest_of turned.next;
           turn = turned.became.turn;
-          goals = is ∙ ap firsts turned.asks;
+          goals = turned.asks ∙ with_pairs-firsts [] turned.own;
           after = control-laid ns new turned.next turned.nodes ∙ ap (λ p. record { program = p; left = rest_of turned.next }) turned.became.same;
         })

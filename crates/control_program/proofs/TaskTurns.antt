@@ -1,11 +1,8 @@
 -- The turns of tasks, on the flat list.
-use Rattle.std.proofs.Common.{◌≡◌, ◌↔◌, ◌+◌, ℕ, suc, Bool, true, false, IsTrue, List, [], ◌∷◌, ◌++◌, slice_get, slice_set, Some, None, Result, IfOk, All, refl, sym, ap, subst, ◌∙◌, append-nil, append_assoc}
-use Rattle.std.proofs.lemmas.List.Elements.{All-head}
-use Rattle.std.proofs.lemmas.Result.{IfOk-weaker}
+use Rattle.std.proofs.Common.{◌≡◌, ◌↔◌, ◌+◌, ℕ, suc, Bool, true, false, IsTrue, List, [], ◌∷◌, ◌++◌, slice_get, slice_set, Some, None, refl, sym, ap, subst, ◌∙◌, append_assoc}
 use Rattle.cca_base.specs.declared.cube.Pair.{Pair}
 use Rattle.cca_base.specs.declared.formula.Formula.{Formula}
 use Rattle.cca_base.specs.State.{Holds}
-use Rattle.control_laws.specs.Rest.{Rests as rests}
 use Rattle.control_program.specs.declared.asking.Asking.{Asking}
 use Rattle.control_program.specs.declared.asking.Course.{Course}
 use Rattle.control_program.specs.declared.nodes.Kind.{Kind}
@@ -14,8 +11,7 @@ use Rattle.control_program.specs.declared.nodes.Node.{Node}
 use Rattle.control_program.specs.declared.nodes.Task.{Task}
 use Rattle.control_program.specs.Courses.{StandsIn, StandIn, TaskIn, WorksIn, TurnIn, HasParts, HasWorked, task_tree}
 use Rattle.control_program.specs.Flat.{Marked, Entry, count, size, all_size, laid, all_laid, head_of, tail_of}
-use Rattle.control_program.specs.Formulas.{formulas_left, all_formulas_left, IsWithin}
-use Rattle.control_program.specs.Marks.{Tree, Trees, none, begun, all_begun, several, rest_of, has_ended, is_nothing, IsProper, AreProper}
+use Rattle.control_program.specs.Marks.{Tree, Trees, none, rest_of, has_ended, is_nothing, IsProper, AreProper}
 use Rattle.control_program.specs.Places.{marked, marked_task, is_ended}
 use Rattle.control_program.specs.Turned.{Became, HasTurned, HaveTurned, Reaches}
 use Rattle.control_program.proofs.PartTurns.{stays_ended, reach_ends, reach_stays, await_ends, await_stays, parts_became}
@@ -68,17 +64,17 @@ module _ (a : Asking) (ms : List Mark) (at : ℕ) (s : StandsIn a ms at) (t : Ta
   pub task : (k : Mark) (d : Bool) → slice_get ms at ≡ Some k → is_ended k ≡ d → IsTask s.tree t d
   task k d h e = task_of s.tree t d (subst (λ b. IsHead (marked_task t b) s.tree) e (headed a.nodes.now ms at (lies s) (Kind.Once t) (of_kind a.nodes.now at n (Kind.Once t) of kind) k h))
 
-  pub task_had_ended : (asked : List Pair) (k : Mark) → slice_get ms at ≡ Some k → is_ended k ≡ true
-      → HasTurned a.rules.now.model.now a.estimate.now.modes s.before s.tree s.after asked true (marked a.nodes.now ms) asked
-  task_had_ended asked k h e =
+  pub task_had_ended : (goal : List Pair) (k : Mark) → slice_get ms at ≡ Some k → is_ended k ≡ true
+      → HasTurned a.model.now a.estimate.now.modes s.before s.tree s.after goal true (marked a.nodes.now ms) goal
+  task_had_ended goal k h e =
       let x = task k true h e in
       let nothing : rest_of s.tree ≡ None = ap rest_of x.is ∙ rest_of-task t x.parts in
       record {
         own = [];
         next = s.tree;
-        became = stays_ended a.rules.now.model.now a.estimate.now.modes s.tree s.proper nothing;
+        became = stays_ended a.model.now a.estimate.now.modes s.tree s.proper nothing;
         nodes = s.nodes;
-        asks = sym (append-nil asked);
+        asks = refl;
         left = sym (ap is_nothing nothing);
       }
 
@@ -88,14 +84,14 @@ module _ (a : Asking) (ms : List Mark) (at : ℕ) (s : StandsIn a ms at) (t : Ta
 -- what it did, and its mark
 module _ (a : Asking) (at : ℕ) (old new : Course) (s : StandsIn a old.marks at) (t : Task) (n : Node) (of : slice_get a.nodes.now at ≡ Some n) (kind : n.kind ≡ Kind.Once t)
     (k : Mark) (h : slice_get old.marks at ≡ Some k) (going : is_ended k ≡ false) (d : Bool) (works : WorksIn a at t old d new) where
-  worked : HasWorked a.rules.now.model.now a.estimate.now.modes s.before s.tree s.after t old.asked d (marked a.nodes.now new.marks) new.asked
+  worked : HasWorked a.model.now a.estimate.now.modes s.before s.tree s.after t old.goal.items d (marked a.nodes.now new.marks) new.goal.items
   worked = works (task_in a old.marks at s t n of kind k h going)
 
-  pub task_waits : d ≡ false → HasTurned a.rules.now.model.now a.estimate.now.modes s.before s.tree s.after old.asked false (marked a.nodes.now new.marks) new.asked
+  pub task_waits : d ≡ false → HasTurned a.model.now a.estimate.now.modes s.before s.tree s.after old.goal.items false (marked a.nodes.now new.marks) new.goal.items
   task_waits waits = record {
     own = worked.own;
     next = task_tree t worked.parts false;
-    became = subst (λ b. Became a.rules.now.model.now a.estimate.now.modes s.tree worked.own (task_tree t worked.parts b)) waits worked.became;
+    became = subst (λ b. Became a.model.now a.estimate.now.modes s.tree worked.own (task_tree t worked.parts b)) waits worked.became;
     nodes = worked.nodes;
     asks = worked.asks;
     left = task_left t worked.parts;
@@ -111,11 +107,11 @@ module _ (a : Asking) (at : ℕ) (old new : Course) (s : StandsIn a old.marks at
       (task_head t worked.parts worked.has) (task_tail t worked.parts s.after) (task_size t worked.parts)
 
   pub task_is_done : d ≡ true → (marks : List Mark) → marks ≡ slice_set new.marks at Mark.Ended
-      → HasTurned a.rules.now.model.now a.estimate.now.modes s.before s.tree s.after old.asked true (marked a.nodes.now marks) new.asked
+      → HasTurned a.model.now a.estimate.now.modes s.before s.tree s.after old.goal.items true (marked a.nodes.now marks) new.goal.items
   task_is_done done marks set = record {
     own = worked.own;
     next = task_tree t worked.parts true;
-    became = subst (λ b. Became a.rules.now.model.now a.estimate.now.modes s.tree worked.own (task_tree t worked.parts b)) done worked.became;
+    became = subst (λ b. Became a.model.now a.estimate.now.modes s.tree worked.own (task_tree t worked.parts b)) done worked.became;
     nodes = ap (marked a.nodes.now) set ∙ task_nodes;
     asks = worked.asks;
     left = sym (ap is_nothing (rest_of-task t worked.parts));
@@ -123,50 +119,40 @@ module _ (a : Asking) (at : ℕ) (old new : Course) (s : StandsIn a old.marks at
 
 -- ---- what a task does
 
-module _ (a : Asking) (ms : List Mark) (at : ℕ) (asked all : List Pair) where
-  reach_worked : (g : List Pair) (s : TaskIn a ms at (Task.Reach g)) (d : Bool) → Reaches a.estimate.now.modes g asked d all
-      → HasWorked a.rules.now.model.now a.estimate.now.modes s.stands.before s.stands.tree s.stands.after (Task.Reach g) asked d (marked a.nodes.now ms) all
+module _ (a : Asking) (ms : List Mark) (at : ℕ) (goal all : List Pair) where
+  reach_worked : (g : List Pair) (s : TaskIn a ms at (Task.Reach g)) (d : Bool) → Reaches a.estimate.now.modes g goal d all
+      → HasWorked a.model.now a.estimate.now.modes s.stands.before s.stands.tree s.stands.after (Task.Reach g) goal d (marked a.nodes.now ms) all
   reach_worked g s true h = record {
     own = [];
     parts = none;
-    became = subst (λ v. Became a.rules.now.model.now a.estimate.now.modes v [] (Tree.Reach true g)) (sym s.is) (reach_ends a.rules.now.model.now a.estimate.now.modes g h.0);
+    became = subst (λ v. Became a.model.now a.estimate.now.modes v [] (Tree.Reach true g)) (sym s.is) (reach_ends a.model.now a.estimate.now.modes g h.0);
     nodes = s.stands.nodes ∙ ap (λ v. s.stands.before ++ laid v s.stands.after) s.is;
     has = tt;
-    asks = h.1 ∙ sym (append-nil asked);
+    asks = h.1;
   }
   reach_worked g s false h = record {
     own = g;
     parts = none;
-    became = subst (λ v. Became a.rules.now.model.now a.estimate.now.modes v g (Tree.Reach false g)) (sym s.is) (reach_stays a.rules.now.model.now a.estimate.now.modes g h.0);
+    became = subst (λ v. Became a.model.now a.estimate.now.modes v g (Tree.Reach false g)) (sym s.is) (reach_stays a.model.now a.estimate.now.modes g h.0);
     nodes = s.stands.nodes ∙ ap (λ v. s.stands.before ++ laid v s.stands.after) s.is;
     has = tt;
     asks = h.1;
   }
 
-  await_became : (f : Formula) (d : Bool) → IsTrue d ↔ Holds a.rules.now.model.now a.estimate.now.modes f → Became a.rules.now.model.now a.estimate.now.modes (Tree.Await false f) [] (Tree.Await d f)
-  await_became f true h = await_ends a.rules.now.model.now a.estimate.now.modes f (h.0 refl)
-  await_became f false h = await_stays a.rules.now.model.now a.estimate.now.modes f (λ holds. let no : false ≡ true = h.1 holds in absurd cc)
+  await_became : (f : Formula) (d : Bool) → IsTrue d ↔ Holds a.model.now a.estimate.now.modes f → Became a.model.now a.estimate.now.modes (Tree.Await false f) [] (Tree.Await d f)
+  await_became f true h = await_ends a.model.now a.estimate.now.modes f (h.0 refl)
+  await_became f false h = await_stays a.model.now a.estimate.now.modes f (λ holds. let no : false ≡ true = h.1 holds in absurd cc)
 
-  await_worked : (f : Formula) (s : TaskIn a ms at (Task.Await f)) (d : Bool) → IsTrue d ↔ Holds a.rules.now.model.now a.estimate.now.modes f → all ≡ asked
-      → HasWorked a.rules.now.model.now a.estimate.now.modes s.stands.before s.stands.tree s.stands.after (Task.Await f) asked d (marked a.nodes.now ms) all
+  await_worked : (f : Formula) (s : TaskIn a ms at (Task.Await f)) (d : Bool) → IsTrue d ↔ Holds a.model.now a.estimate.now.modes f → all ≡ goal
+      → HasWorked a.model.now a.estimate.now.modes s.stands.before s.stands.tree s.stands.after (Task.Await f) goal d (marked a.nodes.now ms) all
   await_worked f s d h same = record {
     own = [];
     parts = none;
-    became = subst (λ v. Became a.rules.now.model.now a.estimate.now.modes v [] (Tree.Await d f)) (sym s.is) (await_became f d h);
+    became = subst (λ v. Became a.model.now a.estimate.now.modes v [] (Tree.Await d f)) (sym s.is) (await_became f d h);
     nodes = s.stands.nodes ∙ ap (λ v. s.stands.before ++ laid v s.stands.after) s.is;
     has = tt;
-    asks = same ∙ sym (append-nil asked);
+    asks = same;
   }
-
-pub await_formula : (a : Asking) (ms : List Mark) (at : ℕ) (f : Formula) (s : TaskIn a ms at (Task.Await f)) → IsWithin a.rules.now.model.now f
-unfolding begun formulas_left
-await_formula a ms at f s =
-    All-head (IsWithin a.rules.now.model.now) f [] (subst (λ v. All (IsWithin a.rules.now.model.now) (formulas_left (begun v))) s.is s.stands.formulas)
-
-formulas-several : (o : Bool) (xs : rests) → formulas_left (several o xs) ≡ all_formulas_left xs
-unfolding formulas_left
-formulas-several true xs = refl
-formulas-several false xs = refl
 
 module _ (a : Asking) (ms : List Mark) (at : ℕ) (o : Bool) (n : ℕ) (s : TaskIn a ms at (Task.Parts o n)) where
   abbrev pub parts_head : Entry
@@ -180,12 +166,6 @@ module _ (a : Asking) (ms : List Mark) (at : ℕ) (o : Bool) (n : ℕ) (s : Task
   unfolding IsProper
   parts_proper = subst IsProper s.is s.stands.proper
 
-  pub parts_formulas : All (IsWithin a.rules.now.model.now) (all_formulas_left (all_begun s.parts))
-  unfolding begun
-  parts_formulas =
-      subst (All (IsWithin a.rules.now.model.now)) (formulas-several o (all_begun s.parts))
-      (subst (λ v. All (IsWithin a.rules.now.model.now) (formulas_left (begun v))) s.is s.stands.formulas)
-
   abbrev pub parts_stand : StandIn a ms (at + 1) n
   parts_stand = record {
     before = s.stands.before ++ parts_head ∷ [];
@@ -195,23 +175,22 @@ module _ (a : Asking) (ms : List Mark) (at : ℕ) (o : Bool) (n : ℕ) (s : Task
     number = s.has;
     nodes = parts_nodes;
     proper = parts_proper;
-    formulas = parts_formulas;
   }
 
   next_head : (next : Trees) → count next ≡ count s.parts → all_size next ≡ all_size s.parts → ◌≡◌ {A = Entry} parts_head (Marked.Parts o false (count next), suc (all_size next))
   next_head next many sizes =
       ap (λ v. (Marked.Parts o false v, suc (all_size s.parts))) (sym many) ∙ ap (λ v. (Marked.Parts o false (count next), suc v)) (sym sizes)
 
-  parts_worked : (asked all : List Pair) (d : Bool) (entries : List Entry)
-      → HaveTurned o a.rules.now.model.now a.estimate.now.modes (s.stands.before ++ parts_head ∷ []) s.parts s.stands.after asked d entries all
-      → HasWorked a.rules.now.model.now a.estimate.now.modes s.stands.before s.stands.tree s.stands.after (Task.Parts o n) asked d entries all
+  parts_worked : (goal all : List Pair) (d : Bool) (entries : List Entry)
+      → HaveTurned o a.model.now a.estimate.now.modes (s.stands.before ++ parts_head ∷ []) s.parts s.stands.after goal d entries all
+      → HasWorked a.model.now a.estimate.now.modes s.stands.before s.stands.tree s.stands.after (Task.Parts o n) goal d entries all
   unfolding laid
-  parts_worked asked all d entries h = record {
+  parts_worked goal all d entries h = record {
     own = h.own;
     parts = h.next;
     became =
-        subst (λ v. Became a.rules.now.model.now a.estimate.now.modes v h.own (Tree.Parts o d h.next)) (sym s.is)
-        (parts_became a.rules.now.model.now a.estimate.now.modes o s.parts h.next h.own d h.left h.became);
+        subst (λ v. Became a.model.now a.estimate.now.modes v h.own (Tree.Parts o d h.next)) (sym s.is)
+        (parts_became a.model.now a.estimate.now.modes o s.parts h.next h.own d h.left h.became);
     nodes =
         h.nodes ∙ append_assoc s.stands.before (parts_head ∷ []) (all_laid h.next s.stands.after)
         ∙ ap (λ v. s.stands.before ++ v ∷ all_laid h.next s.stands.after) (next_head h.next h.became.number h.became.size);
@@ -221,22 +200,20 @@ module _ (a : Asking) (ms : List Mark) (at : ℕ) (o : Bool) (n : ℕ) (s : Task
 
 -- ---- what the code answers
 
-module _ {E : Type 0} (a : Asking) (at : ℕ) (old : Course) (t : Task) where
-  pub reach_works : (g : List Pair) → t ≡ Task.Reach g → (asked : List Pair) (result : Result Bool E) → IfOk result (λ d. Reaches a.estimate.now.modes g old.asked d asked)
-      → IfOk result (λ d. WorksIn a at t old d (record { marks = old.marks; asked = asked }))
-  reach_works g is asked result h =
-      IfOk-weaker result (λ d. Reaches a.estimate.now.modes g old.asked d asked) (λ d. WorksIn a at t old d (record { marks = old.marks; asked = asked }))
-      (λ d r. subst (λ v. WorksIn a at v old d (record { marks = old.marks; asked = asked })) (sym is) (λ s. reach_worked a old.marks at old.asked asked g s d r)) h
+module _ (a : Asking) (at : ℕ) (old new : Course) (t : Task) (d : Bool) where
+  pub reach_works : (g : List Pair) → t ≡ Task.Reach g → new.marks ≡ old.marks → Reaches a.estimate.now.modes g old.goal.items d new.goal.items → WorksIn a at t old d new
+  reach_works g is same r =
+      subst (λ v. WorksIn a at v old d new) (sym is) (λ s.
+      subst (λ v. HasWorked a.model.now a.estimate.now.modes s.stands.before s.stands.tree s.stands.after (Task.Reach g) old.goal.items d (marked a.nodes.now v) new.goal.items) (sym same)
+      (reach_worked a old.marks at old.goal.items new.goal.items g s d r))
 
-  pub await_works : (f : Formula) → t ≡ Task.Await f → (result : Result Bool E) → IfOk result (λ d. IsTrue d ↔ Holds a.rules.now.model.now a.estimate.now.modes f)
-      → IfOk result (λ d. WorksIn a at t old d old)
-  await_works f is result h =
-      IfOk-weaker result (λ d. IsTrue d ↔ Holds a.rules.now.model.now a.estimate.now.modes f) (λ d. WorksIn a at t old d old)
-      (λ d r. subst (λ v. WorksIn a at v old d old) (sym is) (λ s. await_worked a old.marks at old.asked old.asked f s d r refl)) h
+  pub await_works : (f : Formula) → t ≡ Task.Await f → new.marks ≡ old.marks → new.goal.items ≡ old.goal.items → IsTrue d ↔ Holds a.model.now a.estimate.now.modes f → WorksIn a at t old d new
+  await_works f is same same_goal h =
+      subst (λ v. WorksIn a at v old d new) (sym is) (λ s.
+      subst (λ v. HasWorked a.model.now a.estimate.now.modes s.stands.before s.stands.tree s.stands.after (Task.Await f) old.goal.items d (marked a.nodes.now v) new.goal.items) (sym same)
+      (await_worked a old.marks at old.goal.items new.goal.items f s d h same_goal))
 
-  pub parts_work : (o : Bool) (n : ℕ) → t ≡ Task.Parts o n → (new : Course) (result : Result Bool E) → IfOk result (λ d. TurnIn a o (at + 1) n old d new)
-      → IfOk result (λ d. WorksIn a at t old d new)
-  parts_work o n is new result h =
-      IfOk-weaker result (λ d. TurnIn a o (at + 1) n old d new) (λ d. WorksIn a at t old d new)
-      (λ d r. subst (λ v. WorksIn a at v old d new) (sym is)
-      (λ s. parts_worked a old.marks at o n s old.asked new.asked d (marked a.nodes.now new.marks) (r (parts_stand a old.marks at o n s)))) h
+  pub parts_work : (o : Bool) (n : ℕ) → t ≡ Task.Parts o n → TurnIn a o (at + 1) n old d new → WorksIn a at t old d new
+  parts_work o n is r =
+      subst (λ v. WorksIn a at v old d new) (sym is)
+      (λ s. parts_worked a old.marks at o n s old.goal.items new.goal.items d (marked a.nodes.now new.marks) (r (parts_stand a old.marks at o n s)))

@@ -1,4 +1,4 @@
--- What a turn makes of the marks, and of what is asked, at a place of the list.
+-- What a turn makes of the marks, and of its goal, at a place of the list.
 use Rattle.std.specs.Prelude.{◌≡◌, ◌≤◌, ◌<◌, ℕ, suc, Bool, true, false, List, ◌++◌, length}
 use Rattle.cca_base.specs.declared.cube.Pair.{Pair}
 use Rattle.cca_base.specs.PlantModel.{PlantModel}
@@ -7,27 +7,28 @@ use Rattle.control_program.specs.declared.asking.Course.{Course}
 use Rattle.control_program.specs.declared.nodes.Mark.{Mark}
 use Rattle.control_program.specs.declared.nodes.Task.{Task}
 use Rattle.control_program.specs.Flat.{Entry, count, laid}
+use Rattle.control_program.specs.Goals.{with_pairs}
 use Rattle.control_program.specs.Marks.{Tree, Trees, cleared}
 use Rattle.control_program.specs.Places.{StandsAt, StandAt, marked}
 use Rattle.control_program.specs.Turned.{Became, HasTurned, HaveTurned}
 
 -- a part stands at the place
 abbrev pub StandsIn : Asking → List Mark → ℕ → Type 0
-StandsIn a marks at = StandsAt a.rules.now.model.now (marked a.nodes.now marks) at
+StandsIn a marks at = StandsAt (marked a.nodes.now marks) at
 
 -- so many parts stand at the place
 abbrev pub StandIn : Asking → List Mark → ℕ → ℕ → Type 0
-StandIn a marks at n = StandAt a.rules.now.model.now (marked a.nodes.now marks) at n
+StandIn a marks at n = StandAt (marked a.nodes.now marks) at n
 
 -- the part at the place had its turn
 abbrev pub TurnsIn : Asking → ℕ → Course → Bool → Course → Type 0
 TurnsIn a at old ended new = (s : StandsIn a old.marks at)
-    → HasTurned a.rules.now.model.now a.estimate.now.modes s.before s.tree s.after old.asked ended (marked a.nodes.now new.marks) new.asked
+    → HasTurned a.model.now a.estimate.now.modes s.before s.tree s.after old.goal.items ended (marked a.nodes.now new.marks) new.goal.items
 
 -- the parts at the place had their turns
 abbrev pub TurnIn : Asking → Bool → ℕ → ℕ → Course → Bool → Course → Type 0
 TurnIn a in_order at n old ended new = (s : StandIn a old.marks at n)
-    → HaveTurned in_order a.rules.now.model.now a.estimate.now.modes s.before s.trees s.after old.asked ended (marked a.nodes.now new.marks) new.asked
+    → HaveTurned in_order a.model.now a.estimate.now.modes s.before s.trees s.after old.goal.items ended (marked a.nodes.now new.marks) new.goal.items
 
 -- a task with its parts as a tree, by whether it has ended
 abbrev pub task_tree : Task → Trees → Bool → Tree
@@ -49,26 +50,26 @@ pub record TaskIn (a : Asking) (marks : List Mark) (at : ℕ) (task : Task) : Ty
   pub has : HasParts task parts
 
 -- a task had its turn, and its own mark is not written yet
-pub record HasWorked (m : PlantModel) (e : List ℕ) (before : List Entry) (x : Tree) (after : List Entry) (task : Task) (asked : List Pair) (ended : Bool) (entries : List Entry) (all : List Pair) : Type 0 where
+pub record HasWorked (m : PlantModel) (e : List ℕ) (before : List Entry) (x : Tree) (after : List Entry) (task : Task) (goal : List Pair) (ended : Bool) (entries : List Entry) (all : List Pair) : Type 0 where
   pub own : List Pair
   pub parts : Trees
   pub became : Became m e x own (task_tree task parts ended)
   pub nodes : entries ≡ before ++ laid (task_tree task parts false) after
   pub has : HasParts task parts
-  pub asks : all ≡ asked ++ own
+  pub asks : all ≡ with_pairs goal own
 
 -- the task at the place had its turn
 abbrev pub WorksIn : Asking → ℕ → Task → Course → Bool → Course → Type 0
 WorksIn a at task old ended new = (s : TaskIn a old.marks at task)
-    → HasWorked a.rules.now.model.now a.estimate.now.modes s.stands.before s.stands.tree s.stands.after task old.asked ended (marked a.nodes.now new.marks) new.asked
+    → HasWorked a.model.now a.estimate.now.modes s.stands.before s.stands.tree s.stands.after task old.goal.items ended (marked a.nodes.now new.marks) new.goal.items
 
 -- a part of a choice was taken: its turn is that of the choice
 pub record Takes (a : Asking) (at : ℕ) (marks : List Mark) (part : ℕ) (new : List Mark) (s : StandsIn a marks at) : Type 0 where
   pub stands : StandsIn a new part
   pub behind : at < part
-  pub turns : (asked : List Pair) (ended : Bool) (entries : List Entry) (all : List Pair)
-      → HasTurned a.rules.now.model.now a.estimate.now.modes stands.before stands.tree stands.after asked ended entries all
-      → HasTurned a.rules.now.model.now a.estimate.now.modes s.before s.tree s.after asked ended entries all
+  pub turns : (goal : List Pair) (ended : Bool) (entries : List Entry) (all : List Pair)
+      → HasTurned a.model.now a.estimate.now.modes stands.before stands.tree stands.after goal ended entries all
+      → HasTurned a.model.now a.estimate.now.modes s.before s.tree s.after goal ended entries all
 
 -- the same wherever the choice stands
 abbrev pub TakesIn : Asking → ℕ → List Mark → ℕ → List Mark → Type 0

@@ -1,9 +1,12 @@
 pub mod Codes
 pub mod Flat
 pub mod Formulas
+pub mod Goals
 pub mod Marks
 pub mod Opened
 pub mod Places
+pub mod Questions
 pub mod Turned
 pub mod Running
 pub mod Courses
+pub mod Rooms

@@ -1,13 +1,11 @@
 -- What stands at a place of the flat list: the code's nodes with their marks.
-use Rattle.std.specs.Prelude.{◌≡◌, ℕ, Bool, true, false, ◌+◌, List, [], ◌∷◌, ◌++◌, length, map, slice_get, Some, All}
-use Rattle.cca_base.specs.PlantModel.{PlantModel}
+use Rattle.std.specs.Prelude.{◌≡◌, ℕ, Bool, true, false, ◌+◌, List, [], ◌∷◌, ◌++◌, length, map, slice_get, Some}
 use Rattle.control_program.specs.declared.nodes.Kind.{Kind}
 use Rattle.control_program.specs.declared.nodes.Mark.{Mark}
 use Rattle.control_program.specs.declared.nodes.Node.{Node}
 use Rattle.control_program.specs.declared.nodes.Task.{Task}
 use Rattle.control_program.specs.Flat.{Marked, Entry, fresh_entry, count, laid, all_laid, head_of, tail_of}
-use Rattle.control_program.specs.Formulas.{formulas_left, all_formulas_left, IsWithin}
-use Rattle.control_program.specs.Marks.{Choice, open_yet, first, second, Tree, Trees, begun, all_begun, IsProper, AreProper}
+use Rattle.control_program.specs.Marks.{Choice, open_yet, first, second, Tree, Trees, IsProper, AreProper}
 
 -- what a mark says: whether the node has ended, which part was chosen, and how many rounds are left
 abbrev pub sense : Mark → Bool × Choice × ℕ
@@ -78,18 +76,17 @@ abbrev pub IsCleared : ℕ → ℕ → List Entry → List Entry → Type 0
 IsCleared from to old new = (before middle after : List Entry) → old ≡ before ++ middle ++ after → length before ≡ from → length before + length middle ≡ to
     → new ≡ before ++ map fresh_entry middle ++ after
 
--- a part stands at the place, with proper marks and with formulas of the model
-pub record StandsAt (m : PlantModel) (entries : List Entry) (at : ℕ) : Type 0 where
+-- a part stands at the place, with proper marks
+pub record StandsAt (entries : List Entry) (at : ℕ) : Type 0 where
   pub before : List Entry
   pub tree : Tree
   pub after : List Entry
   pub place : length before ≡ at
   pub nodes : entries ≡ before ++ laid tree after
   pub proper : IsProper tree
-  pub formulas : All (IsWithin m) (formulas_left (begun tree))
 
 -- so many parts stand at the place, one behind the other
-pub record StandAt (m : PlantModel) (entries : List Entry) (at n : ℕ) : Type 0 where
+pub record StandAt (entries : List Entry) (at n : ℕ) : Type 0 where
   pub before : List Entry
   pub trees : Trees
   pub after : List Entry
@@ -97,4 +94,3 @@ pub record StandAt (m : PlantModel) (entries : List Entry) (at n : ℕ) : Type 0
   pub number : count trees ≡ n
   pub nodes : entries ≡ before ++ all_laid trees after
   pub proper : AreProper trees
-  pub formulas : All (IsWithin m) (all_formulas_left (all_begun trees))

@@ -7,6 +7,7 @@ use Rattle.cca_base.specs.State.{Extends, Holds}
 use Rattle.control_laws.specs.Rest.{Rests as rests, TurnSeq, TurnBoth}
 use Rattle.control_laws.specs.Turns.{TurnsTo}
 use Rattle.control_program.specs.Flat.{Entry, count, size, all_size, laid, all_laid}
+use Rattle.control_program.specs.Goals.{with_pairs}
 use Rattle.control_program.specs.Marks.{Choice, open_yet, first, second, Tree, Trees, begun, all_begun, rest_of, rests_of, has_ended, is_none, IsProper, AreProper}
 
 -- the marks of one part before and after a turn that asks for the pairs
@@ -37,23 +38,23 @@ Chooses m e second f takes_first = takes_first ≡ false
 
 -- a `reach` asks for its pairs unless they stand
 abbrev pub Reaches : List ℕ → List Pair → List Pair → Bool → List Pair → Type 0
-Reaches e g asked true all = Extends e g × (all ≡ asked)
-Reaches e g asked false all = (Extends e g → ⊥) × (all ≡ asked ++ g)
+Reaches e g goal true all = Extends e g × (all ≡ goal)
+Reaches e g goal false all = (Extends e g → ⊥) × (all ≡ with_pairs goal g)
 
--- a part of the list had its turn: what it asks stands behind what was asked
-pub record HasTurned (m : PlantModel) (e : List ℕ) (before : List Entry) (x : Tree) (after : List Entry) (asked : List Pair) (ended : Bool) (entries : List Entry) (all : List Pair) : Type 0 where
+-- a part of the list had its turn: what it asks is put to the goal
+pub record HasTurned (m : PlantModel) (e : List ℕ) (before : List Entry) (x : Tree) (after : List Entry) (goal : List Pair) (ended : Bool) (entries : List Entry) (all : List Pair) : Type 0 where
   pub own : List Pair
   pub next : Tree
   pub became : Became m e x own next
   pub nodes : entries ≡ before ++ laid next after
-  pub asks : all ≡ asked ++ own
+  pub asks : all ≡ with_pairs goal own
   pub left : ended ≡ has_ended next
 
 -- parts of the list had their turns
-pub record HaveTurned (in_order : Bool) (m : PlantModel) (e : List ℕ) (before : List Entry) (xs : Trees) (after : List Entry) (asked : List Pair) (ended : Bool) (entries : List Entry) (all : List Pair) : Type 0 where
+pub record HaveTurned (in_order : Bool) (m : PlantModel) (e : List ℕ) (before : List Entry) (xs : Trees) (after : List Entry) (goal : List Pair) (ended : Bool) (entries : List Entry) (all : List Pair) : Type 0 where
   pub own : List Pair
   pub next : Trees
   pub became : AllBecame in_order m e xs own next
   pub nodes : entries ≡ before ++ all_laid next after
-  pub asks : all ≡ asked ++ own
+  pub asks : all ≡ with_pairs goal own
   pub left : ended ≡ is_none (rests_of next)

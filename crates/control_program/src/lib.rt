@@ -9,6 +9,8 @@ mod nodes;
 mod opening;
 mod rounds;
 mod runner;
+mod turn_room;
 mod turning;
 
 pub use runner::Runner;
+pub use turn_room::TurnRoom;

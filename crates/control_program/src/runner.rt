@@ -7,22 +7,23 @@ ghost use Rattle.control_laws.specs.Rest.{whole};
 ghost use Rattle.control_laws.specs.Turns.{TurnsBy, fresh};
 ghost use Rattle.control_program.specs.Formulas.{formulas_left, IsWithin};
 
-use crate::asking::{Asking, Course};
-use crate::goals::firsts;
+use crate::asking::Asking;
 use crate::marks::clear;
 use crate::nodes::{Mark, Node};
 use crate::opening::{fresh_marks, lay};
+use crate::turn_room::TurnRoom;
 use crate::turning::turn_at;
 use cca_base::{List, Model, Pair, State};
-use consistency::{Rules, Worlds, all_pairs};
+use consistency::{Worlds, put_pairs};
 use control_syntax::Part;
 use std::alloc::{AllocError, Global};
+use std::mem;
 
 /// A control program, and how far it has come. It keeps one flat list of the program's nodes, with a mark for each.
 #[derive(Debug, Drop)]
 pub struct Runner {
     alloc: Global,
-    nodes: Vec<Node, Global>,
+    pub(crate) nodes: Vec<Node, Global>,
     marks: List<Mark>,
     ended: bool,
 }
@@ -42,6 +43,8 @@ impl std::marker::Model for Runner {
 }
 
 impl Runner {
+    ghost use Rattle.control_program.specs.Rooms.{IsTurnRoomOf, goal_in};
+
     /// The runner of a program of which all is left. The part is gone in any case. The error is out of memory.
     pub fn open(alloc: Global, part: Part) -> Result<Runner, AllocError>
         ensures { IfOk result (λ r. r ≡ fresh (whole part)) }
@@ -58,6 +61,32 @@ impl Runner {
         })
     }
 
+    /// A turn with the estimate, in room that was made for the program: its goal stands there. It takes no memory.
+    pub fn turn_in(&mut self, model: &Model, worlds: &Worlds, estimate: &State, room: &mut TurnRoom)
+        requires of { AreWorldsOf model.now worlds.now }
+        requires state { IsState model.now estimate.now.modes }
+        requires room { IsTurnRoomOf model.now self.old.program room.old }
+        ensures turn { TurnsBy model.now estimate.now.modes self.old (goal_in room.new) self.new }
+        ensures room { IsTurnRoomOf model.now self.old.program room.new }
+    {
+        // (a model is well formed)
+        let _moves = model.moves();
+        put_pairs(estimate.modes.as_slice(), &mut room.modes);
+        room.course.goal.clear();
+        // The marks are lent to the turn.
+        mem::swap(&mut self.marks, &mut room.course.marks);
+        let asking = Asking {
+            model,
+            worlds,
+            estimate,
+            modes: room.modes.as_slice(),
+            nodes: self.nodes.as_slice(),
+            denials: room.denials.as_slice(),
+        };
+        self.ended = turn_at(&asking, &mut room.course, 0);
+        mem::swap(&mut self.marks, &mut room.course.marks);
+    }
+
     /// A turn with the estimate, whose worlds the caller has: what it asks for. The error is out of memory.
     pub fn turn_by(
         &mut self,
@@ -72,29 +101,9 @@ impl Runner {
             TurnsBy model.now estimate.now.modes self.old goal self.new) }
         ensures err { OnErr result (self.new ≡ self.old) }
     {
-        let modes = all_pairs(self.alloc, model, estimate)?;
-        let mut course = Course {
-            marks: self.marks.copy(self.alloc)?,
-            asked: List::new(self.alloc),
-        };
-        let rules = Rules {
-            alloc: self.alloc,
-            model,
-            worlds,
-        };
-        let asking = Asking {
-            rules: &rules,
-            estimate,
-            modes: &modes,
-            nodes: self.nodes.as_slice(),
-        };
-        // Memory in which the turn's questions are asked, made at the first of them.
-        let mut space = None;
-        let ended = turn_at(&asking, &mut course, 0, &mut space)?;
-        let goal = firsts(self.alloc, course.asked.as_slice())?;
-        self.marks = course.marks;
-        self.ended = ended;
-        Ok(goal)
+        let mut room = TurnRoom::of(self.alloc, model, worlds, self)?;
+        self.turn_in(model, worlds, estimate, &mut room);
+        Ok(room.into_goal())
     }
 
     /// A turn with the estimate: what it asks for. The clauses of the model's rules are made anew. The error is out of memory.

@@ -1,6 +1,6 @@
 -- Events that were made, with what is told of them.
-use Rattle.std.proofs.Common.{◌≡◌, ℕ, ◌++◌, Bool, List, [], Option, Some, Result, Ok, Err, refl, sym, ap, ◌∙◌, append-nil}
-use Rattle.std.specs.Prelude.{OnErr, OnOk}
+use Rattle.std.proofs.Common.{◌≡◌, ℕ, ◌++◌, Bool, List, [], Option, Some, Result, Ok, Err, refl, sym, ap, subst, ◌∙◌, append-nil}
+use Rattle.std.specs.Prelude.{OnOk}
 use Rattle.cca_base.specs.Accepted.{CompiledModel}
 use Rattle.cca_base.specs.Plans.{Promising}
 use Rattle.cca_base.specs.PlantModel.{PlantModel}
@@ -9,12 +9,14 @@ use Rattle.cca_base.specs.declared.events.Event.{Event}
 use Rattle.cca_base.specs.declared.events.Event.TheVariants as event
 use Rattle.cca_base.specs.declared.events.TickReport.{TickReport}
 use Rattle.control_laws.specs.Turns.{Control}
-use Rattle.line_machine.specs.Outs.{Appended, Buffered, IsFront}
+use Rattle.control_program.specs.Rooms.{IsTurnRoomOf}
+use Rattle.byte_buffer.specs.Outs.{Appended, Buffered}
 use Rattle.trace_laws.specs.Events.{Acts, IsTick}
 use Rattle.program_form.specs.Printed.{told_text}
 use Rattle.program_form.specs.ProgramMachine.{Prepares, PrintsEvent, sequencer}
 use Rattle.program_form.specs.PutIn.{Told, TurnsBefore, ends, left_by}
-use Rattle.program_form.specs.Stages.{RunsWell}
+use Rattle.program_form.specs.Stages.{RunsInRoom, RunsWell}
+use Rattle.program_form.specs.declared.running.Running.{Running}
 use Rattle.program_form.proofs.RunningWell.{well_again}
 use Rattle.program_form.proofs.Sequencing.{tick_is}
 
@@ -34,11 +36,6 @@ tick_made b x z y c next ended report (Ok t) old new (put, turns, prepares, is) 
     }
 tick_made b x z y c next ended report (Err e) old new h acts behind = tt
 
--- a call that appends where it answers, and else leaves all as it was
-pub front_of : {V E : Type 0} (r : Result V E) (old new : Buffered) (text : List ℕ) → OnOk r (new.bytes ≡ old.bytes ++ text) → OnErr r (new ≡ old) → IsFront old new
-front_of (Ok v) old new text h k = (text, h)
-front_of (Err e) old new text h k = ([], ap (λ (o : Buffered). o.bytes) k ∙ sym (append-nil old.bytes))
-
 -- a program that runs well goes on so behind it
 pub well_left : (m : PlantModel) (e : Event) (c : Control) → RunsWell m c → RunsWell m (left_by e c)
 well_left m event.Tick c well = well
@@ -48,3 +45,20 @@ well_left m event.Clear c well = well
 well_left m (event.Observe pairs) c well = well
 well_left m (event.Fault p) c well = well
 well_left m (event.Mirror v) c well = well
+
+-- the program is the same behind it
+program_left : (e : Event) (c : Control) → (left_by e c).program ≡ c.program
+program_left event.Tick c = refl
+program_left event.Reset c = refl
+program_left (event.Goal pairs) c = refl
+program_left event.Clear c = refl
+program_left (event.Observe pairs) c = refl
+program_left (event.Fault p) c = refl
+program_left (event.Mirror v) c = refl
+
+-- and its turns have their room
+pub runs_left : (m : PlantModel) (e : Event) (x : Running) (next : Control) → next ≡ left_by e x.runner → RunsInRoom m x → RunsInRoom m (record { runner = next; room = x.room })
+runs_left m e x next is runs = record {
+  well = subst (RunsWell m) (sym is) (well_left m e x.runner runs.well);
+  room = subst (λ p. IsTurnRoomOf m p x.room) (sym (ap (λ (c : Control). c.program) is ∙ program_left e x.runner)) runs.room;
+}

@@ -8,7 +8,7 @@ use Rattle.cca_base.specs.declared.events.Stop.TheVariants as stops
 use Rattle.control_laws.specs.Turns.{Control}
 use Rattle.control_syntax.specs.Reading.{Reading, led}
 use Rattle.line_machine.specs.Next.{Next, GoesOn, Stops}
-use Rattle.line_machine.specs.Outs.{Appended, Buffered}
+use Rattle.byte_buffer.specs.Outs.{Appended, Buffered}
 use Rattle.line_machine.specs.declared.machine.End.TheVariants.{Refused}
 use Rattle.trace_text.specs.Json.{refusal_text}
 use Rattle.program_form.specs.ProgramMachine.{ProgramState, Reads, Runs, ServesIn, Stage, program_lines, stage_by}

@@ -1,6 +1,6 @@
 -- What a running program asks for may be set as a goal, whatever its turns.
-use Rattle.std.proofs.Common.{◌≡◌, ℕ, Bool, true, false, not, ◌&&◌, is_some, is_none, List, [], ◌∷◌, Option, Some, None, Result, Ok, Err, All, Contains, refl, sym, ap, subst, ◌∙◌, arith}
-use Rattle.std.specs.Prelude.{◌↔◌, IfOk, IsNone, IsTrue}
+use Rattle.std.proofs.Common.{◌≡◌, ℕ, Bool, true, false, not, ◌&&◌, is_some, is_none, List, [], ◌∷◌, Option, Some, None, All, Contains, refl, sym, ap, subst, ◌∙◌, arith}
+use Rattle.std.specs.Prelude.{◌↔◌, IsNone, IsTrue}
 use Rattle.std.proofs.lemmas.List.Elements.{All-contains}
 use Rattle.list_laws.proofs.Members.{all_from}
 use Rattle.cca_base.specs.declared.cube.Pair.{Pair}
@@ -15,12 +15,14 @@ use Rattle.control_laws.proofs.Controlled.{turn_of_left}
 use Rattle.control_laws.proofs.FirstPairs.{goals_are_cubes}
 use Rattle.control_laws.proofs.ProgramPairs.{of_lines}
 use Rattle.control_program.specs.Formulas.{formulas_left}
+use Rattle.control_program.specs.Rooms.{IsTurnRoomOf}
 use Rattle.control_program.proofs.ProgramFormulas.{formulas_of_whole}
 use Rattle.control_syntax.specs.Program.{MayRun, pairs_of}
 use Rattle.control_syntax.specs.declared.part.Part.{Part}
 use Rattle.trace_laws.specs.Events.{IsTick}
 use Rattle.program_form.specs.PutIn.{asks, ends}
-use Rattle.program_form.specs.Stages.{RunsWell}
+use Rattle.program_form.specs.Stages.{RunsInRoom, RunsWell}
+use Rattle.program_form.specs.declared.running.Running.{Running}
 
 pub asks_no_tick : (goal : List Pair) → IsTick (asks goal) → ⊥
 asks_no_tick [] h = h
@@ -43,10 +45,6 @@ module _ (m : PlantModel) where
     sound = all_of (λ q. is_broken m.moves q.item q.value ≡ false) e c (p ∷ pairs) d well h well.sound;
   }
 
-  pub goals_come : {E : Type 0} (e : List ℕ) (c d : Control) (pending : List Pair) (mirrored : ℕ) (r : Result (List Pair) E) → RunsWell m c → IfOk r (λ goal. TurnsBy m e c goal d) → IfOk r (λ goal. MayCome m pending mirrored (asks goal))
-  goals_come e c d pending mirrored (Ok goal) well h = goal_comes e c goal d pending mirrored well h
-  goals_come e c d pending mirrored (Err x) well h = tt
-
   well_by : (c d : Control) → d.program ≡ c.program → RunsWell m c → ((p : Pair) → Contains (pairs_of_left d.left) p → Contains (pairs_left c.program) p) → RunsWell m d
   well_by c d same well left = record {
     modes = subst (λ r. All (λ p. HasMode m p.item p.value) (pairs_left r)) (sym same) well.modes;
@@ -57,6 +55,13 @@ module _ (m : PlantModel) where
 
   pub well_after : (e : List ℕ) (c : Control) (goal : List Pair) (d : Control) → RunsWell m c → TurnsBy m e c goal d → RunsWell m d
   well_after e c goal d well h = well_by c d (ap (λ (x : Control). x.program) h.after) well (λ p among. well.left p ((turn_of_left m e c goal d p h).1 among))
+
+  -- so a turn in its room leaves a program that runs
+  pub runs_after : (e : List ℕ) (x : Running) (goal : List Pair) (y : Running) → RunsInRoom m x → TurnsBy m e x.runner goal y.runner → IsTurnRoomOf m x.runner.program y.room → RunsInRoom m y
+  runs_after e x goal y runs h room = record {
+    well = well_after e x.runner goal y.runner runs.well h;
+    room = subst (λ p. IsTurnRoomOf m p y.room) (sym (ap (λ (c : Control). c.program) h.after)) room;
+  }
 
   pub well_again : (c : Control) → RunsWell m c → RunsWell m (fresh c.program)
   well_again c well = well_by c (fresh c.program) refl well (λ p among. among)

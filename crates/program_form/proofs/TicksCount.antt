@@ -12,7 +12,7 @@ use Rattle.cca_base.specs.declared.events.Shown.{Shown}
 use Rattle.cca_base.specs.declared.events.Shown.TheVariants.{Estimated, Unexplained, Holding}
 use Rattle.cca_base.specs.declared.events.TickReport.{TickReport}
 use Rattle.control_laws.specs.Turns.{Control}
-use Rattle.line_machine.specs.Outs.{Appended, Buffered}
+use Rattle.byte_buffer.specs.Outs.{Appended, Buffered}
 use Rattle.trace_laws.specs.Events.{Acts}
 use Rattle.program_form.specs.ProgramMachine.{MakesEvent, PrintsEvent, report_of, sequencer}
 use Rattle.program_form.specs.PutIn.{Told}

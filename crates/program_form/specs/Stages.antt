@@ -7,6 +7,7 @@ use Rattle.control_laws.specs.Asked.{pairs_left, pairs_of_left}
 use Rattle.control_laws.specs.Rest.{whole}
 use Rattle.control_laws.specs.Turns.{Control, fresh}
 use Rattle.control_program.specs.Formulas.{formulas_left}
+use Rattle.control_program.specs.Rooms.{IsTurnRoomOf}
 use Rattle.control_syntax.specs.Codes.{IsSaid}
 use Rattle.control_syntax.specs.Kept.{MayRunSoFar}
 use Rattle.control_syntax.specs.Program.{MayRun}
@@ -16,11 +17,12 @@ use Rattle.control_syntax.specs.declared.part.Part.{Part}
 use Rattle.program_form.specs.ProgramMachine.{ProgramState, Stage as Where, Reads, Runs}
 use Rattle.program_form.specs.declared.programmed.Stage.{Stage}
 use Rattle.program_form.specs.declared.programmed.Stage.TheVariants as stages
+use Rattle.program_form.specs.declared.running.Running.{Running}
 
 -- the same in the words of the definitions
 abbrev pub stage_of : Stage → Where
 stage_of (stages.Reading reader) = Reads reader
-stage_of (stages.Running runner) = Runs runner
+stage_of (stages.Running running) = Runs running.runner
 
 -- the program asks for pairs of the model that aren't broken, and waits on formulas of the model; what is left of it asks for no others
 pub record RunsWell (m : PlantModel) (c : Control) : Type 0 where
@@ -28,6 +30,16 @@ pub record RunsWell (m : PlantModel) (c : Control) : Type 0 where
   pub sound : All (λ p. is_broken m.moves p.item p.value ≡ false) (pairs_left c.program)
   pub formulas : All (IsFormula m) (formulas_left c.program)
   pub left : (p : Pair) → Contains (pairs_of_left c.left) p → Contains (pairs_left c.program) p
+
+-- a program that runs so has room for its turns
+pub record RunsInRoom (m : PlantModel) (r : Running) : Type 0 where
+  pub well : RunsWell m r.runner
+  pub room : IsTurnRoomOf m r.runner.program r.room
+
+-- what runs has room for its turns
+abbrev pub HasRoom : PlantModel → Stage → Type 0
+HasRoom m (stages.Reading reader) = Unit {0}
+HasRoom m (stages.Running running) = IsTurnRoomOf m running.runner.program running.room
 
 -- what is read so far fits the model, or what runs
 abbrev pub FitsStage : PlantModel → Where → Type 0

@@ -5,6 +5,7 @@
 mod item;
 mod laws;
 mod programmed;
+mod running;
 mod sequenced;
 mod told;
 

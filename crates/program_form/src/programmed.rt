@@ -1,10 +1,10 @@
 //! The lines behind an accepted model: a control program, and the events behind it.
 
-ghost use Rattle.std.specs.Prelude.{◌≡◌, ◌+◌, None, IfOk, IfSome};
+ghost use Rattle.std.specs.Prelude.{◌≡◌, ◌+◌, None, IfOk, IfSome, OnOk};
 ghost use Rattle.cca_base.specs.Prelude.{Answers, IsCompiled};
 ghost use Rattle.formula_syntax.specs.Lookups.{NamesFit};
 ghost use Rattle.line_machine.specs.Next.{next_of};
-ghost use Rattle.line_machine.specs.Outs.{Appended, IsFront};
+ghost use Rattle.byte_buffer.specs.Outs.{Appended, IsFront};
 ghost use Rattle.model_form.specs.FormStates.{form_first};
 ghost use Rattle.control_syntax.specs.Kept.{MayRunSoFar};
 ghost use Rattle.script_reader.specs.EventLines.{AnswersAs, AnswersWhatMayCome};
@@ -14,10 +14,11 @@ ghost use Rattle.program_form.specs.Stages.{ReadsTo, RunsWell, begun};
 ghost use Rattle.program_form.specs.declared.item.ProgramItem.TheVariants.{Reads};
 
 use crate::item::ProgramItem;
+use crate::running::Running;
 use crate::sequenced::make;
 use cca_base::codes::ENDS_EARLY;
 use cca_base::{Event, Model, Name, Stop, Subject};
-use control_program::Runner;
+use control_program::{Runner, TurnRoom};
 use control_syntax::{ProgramEnd, ProgramReader};
 use executive_loop::Executive;
 use formula_syntax::NamedModel;
@@ -35,7 +36,7 @@ enum Stage {
     /// Its lines are being read.
     Reading(ProgramReader),
     /// It was read whole, and runs.
-    Running(Runner),
+    Running(Running),
 }
 
 /// An accepted model's executive, its names, and the program that sets its goals.
@@ -53,7 +54,7 @@ impl std::marker::Model for Programmed {
     ghost use Rattle.program_form.specs.ProgramMachine.{ProgramState};
     ghost use Rattle.control_syntax.specs.contracts.block.Block as blocks;
     ghost use Rattle.control_syntax.specs.contracts.part.Part as parts;
-    ghost use Rattle.program_form.specs.Stages.{FitsStage, stage_of};
+    ghost use Rattle.program_form.specs.Stages.{FitsStage, HasRoom, stage_of};
 
     ghost Value = { ProgramState };
 
@@ -66,7 +67,8 @@ impl std::marker::Model for Programmed {
     } };
 
     ghost invariant = { λ p. NamesFit p.names p.executive.compiled.model
-        × FitsStage p.executive.compiled.model (stage_of p.stage) };
+        × FitsStage p.executive.compiled.model (stage_of p.stage)
+        × HasRoom p.executive.compiled.model p.stage };
 }
 
 /// Reads a line of the program; its runner comes exactly where the line ends it.
@@ -121,8 +123,8 @@ impl OpensLines<ProgramItem> for Programmed {
 
     fn open(alloc: Global, accepted: Accepted) -> Result<Programmed, AllocError> {
         let (compiled, names) = accepted.into_parts();
-        let executive = Executive::open(alloc, compiled)?;
         let reader = ProgramReader::open(alloc)?;
+        let executive = Executive::open(alloc, compiled)?;
         Ok(Programmed {
             names,
             executive,
@@ -132,14 +134,17 @@ impl OpensLines<ProgramItem> for Programmed {
 }
 
 impl Programmed {
-    /// Begins the program, where it is whole.
-    fn begin(&mut self, runner: Option<Runner>)
+    /// Begins the program, where it is whole. The error is out of memory.
+    fn begin(&mut self, alloc: Global, runner: Option<Runner>) -> Result<(), AllocError>
         requires well { IfSome runner (RunsWell self.old.compiled.model) }
-        ensures { self.new ≡ begun runner self.old }
+        ensures { OnOk result (self.new ≡ begun runner self.old) }
     {
-        if let Some(whole) = runner {
-            self.stage = Stage::Running(whole);
+        if let Some(runner) = runner {
+            let model = self.executive.compiled().model();
+            let room = TurnRoom::of(alloc, model, self.executive.worlds(), &runner)?;
+            self.stage = Stage::Running(Running { runner, room });
         }
+        Ok(())
     }
 
     /// Takes a line of the program: more of it is read, and it begins where it is whole; or the line is refused. The error is out of memory.
@@ -163,7 +168,7 @@ impl Programmed {
                 let model = NamedModel::new(self.executive.compiled().model(), &self.names);
                 match read_program(alloc, &model, reader, line) {
                     Ok(runner) => {
-                        self.begin(runner);
+                        self.begin(alloc, runner)?;
                         Ok(None)
                     }
                     Err(stop) => {
@@ -232,8 +237,8 @@ impl LineForm<ProgramItem> for Programmed {
         match item {
             ProgramItem::Reads(bytes) => self.take_line(alloc, number, bytes.as_slice(), out),
             ProgramItem::Makes(event) => match &mut self.stage {
-                Stage::Running(runner) => {
-                    make(alloc, &mut self.executive, runner, &event, out)?;
+                Stage::Running(running) => {
+                    make(alloc, &mut self.executive, running, &event, out)?;
                     Ok(None)
                 }
                 Stage::Reading(_) => unreachable!(),

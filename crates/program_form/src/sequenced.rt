@@ -5,12 +5,14 @@ ghost use Rattle.cca_base.specs.Prelude.{MayCome, Promising};
 ghost use Rattle.cca_base.specs.declared.events.Event.{Event};
 ghost use Rattle.cca_base.specs.declared.events.Event.TheVariants.{Tick};
 ghost use Rattle.control_laws.specs.Turns.{TurnsBy};
-ghost use Rattle.line_machine.specs.Outs.{Appended, IsFront};
+ghost use Rattle.control_program.specs.Rooms.{goal_in};
+ghost use Rattle.byte_buffer.specs.Outs.{Appended, IsFront};
 ghost use Rattle.trace_laws.specs.Events.{Acts, IsTick};
 ghost use Rattle.program_form.specs.PutIn.{TurnsBefore, asks, ends, left_by};
 ghost use Rattle.program_form.specs.ProgramMachine.{MakesEvent, PrintsEvent, Prepares, sequencer};
-ghost use Rattle.program_form.specs.Stages.{RunsWell};
+ghost use Rattle.program_form.specs.Stages.{RunsInRoom};
 
+use crate::running::Running;
 use crate::told::tell;
 use cca_base::{Event, List, Pair, TickReport};
 use control_program::Runner;
@@ -45,19 +47,21 @@ fn ask(executive: &mut Executive, goal: List<Pair>) -> Result<(), AllocError>
     Ok(())
 }
 
-/// A turn of the program with the executive's estimate: its goal, which may be set. The error is out of memory, and then the program is as
-/// before.
+/// A turn of the program with the executive's estimate: its goal stands in the room, and may be set.
 #[tactic(auto, using(crate::proofs::RunningWell::well_after))]
-fn turn(executive: &Executive, runner: &mut Runner) -> Result<List<Pair>, AllocError>
-    requires well { RunsWell executive.now.compiled.model runner.old }
-    ensures turn { IfOk result (λ goal. TurnsBy executive.now.compiled.model
-        executive.now.state.estimate runner.old goal runner.new) }
-    ensures may_come { IfOk result (λ goal. MayCome executive.now.compiled.model
-        executive.now.state.pending executive.now.state.mirrored (asks goal)) }
-    ensures well { RunsWell executive.now.compiled.model runner.new }
+fn turn(executive: &Executive, running: &mut Running)
+    requires well { RunsInRoom executive.now.compiled.model running.old }
+    ensures turn { TurnsBy executive.now.compiled.model executive.now.state.estimate
+        running.old.runner (goal_in running.new.room) running.new.runner }
+    ensures may_come { MayCome executive.now.compiled.model executive.now.state.pending
+        executive.now.state.mirrored (asks (goal_in running.new.room)) }
+    ensures well { RunsInRoom executive.now.compiled.model running.new }
 {
     let model = executive.compiled().model();
-    runner.turn_by(model, executive.worlds(), executive.estimate())
+    let worlds = executive.worlds();
+    running
+        .runner
+        .turn_in(model, worlds, executive.estimate(), &mut running.room);
 }
 
 /// Whether a program has ended that had not ended before.
@@ -69,24 +73,29 @@ fn ends(before: bool, after: bool) -> bool
 
 /// The program's turn before a tick, and the event that sets its goal; neither while the executive is holding. Answers whether the program
 /// has ended in the turn. The error is out of memory.
-fn prepare(executive: &mut Executive, runner: &mut Runner) -> Result<bool, AllocError>
-    requires well { RunsWell executive.old.compiled.model runner.old }
+fn prepare(
+    alloc: Global,
+    executive: &mut Executive,
+    running: &mut Running,
+) -> Result<bool, AllocError>
+    requires well { RunsInRoom executive.old.compiled.model running.old }
     requires room { executive.old.state.ticks + 1 < 2 ^ 64 }
     ensures puts { IfOk result (λ ended. (put : Option Event)
         × TurnsBefore executive.old.state.holding executive.old.compiled.model
-        (sequencer executive.old.state runner.old) put runner.new
+        (sequencer executive.old.state running.old.runner) put running.new.runner
         × Prepares executive.old.compiled executive.old.state put executive.new.state
-        × (ended ≡ ends runner.old runner.new)) }
+        × (ended ≡ ends running.old.runner running.new.runner)) }
     ensures compiled { executive.new.compiled ≡ executive.old.compiled }
-    ensures well { RunsWell executive.old.compiled.model runner.new }
+    ensures well { RunsInRoom executive.old.compiled.model running.new }
 {
     if executive.holding() {
         return Ok(false);
     }
-    let before = runner.ended();
-    let goal = turn(executive, runner)?;
-    ask(executive, goal)?;
-    Ok(ends(before, runner.ended()))
+    let before = running.runner.ended();
+    turn(executive, running);
+    let goal = Vec::from_slice(alloc, running.room.goal())?;
+    ask(executive, List::of(goal))?;
+    Ok(ends(before, running.runner.ended()))
 }
 
 /// Makes a tick. The error is out of memory, and then the executive is as before.
@@ -108,20 +117,20 @@ fn make_report(executive: &mut Executive) -> Result<TickReport, AllocError>
 fn make_tick(
     alloc: Global,
     executive: &mut Executive,
-    runner: &mut Runner,
+    running: &mut Running,
     out: &mut Out,
 ) -> Result<(), AllocError>
-    requires well { RunsWell executive.old.compiled.model runner.old }
+    requires well { RunsInRoom executive.old.compiled.model running.old }
     requires room { executive.old.state.ticks + 1 < 2 ^ 64 }
     ensures makes { OnOk result (Appended (PrintsEvent executive.old.compiled executive.old.state
-        runner.old Tick executive.new.state runner.new) out.old out.new) }
+        running.old.runner Tick executive.new.state running.new.runner) out.old out.new) }
     ensures compiled { executive.new.compiled ≡ executive.old.compiled }
-    ensures well { RunsWell executive.old.compiled.model runner.new }
+    ensures well { RunsInRoom executive.old.compiled.model running.new }
     ensures front { IsFront out.old out.new }
 {
-    let ended = prepare(executive, runner)?;
+    let ended = prepare(alloc, executive, running)?;
     let report = make_report(executive)?;
-    tell(alloc, executive.compiled().model(), &report, ended, out)
+    tell(executive.compiled().model(), &report, ended, out)
 }
 
 /// Follows an event that is no tick: a reset begins the program again.
@@ -142,21 +151,21 @@ fn follow(runner: &mut Runner, event: &Event)
 /// Makes an event that is no tick.
 fn make_other(
     executive: &mut Executive,
-    runner: &mut Runner,
+    running: &mut Running,
     event: &Event,
 ) -> Result<(), AllocError>
     requires may_come { MayCome executive.old.compiled.model executive.old.state.pending
         executive.old.state.mirrored event.now }
     requires other { IsTick event.now → ⊥ }
-    requires well { RunsWell executive.old.compiled.model runner.old }
+    requires well { RunsInRoom executive.old.compiled.model running.old }
     requires room { executive.old.state.ticks + 1 < 2 ^ 64 }
-    ensures makes { OnOk result (MakesEvent executive.old.compiled executive.old.state runner.old
-        event.now executive.new.state runner.new None) }
+    ensures makes { OnOk result (MakesEvent executive.old.compiled executive.old.state running.old.runner
+        event.now executive.new.state running.new.runner None) }
     ensures compiled { executive.new.compiled ≡ executive.old.compiled }
-    ensures well { RunsWell executive.old.compiled.model runner.new }
+    ensures well { RunsInRoom executive.old.compiled.model running.new }
 {
     executive.event(event)?;
-    follow(runner, event);
+    follow(&mut running.runner, event);
     Ok(())
 }
 
@@ -165,23 +174,23 @@ fn make_other(
 pub fn make(
     alloc: Global,
     executive: &mut Executive,
-    runner: &mut Runner,
+    running: &mut Running,
     event: &Event,
     out: &mut Out,
 ) -> Result<(), AllocError>
     requires may_come { MayCome executive.old.compiled.model executive.old.state.pending
         executive.old.state.mirrored event.now }
-    requires well { RunsWell executive.old.compiled.model runner.old }
+    requires well { RunsInRoom executive.old.compiled.model running.old }
     requires room { executive.old.state.ticks + 1 < 2 ^ 64 }
     ensures makes { OnOk result (Appended (PrintsEvent executive.old.compiled executive.old.state
-        runner.old event.now executive.new.state runner.new) out.old out.new) }
+        running.old.runner event.now executive.new.state running.new.runner) out.old out.new) }
     ensures ticks { OnOk result (executive.new.state.ticks < executive.old.state.ticks + 2) }
     ensures compiled { executive.new.compiled ≡ executive.old.compiled }
-    ensures well { RunsWell executive.old.compiled.model runner.new }
+    ensures well { RunsInRoom executive.old.compiled.model running.new }
     ensures front { IsFront out.old out.new }
 {
     if let Event::Tick = event {
-        return make_tick(alloc, executive, runner, out);
+        return make_tick(alloc, executive, running, out);
     }
-    make_other(executive, runner, event)
+    make_other(executive, running, event)
 }

@@ -1,6 +1,5 @@
 use Rattle.std.proofs.Common.{◌+◌, ◌-◌, ◌*◌, length}
-use Rattle.std.specs.Prelude.{IfSome}
-use Rattle.consistency.specs.Spaces.{IsWorldSpace}
+use Rattle.control_program.specs.Rooms.{IsReady}
 use Rattle.control_program.proofs.PartsTurns.{AlongIn}
 use Rattle.control_program.proofs.turning.+turning.Given as goal
 
@@ -16,5 +15,5 @@ decreases-turn_parts l = 3 * (length l.asking.now.nodes.now - l.at) + 3
 abbrev pub invariant-turn_parts-loop : goal.invariant-turn_parts-loop
 invariant-turn_parts-loop l = record {
   along : AlongIn l.asking l.fn.in_order l.fn.at l.fn.count l.fn.course l.course l.place l.counter l.all_ended;
-  space : IfSome l.space (IsWorldSpace l.asking.rules.now.worlds.now);
+  ready : IsReady l.asking l.course;
 }

@@ -11,11 +11,11 @@ begin-requires c =
     let same : c.new-model.result ≡ c.self.inside.executive.compiled.model = cc in
     record { well = subst (λ (m : PlantModel). IfSome c.in-Ok.runner (RunsWell m)) same (well_read c.new-model.result c.in-Reading.reader c.args.line.now c.in-Ok.runner c.read_program.new.reader c.in-Ok.ensures.answer) }
 
-pub returns-in-Ok-clause-serves : goal.returns-in-Ok-clause-serves
-returns-in-Ok-clause-serves c =
+pub returns-in_ok-begin-in-Ok-clause-serves : goal.returns-in_ok-begin-in-Ok-clause-serves
+returns-in_ok-begin-in-Ok-clause-serves c =
     let same : c.new-model.result ≡ c.self.inside.executive.compiled.model = cc in
     let read = subst (λ (m : PlantModel). ReadsTo m c.in-Reading.reader c.args.line.now (Ok c.in-Ok.runner) c.read_program.new.reader) same c.in-Ok.ensures.answer in
-    reads_on _ _ c.self.view_is c.args.number c.args.line.now c.in-Reading.reader c.read_program.new.reader (ap stage_of c.in-Reading.is) c.in-Ok.runner _ c.args.out.now read c.begin.ensures
+    reads_on _ _ c.self.view_is c.args.number c.args.line.now c.in-Reading.reader c.read_program.new.reader (ap stage_of c.in-Reading.is) c.in-Ok.runner _ c.args.out.now read c.in_ok-begin-in-Ok.ensures
 
 pub returns-in_ok-refuse_stop_to-in-Err-clause-serves : goal.returns-in_ok-refuse_stop_to-in-Err-clause-serves
 returns-in_ok-refuse_stop_to-in-Err-clause-serves c =
