@@ -180,19 +180,26 @@ fn opened(alloc: Global, more: &str) -> Option<Tracker>
     Tracker::open(alloc, compiled).ok()
 }
 
-/// Whether a fourth tick revises the third.
-fn revises_the_third_tick(alloc: Global) -> bool {
-    let Some(mut tracker) = opened(alloc, FAILING_DRIVER) else {
-        return false;
-    };
-    let first = ticked(alloc, &mut tracker, (None, &[]));
-    let second = ticked(alloc, &mut tracker, (Some(0), &[]));
-    let third = ticked(alloc, &mut tracker, (None, &[]));
-    let last = ticked(alloc, &mut tracker, (Some(2), &[(0, 0)]));
+/// Whether a fourth tick of the tracker revises the third.
+fn revises(alloc: Global, tracker: &mut Tracker) -> bool
+    requires { tracker.old.state.ticks ≡ 0 }
+{
+    let first = ticked(alloc, tracker, (None, &[]));
+    let second = ticked(alloc, tracker, (Some(0), &[]));
+    let third = ticked(alloc, tracker, (None, &[]));
+    let last = ticked(alloc, tracker, (Some(2), &[(0, 0)]));
     finds(&first, 1, 0, &[0, 0], None)
         && finds(&second, 2, 0, &[1, 0], None)
         && finds(&third, 3, 0, &[1, 0], None)
         && finds(&last, 4, 2, &[0, 0], Some(3))
+}
+
+/// Whether a fourth tick revises the third.
+fn revises_the_third_tick(alloc: Global) -> bool {
+    match opened(alloc, FAILING_DRIVER) {
+        None => false,
+        Some(mut tracker) => revises(alloc, &mut tracker),
+    }
 }
 
 /// Whether the tracker goes to its start.
@@ -202,18 +209,33 @@ fn restarts(tracker: &mut Tracker) -> bool
     tracker.reset().is_ok()
 }
 
-/// Whether a tick that nothing explains is followed by holding, until a reset.
-fn holds_until_a_reset(alloc: Global) -> bool {
-    let Some(mut tracker) = opened(alloc, NOTHING_MORE) else {
-        return false;
-    };
-    let first = ticked(alloc, &mut tracker, (None, &[(0, 1)]));
-    let second = ticked(alloc, &mut tracker, (Some(0), &[]));
-    if !restarts(&mut tracker) {
+/// Whether the tracker is at its start again behind a reset.
+fn starts_again(alloc: Global, tracker: &mut Tracker) -> bool
+    requires { tracker.old.state.ticks ≤ 2 }
+{
+    if !restarts(tracker) {
         return false;
     }
-    let third = ticked(alloc, &mut tracker, (None, &[]));
-    has_no_trajectory(&first) && is_holding(&second) && finds(&third, 1, 0, &[0, 0], None)
+    let third = ticked(alloc, tracker, (None, &[]));
+    finds(&third, 1, 0, &[0, 0], None)
+}
+
+/// Whether a tick of the tracker that nothing explains is followed by holding, until a reset.
+fn holds(alloc: Global, tracker: &mut Tracker) -> bool
+    requires { tracker.old.state.ticks ≡ 0 }
+{
+    let first = ticked(alloc, tracker, (None, &[(0, 1)]));
+    let second = ticked(alloc, tracker, (Some(0), &[]));
+    let again = starts_again(alloc, tracker);
+    has_no_trajectory(&first) && is_holding(&second) && again
+}
+
+/// Whether a tick that nothing explains is followed by holding, until a reset.
+fn holds_until_a_reset(alloc: Global) -> bool {
+    match opened(alloc, NOTHING_MORE) {
+        None => false,
+        Some(mut tracker) => holds(alloc, &mut tracker),
+    }
 }
 
 #[test]

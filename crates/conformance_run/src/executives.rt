@@ -96,20 +96,33 @@ pub fn opened(alloc: Global, text: &str) -> Option<Executive>
     Executive::open(alloc, compiled).ok()
 }
 
-/// Whether all of this comes one after the other, and at the end so many pairs were seen last.
-fn plays(alloc: Global, text: &str, rows: &[(&str, Comes<'_>, &[u8])], seen: usize) -> bool
-    requires { length rows.now < 1000 }
+/// Whether all of this comes one after the other from the start on, and at the end so many pairs were seen last.
+fn all_come(
+    alloc: Global,
+    executive: &mut Executive,
+    rows: &[(&str, Comes<'_>, &[u8])],
+    seen: usize,
+) -> bool
+    requires start { executive.old.state.ticks ≡ 0 }
+    requires few { length rows.now < 1000 }
 {
-    let Some(mut executive) = opened(alloc, text) else {
-        return false;
-    };
     for i in 0..rows.len() {
         let (line, comes, base) = rows[i];
-        if !comes_of(alloc, &mut executive, line, comes, base) {
+        if !comes_of(alloc, executive, line, comes, base) {
             return false;
         }
     }
     executive.last_seen().pairs.len() == seen
+}
+
+/// The same of an executive of the model of this text.
+fn plays(alloc: Global, text: &str, rows: &[(&str, Comes<'_>, &[u8])], seen: usize) -> bool
+    requires { length rows.now < 1000 }
+{
+    match opened(alloc, text) {
+        None => false,
+        Some(mut executive) => all_come(alloc, &mut executive, rows, seen),
+    }
 }
 
 #[test]

@@ -32,18 +32,27 @@ fn estimate_is_plant(alloc: Global, executive: &mut Executive, line: &str) -> bo
     }
 }
 
-/// How many lines the script of a document has, if each estimate of its ticks is where the plant stood.
-fn lines_followed(alloc: Global, text: &str) -> Option<u64> {
-    let (model, script) = text.split_once("\nscript\n")?;
-    let mut executive = opened(alloc, model)?;
+/// How many lines the script has, if each estimate of its ticks from the start on is where the plant stood.
+fn followed(alloc: Global, executive: &mut Executive, script: &str) -> Option<u64>
+    requires { executive.old.state.ticks ≡ 0 }
+{
     let mut made = 0u64;
     for line in script.lines() {
-        if made == 9999 || !estimate_is_plant(alloc, &mut executive, line) {
+        if made == 9999 || !estimate_is_plant(alloc, executive, line) {
             return None;
         }
         made += 1;
     }
     Some(made)
+}
+
+/// The same of the script of a document.
+fn lines_followed(alloc: Global, text: &str) -> Option<u64> {
+    let (model, script) = text.split_once("\nscript\n")?;
+    match opened(alloc, model) {
+        None => None,
+        Some(mut executive) => followed(alloc, &mut executive, script),
+    }
 }
 
 /// The same of the document of a seed.

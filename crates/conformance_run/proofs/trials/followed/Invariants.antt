@@ -1,5 +1,5 @@
 use Rattle.std.proofs.Common.{◌≤◌}
-use Rattle.conformance_run.proofs.trials.lines_followed.Given as goal
+use Rattle.conformance_run.proofs.trials.followed.Given as goal
 
 abbrev pub invariant-loop-line : goal.invariant-loop-line
 invariant-loop-line l = (l.executive.state.ticks ≤ l.made) × (l.made ≤ 9999)
