@@ -1,6 +1,6 @@
 //! The plant of a trial: the document of a seed, followed line by line.
 
-ghost use Rattle.std.specs.Prelude.{◌<◌, ◌≤◌, ◌+◌};
+ghost use Rattle.std.specs.Prelude.{◌≡◌, ◌<◌, ◌≤◌, ◌+◌};
 
 use crate::executives::{event_of, opened};
 use cca_base::List;
