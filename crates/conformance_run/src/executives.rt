@@ -88,12 +88,13 @@ fn comes_of(
     }
 }
 
-/// An executive of the model of this text, at the start.
-pub fn opened(alloc: Global, text: &str) -> Option<Executive>
-    ensures { IfSome result (λ executive. executive.state.ticks ≡ 0) }
+/// An executive of the model of this text, at the start. It is large, so it stands in a box.
+pub fn opened(alloc: Global, text: &str) -> Option<Box<Executive>>
+    ensures { IfSome result (λ executive. executive.value.state.ticks ≡ 0) }
 {
     let compiled = compiled_of(alloc, text)?;
-    Executive::open(alloc, compiled).ok()
+    let executive = Executive::open(alloc, compiled).ok()?;
+    Box::new(alloc, executive).ok()
 }
 
 /// Whether all of this comes one after the other from the start on, and at the end so many pairs were seen last.
