@@ -92,12 +92,12 @@ pub record IsWritten (c mode cost : ℕ) (price : Option ℕ) (old new : Columns
   pub behind : new.behind ≡ old.behind
   pub before : new.before ≡ old.before
 
-module _ (t : Tick) (c : ℕ) (within : c < length t.rows.now) where
+module _ (t : Tick) (c : ℕ) (within : c < length t.rows.now.rows) where
   abbrev q : Question
   q = asked t
 
   abbrev rows : List (List Choice)
-  rows = t.rows.now
+  rows = t.rows.now.rows
 
   -- the component's place is itself
   own_place : (place : ℕ) → place < length (numbers_below (length rows)) → slice_index (numbers_below (length rows)) place ≡ c → place ≡ c

@@ -87,7 +87,7 @@ module _ (t : Tick) where
   m = t.rules.now.model.now
 
   abbrev rows : List (List Choice)
-  rows = t.rows.now
+  rows = t.rows.now.rows
 
   -- the modes of a solution are a state
   solved_state : (values costs : List ℕ) → (asked t).solves values costs → IsState m values

@@ -1,9 +1,10 @@
 -- The first of the states that may be chosen and that agree with what is seen.
-use Rattle.std.specs.Prelude.{ℕ, List}
+use Rattle.std.specs.Prelude.{ℕ, List, Option, None, Some}
 use Rattle.cca_base.specs.declared.cube.Pair.{Pair}
 use Rattle.cca_base.specs.PlantModel.{PlantModel}
 use Rattle.cca_base.specs.Shown.{CanShow}
 use Rattle.cca_base.specs.declared.choice.Choice.{Choice}
+use Rattle.cca_base.specs.declared.state.State.{State}
 use Rattle.cost_search.specs.Search.{IsPicked, IsUpTo}
 use Rattle.mode_estimator.specs.declared.answer.Estimate.{Estimate}
 use Rattle.mode_estimator.specs.declared.answer.Estimate.TheVariants.{Found, Unexplained}
@@ -18,3 +19,8 @@ abbrev pub IsFirstShown : PlantModel → List (List Choice) → List Pair → Es
 IsFirstShown m rows seen (Found state cost) =
     Shows m rows seen state.modes cost × ((t : List ℕ) (more : ℕ) → Shows m rows seen t more → IsUpTo cost state.modes more t)
 IsFirstShown m rows seen Unexplained = (s : List ℕ) (cost : ℕ) → Shows m rows seen s cost → ⊥
+
+-- a found state with what it costs, or that none was found
+abbrev pub found_in : Option ℕ → State → Estimate
+found_in None found = Unexplained
+found_in (Some cost) found = Found found cost

@@ -34,31 +34,31 @@ number_at (suc n) at h = elim (below_next at n (omega (arith, h))) [
 
 -- what is asked at a tick
 abbrev pub asked : Tick → Question
-asked t = tick_of t.rules.now.model.now t.rows.now t.seen.now.pairs
+asked t = tick_of t.rules.now.model.now t.rows.now.rows t.seen.now.pairs
 
 abbrev pub tick_means : PathMeaning Tick TickSpace
-tick_means = record { question = asked; is_space = λ t space. IsTickSpace t.rules.now.worlds.now (length t.rows.now) space }
+tick_means = record { question = asked; is_space = λ t space. IsTickSpace t.rules.now.worlds.now (length t.rows.now.rows) space }
 
 -- each place is one of a component
-pub tick_owned : (t : Tick) → All (λ c. c < length t.rows.now) (numbers_below (length t.rows.now))
-tick_owned t = numbers_are_below (length t.rows.now)
+pub tick_owned : (t : Tick) → All (λ c. c < length t.rows.now.rows) (numbers_below (length t.rows.now.rows))
+tick_owned t = numbers_are_below (length t.rows.now.rows)
 
-pub tick_few : (t : Tick) → (length t.rows.now ≤ MAX_ROWS) × (length (numbers_below (length t.rows.now)) ≤ MAX_ROWS)
+pub tick_few : (t : Tick) → (length t.rows.now.rows ≤ MAX_ROWS) × (length (numbers_below (length t.rows.now.rows)) ≤ MAX_ROWS)
 tick_few t =
     let few = t.of_rows.rows_fit.few in
-    (few, omega (arith, length-numbers (length t.rows.now)))
+    (few, omega (arith, length-numbers (length t.rows.now.rows)))
 
 -- a choice of a row isn't dear
-pub tick_whole : (t : Tick) (values costs : List ℕ) → (asked t).solves values costs → (length values ≡ length (numbers_below (length t.rows.now))) × ((c : ℕ) → slice_index costs c ≤ MAX_PATH)
+pub tick_whole : (t : Tick) (values costs : List ℕ) → (asked t).solves values costs → (length values ≡ length (numbers_below (length t.rows.now.rows))) × ((c : ℕ) → slice_index costs c ≤ MAX_PATH)
 tick_whole t values costs h = (
-  h.states ∙ sym (length-numbers (length t.rows.now)),
-  λ c. elim (three_ways c (length t.rows.now)) [
+  h.states ∙ sym (length-numbers (length t.rows.now.rows)),
+  λ c. elim (three_ways c (length t.rows.now.rows)) [
     | inl less ↦
         let row = t.of_rows.rows_fit.each c [] less in
-        let cheap : slice_index costs c ≤ MAX_COST = All-contains (λ (x : Choice). x.cost ≤ MAX_COST) (get_or t.rows.now c []) (record { mode = slice_index values c; cost = slice_index costs c }) row.cheap (h.each c less) in
+        let cheap : slice_index costs c ≤ MAX_COST = All-contains (λ (x : Choice). x.cost ≤ MAX_COST) (get_or t.rows.now.rows c []) (record { mode = slice_index values c; cost = slice_index costs c }) row.cheap (h.each c less) in
         omega (arith, cheap)
     | inr other ↦
-        let behind = reaches (length t.rows.now) c (turned c (length t.rows.now) other) in
+        let behind = reaches (length t.rows.now.rows) c (turned c (length t.rows.now.rows) other) in
         let none : slice_index costs c ≡ 0 = get_or_past costs c 0 (omega (arith, h.full, behind)) in
         omega (arith, none)
   ],
@@ -74,8 +74,8 @@ place_in rows c at within = elim (three_ways c (length rows)) [
 ]
 
 -- what a component costs depends on its own mode alone
-pub tick_own : (t : Tick) (c cost : ℕ) (values others : List ℕ) → ((place : ℕ) → place < length (numbers_below (length t.rows.now)) → slice_index (numbers_below (length t.rows.now)) place ≡ c → slice_index values place ≡ slice_index others place)
-    → IsChoice t.rows.now c (slice_index values c) cost → IsChoice t.rows.now c (slice_index others c) cost
+pub tick_own : (t : Tick) (c cost : ℕ) (values others : List ℕ) → ((place : ℕ) → place < length (numbers_below (length t.rows.now.rows)) → slice_index (numbers_below (length t.rows.now.rows)) place ≡ c → slice_index values place ≡ slice_index others place)
+    → IsChoice t.rows.now.rows c (slice_index values c) cost → IsChoice t.rows.now.rows c (slice_index others c) cost
 tick_own t c cost values others same (at, inside, is) =
-    let within : c < length t.rows.now = place_in t.rows.now c at inside in
-    subst (λ mode. IsChoice t.rows.now c mode cost) (same c (omega (arith, within, length-numbers (length t.rows.now))) (number_at (length t.rows.now) c within)) (at, inside, is)
+    let within : c < length t.rows.now.rows = place_in t.rows.now.rows c at inside in
+    subst (λ mode. IsChoice t.rows.now.rows c mode cost) (same c (omega (arith, within, length-numbers (length t.rows.now.rows))) (number_at (length t.rows.now.rows) c within)) (at, inside, is)

@@ -5,18 +5,53 @@ ghost use Rattle.std.specs.Prelude.{IfOk, All};
 ghost use Rattle.cca_base.specs.Prelude.{HasValue, IsState};
 ghost use Rattle.consistency.specs.Worlds.{AreWorldsOf};
 ghost use Rattle.mode_estimator.specs.Estimated.{IsEstimate};
+ghost use Rattle.mode_estimator.specs.First.{found_in};
 ghost use Rattle.mode_estimator.specs.Spaces.{IsEstimateSpace};
 
 use crate::answer::Estimate;
-use crate::first::first_shown;
+use crate::first::{copy_modes, first_shown};
 use crate::space::EstimateSpace;
 use cca_base::{Compiled, Seen, State};
 use consistency::{Rules, Worlds};
 use std::alloc::{AllocError, Global};
-use successors::{choices, obey};
+use successors::{choices_in, obey};
 
 /// The state of least cost that has a world agreeing with what is seen, the first in mode order among equals, by the
-/// clauses of the model's rules and in memory for estimates, both made once for many ticks. The error is out of memory.
+/// clauses of the model's rules and in memory for estimates, both made once for many ticks: what it costs, and the state is
+/// the found one of the memory. None where no state agrees. It takes no memory.
+pub fn estimate_in(
+    alloc: Global,
+    compiled: &Compiled,
+    worlds: &Worlds,
+    state: &State,
+    command: Option<u16>,
+    seen: &Seen,
+    space: &mut EstimateSpace,
+) -> Option<u64>
+    requires worlds { AreWorldsOf compiled.now.model worlds.now }
+    requires state { IsState compiled.now.model state.now.modes }
+    requires seen { All (λ p. HasValue compiled.now.model p.item p.value) seen.now.pairs }
+    requires space { IsEstimateSpace compiled.now.model worlds.now space.old }
+    ensures estimate { IsEstimate compiled.now.model state.now.modes command seen.now.pairs (found_in result space.new.found) }
+    ensures space { IsEstimateSpace compiled.now.model worlds.now space.new }
+{
+    let model = compiled.model();
+    copy_modes(&state.modes, &mut space.found.modes);
+    obey(compiled, &mut space.found, command);
+    let pairs = seen.pairs.as_slice();
+    if worlds.agrees(model, &space.found, pairs, &mut space.tick.worlds) {
+        return Some(0);
+    }
+    choices_in(compiled, state, command, &mut space.choices);
+    let rules = Rules {
+        alloc,
+        model,
+        worlds,
+    };
+    first_shown(&rules, seen, space)
+}
+
+/// The same, and a found state is a copy. The error is out of memory.
 pub fn estimate_by(
     alloc: Global,
     compiled: &Compiled,
@@ -33,27 +68,13 @@ pub fn estimate_by(
     ensures estimate { IfOk result (IsEstimate compiled.now.model state.now.modes command seen.now.pairs) }
     ensures space { IsEstimateSpace compiled.now.model worlds.now space.new }
 {
-    let model = compiled.model();
-    let mut nominal = state.copy(alloc)?;
-    obey(compiled, &mut nominal, command);
-    if worlds.agrees(
-        model,
-        &nominal,
-        seen.pairs.as_slice(),
-        &mut space.tick.worlds,
-    ) {
-        return Ok(Estimate::Found {
-            state: nominal,
-            cost: 0,
-        });
+    match estimate_in(alloc, compiled, worlds, state, command, seen, space) {
+        None => Ok(Estimate::Unexplained),
+        Some(cost) => {
+            let state = space.found.copy(alloc)?;
+            Ok(Estimate::Found { state, cost })
+        }
     }
-    let rows = choices(alloc, compiled, state, command)?;
-    let rules = Rules {
-        alloc,
-        model,
-        worlds,
-    };
-    first_shown(&rules, seen, &rows, space)
 }
 
 /// The same for one tick alone.

@@ -9,5 +9,5 @@ mod space;
 mod tick;
 
 pub use answer::Estimate;
-pub use least::{estimate, estimate_by};
+pub use least::{estimate, estimate_by, estimate_in};
 pub use space::EstimateSpace;

@@ -1,13 +1,14 @@
 //! Memory for the estimates of a model's ticks, made once for many of them.
 
-ghost use Rattle.std.specs.Prelude.{IfOk};
+ghost use Rattle.std.specs.Prelude.{◌≡◌, IfOk};
 ghost use Rattle.mode_estimator.specs.Spaces.{IsEstimateSpace, IsTickSpace};
 
 use bounded_list::BoundedList;
-use cca_base::{List, Model, Pair};
+use cca_base::{List, Model, Pair, State, numbers_below};
 use consistency::{WorldSpace, Worlds};
 use group_search::SearchRoom;
 use std::alloc::{AllocError, Global};
+use successors::ChoiceSpace;
 
 /// Memory for questions whether modes clash with what is seen.
 #[derive(Drop)]
@@ -26,6 +27,12 @@ pub struct EstimateSpace {
     pub(crate) search: SearchRoom,
     /// The modes that each component may choose.
     pub(crate) masks: List<u64>,
+    /// The choices of a tick.
+    pub(crate) choices: ChoiceSpace,
+    /// The component of each place of a tick's question: itself.
+    pub(crate) components: Vec<u16>,
+    /// The state that was found last.
+    pub(crate) found: State,
 }
 
 impl TickSpace {
@@ -46,11 +53,29 @@ impl EstimateSpace {
     pub fn of(alloc: Global, model: &Model, worlds: &Worlds) -> Result<EstimateSpace, AllocError>
         ensures { IfOk result (IsEstimateSpace model.now worlds.now) }
     {
-        let components = model.components().len();
+        let count = model.components().len();
+        let components = numbers_below(alloc, count)?;
+        let found = State {
+            modes: List::of(vec![in alloc; 0; count]?),
+        };
+        let masks = List::of(vec![in alloc; 0; count]?);
+        let choices = ChoiceSpace::of(alloc, model)?;
+        let tick = TickSpace::of(alloc, count, worlds)?;
+        let search = SearchRoom::of(alloc, count, count, 0)?;
         Ok(EstimateSpace {
-            tick: TickSpace::of(alloc, components, worlds)?,
-            search: SearchRoom::of(alloc, components, components, 0)?,
-            masks: List::of(vec![in alloc; 0; components]?),
+            tick,
+            search,
+            masks,
+            choices,
+            components,
+            found,
         })
+    }
+
+    /// The state that was found last.
+    pub fn found(&self) -> &State
+        ensures { result.now ≡ self.now.found }
+    {
+        &self.found
     }
 }

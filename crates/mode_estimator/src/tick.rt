@@ -12,21 +12,22 @@ ghost use Rattle.mode_estimator.specs.Ticks.{AreRowsOf, IsNextIn, ArePairsOf, is
 
 use crate::space::TickSpace;
 use bounded_list::BoundedList;
-use cca_base::{Choice, List, Pair, Seen};
+use cca_base::{Choice, Pair, Seen};
 use consistency::Rules;
 use group_search::{Columns, Paths, has_value, is_in_group};
+use successors::ChoiceRows;
 
 /// What each component may choose at a tick, and what is seen.
 #[derive(Drop)]
-pub(crate) struct Tick<'a> {
+pub(crate) struct Tick<'a, 'b> {
     pub rules: &'a Rules<'a>,
     pub seen: &'a Seen,
-    pub rows: &'a [List<Choice>],
+    pub rows: &'b ChoiceRows,
     /// The component of each place: itself.
-    pub components: &'a [u16],
+    pub components: &'b [u16],
     ghost values: { All (λ p. HasValue rules.now.model.now p.item p.value) seen.now.pairs },
-    ghost of_rows: { AreRowsOf rules.now.model.now rows.now },
-    ghost places: { components.now ≡ numbers_below (length rows.now) },
+    ghost of_rows: { AreRowsOf rules.now.model.now rows.now.rows },
+    ghost places: { components.now ≡ numbers_below (length rows.now.rows) },
 }
 
 /// The place of the row's first choice from a place on whose mode is in the set.
@@ -44,24 +45,24 @@ fn next_in(row: &[Choice], mask: u64, from: usize) -> Option<usize>
 
 /// Writes the components of the group with their modes, and those with one choice with the mode of that choice.
 fn write_pairs(
-    rows: &[List<Choice>],
+    rows: &ChoiceRows,
     modes: &[u8],
     names: &[u16],
     group: Option<u16>,
     pairs: &mut BoundedList<Pair>,
 )
-    requires rows { length rows.now ≡ length modes.now }
+    requires rows { length rows.now.rows ≡ length modes.now }
     requires names { length names.now ≡ length modes.now }
     requires few { length modes.now ≤ MAX_ROWS }
     requires room { length modes.now ≤ pairs.old.room }
     ensures cube { IsCube pairs.new.items }
-    ensures pairs { ArePairsOf rows.now names.now group modes.now pairs.new.items }
+    ensures pairs { ArePairsOf rows.now.rows names.now group modes.now pairs.new.items }
     ensures room { pairs.new.room ≡ pairs.old.room }
 {
     pairs.clear();
     for c in 0..modes.len() {
         let item = c as u16;
-        let row = rows[c].as_slice();
+        let row = rows.get(c);
         if row.len() == 1 {
             pairs.push(Pair {
                 item,
@@ -77,21 +78,21 @@ fn write_pairs(
 }
 
 /// Writes the pairs of components that have more than one choice: each state has the others.
-fn write_free(rows: &[List<Choice>], pairs: &[Pair], part: &mut BoundedList<Pair>)
-    requires rows { All (λ p. p.item < length rows.now) pairs.now }
+fn write_free(rows: &ChoiceRows, pairs: &[Pair], part: &mut BoundedList<Pair>)
+    requires rows { All (λ p. p.item < length rows.now.rows) pairs.now }
     requires room { length pairs.now ≤ part.old.room }
-    ensures part { part.new.items ≡ filter (λ p. not (is_fixed rows.now p.item)) pairs.now }
+    ensures part { part.new.items ≡ filter (λ p. not (is_fixed rows.now.rows p.item)) pairs.now }
     ensures room { part.new.room ≡ part.old.room }
 {
     part.clear();
     for pair in pairs {
-        if rows[pair.item as usize].len() != 1 {
+        if rows.get(pair.item as usize).len() != 1 {
             part.push(*pair);
         }
     }
 }
 
-impl<'a> Paths<TickSpace> for Tick<'a> {
+impl<'a, 'b> Paths<TickSpace> for Tick<'a, 'b> {
     ghost use Rattle.mode_estimator.specs.TickLaws.{tick_few, tick_means, tick_own, tick_owned, tick_whole};
 
     ghost means = { tick_means };
@@ -118,7 +119,7 @@ impl<'a> Paths<TickSpace> for Tick<'a> {
 
     fn column(&self, component: u16, masks: &[u64], columns: &mut Columns) -> bool {
         let at = component as usize;
-        let row = self.rows[at].as_slice();
+        let row = self.rows.get(at);
         let Some(first) = next_in(row, masks[at], 0) else {
             return false;
         };

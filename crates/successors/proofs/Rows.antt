@@ -1,8 +1,8 @@
 -- The rows of all components.
-use Rattle.std.proofs.Common.{◌≡◌, inl, inr, ℕ, ◌+◌, ◌<◌, ◌==◌, List, [], ◌∷◌, ◌++◌, length, get_or, set, Option, Some, None, IfSome, IsNone, refl, sym, ap, subst, ◌∙◌, arith}
+use Rattle.std.proofs.Common.{◌≡◌, ◌≢◌, inl, inr, ℕ, ◌+◌, ◌<◌, ◌==◌, List, [], length, get_or, set, Option, Some, None, IfSome, IsNone, refl, sym, ap, subst, ◌∙◌, arith}
 use Rattle.std.proofs.lemmas.Bool.{cases_eq, eq-eqb, ne_eqb, cond-true, cond-false}
-use Rattle.std.proofs.lemmas.List.{get_or_push, get_or_append_left, get_or-set_same, get_or-set_other, length_push}
-use Rattle.std.proofs.lemmas.List.Elements.{All-push, All-nil}
+use Rattle.std.proofs.lemmas.List.{get_or-set_same, get_or-set_other}
+use Rattle.std.proofs.lemmas.List.Elements.{All-from_get_or}
 use Rattle.cca_base.specs.declared.cube.Pair.{Pair}
 use Rattle.cca_base.specs.PlantModel.{PlantModel}
 use Rattle.cca_base.specs.Model.{WellFormed, mode_counts}
@@ -11,23 +11,26 @@ use Rattle.cca_base.specs.Successors.{Nominal}
 use Rattle.cca_base.specs.declared.choice.Choice.{Choice}
 use Rattle.cca_base.specs.Choices.{IsRow}
 use Rattle.successors.specs.Nominal.{IsSent, NoneSent}
-use Rattle.successors.specs.Choices.{AreRowsTo, AreChanges, AreChoices, mode_after, state_after}
+use Rattle.successors.specs.Choices.{AreRowsTo, AreChanges, AreChoices, IsWritten, mode_after, state_after}
 
-pub rows_none : (m : PlantModel) (s : List ℕ) (moved : Option Pair) (rows : List (List Choice)) → rows ≡ [] → AreRowsTo m s moved 0 rows
-rows_none m s moved rows e = subst (AreRowsTo m s moved 0) (sym e) (record { full = refl; rows_fit = All-nil IsRow; each = λ c h. absurd (omega arith) })
+pub rows_none : (m : PlantModel) (s : List ℕ) (moved : Option Pair) (rows : List (List Choice)) → AreRowsTo m s moved 0 rows
+rows_none m s moved rows = record { rows_fit = λ c h. absurd (omega arith); each = λ c h. absurd (omega arith) }
 
-pub rows_more : (m : PlantModel) (s : List ℕ) (moved : Option Pair) (c : ℕ) (rows : List (List Choice)) (row : List Choice) → AreRowsTo m s moved c rows → IsRow row
-    → AreChanges m c (get_or s c 0) (mode_after moved c (get_or s c 0)) (get_or (mode_counts m) c 0) row → AreRowsTo m s moved (c + 1) (rows ++ row ∷ [])
-rows_more m s moved c rows row h own changes = record {
-  full = omega (arith, length_push rows row, h.full);
-  rows_fit = All-push IsRow rows row h.rows_fit own;
-  each = λ i lt. elim (cases_eq i c) [
-    | inl e ↦ subst (λ k. AreChanges m k (get_or s k 0) (mode_after moved k (get_or s k 0)) (get_or (mode_counts m) k 0) (get_or (rows ++ row ∷ []) k [])) (sym e)
-        (subst (AreChanges m c (get_or s c 0) (mode_after moved c (get_or s c 0)) (get_or (mode_counts m) c 0)) (sym (get_or_push rows row [] c h.full)) changes)
-    | inr ne ↦ (let below : i < c = omega arith in let inside : i < length rows = omega (arith, h.full) in
-        subst (AreChanges m i (get_or s i 0) (mode_after moved i (get_or s i 0)) (get_or (mode_counts m) i 0)) (sym (get_or_append_left rows (row ∷ []) [] i inside)) (h.each i below))
-  ];
-}
+pub rows_more : (m : PlantModel) (s : List ℕ) (moved : Option Pair) (c : ℕ) (old new : List (List Choice)) → c < length old → AreRowsTo m s moved c old
+    → IsWritten m c (get_or s c 0) (mode_after moved c (get_or s c 0)) old new → AreRowsTo m s moved (c + 1) new
+rows_more m s moved c old new within h w =
+    let here : w.row ≡ get_or new c [] = sym (ap (λ rows. get_or rows c []) w.is ∙ get_or-set_same old c w.row [] within) in
+    let there = λ (i : ℕ) (ne : i ≢ c). sym (ap (λ rows. get_or rows i []) w.is ∙ get_or-set_other old c i w.row [] ne) in record {
+      rows_fit = λ i lt. elim (cases_eq i c) [
+        | inl e ↦ subst (λ k. IsRow (get_or new k [])) (sym e) (subst IsRow here w.fits)
+        | inr ne ↦ subst IsRow (there i ne) (h.rows_fit i (omega arith))
+      ];
+      each = λ i lt. elim (cases_eq i c) [
+        | inl e ↦ subst (λ k. AreChanges m k (get_or s k 0) (mode_after moved k (get_or s k 0)) (get_or (mode_counts m) k 0) (get_or new k [])) (sym e)
+            (subst (AreChanges m c (get_or s c 0) (mode_after moved c (get_or s c 0)) (get_or (mode_counts m) c 0)) here w.changes)
+        | inr ne ↦ subst (AreChanges m i (get_or s i 0) (mode_after moved i (get_or s i 0)) (get_or (mode_counts m) i 0)) (there i ne) (h.each i (omega arith))
+      ];
+    }
 
 nominal_by : (m : PlantModel) (s : List ℕ) (k : Option ℕ) (moved : Option Pair) → IfSome moved (IsSent m s k) → (IsNone moved → NoneSent m s k) → Nominal m s k (state_after moved s)
 nominal_by m s k None some none = inr (none refl, refl)
@@ -42,14 +45,13 @@ mode_by (Some p) s c h = elim (cases_eq p.item c) [
 ]
 
 pub all_choices : (m : PlantModel) (s : List ℕ) (k : Option ℕ) (moved : Option Pair) (n : ℕ) (rows : List (List Choice)) → WellFormed m → IsState m s → IfSome moved (IsSent m s k)
-    → (IsNone moved → NoneSent m s k) → n ≡ length m.components → AreRowsTo m s moved n rows → AreChoices m s k rows
-all_choices m s k moved n rows fits state some none e h =
+    → (IsNone moved → NoneSent m s k) → n ≡ length m.components → length rows ≡ n → AreRowsTo m s moved n rows → AreChoices m s k rows
+all_choices m s k moved n rows fits state some none e full h =
     let few = fits.limits.components in
-    let full = h.full in
     let state_full = state.full in
     record {
-      rows_fit = record { few = omega arith; each = h.rows_fit };
-      full = h.full ∙ e;
+      rows_fit = record { few = omega arith; each = All-from_get_or IsRow rows [] (λ c lt. h.rows_fit c (omega arith)) };
+      full = full ∙ e;
       nominal = state_after moved s;
       is_nominal = nominal_by m s k moved some none;
       each = λ c x within. subst (λ to. AreChanges m c (get_or s c 0) to (get_or (mode_counts m) c 0) (get_or rows c [])) (mode_by moved s c (omega arith)) (h.each c (omega arith)) x;

@@ -1,5 +1,5 @@
 -- Rows of choices, and what each component may become.
-use Rattle.std.specs.Prelude.{◌≡◌, ◌↔◌, ℕ, ◌<◌, List, [], ◌∷◌, ◌++◌, length, All, Contains, Option, Some, None, Bool, ◌==◌, if◌then◌else◌, slice_set, slice_index, slice_index_or}
+use Rattle.std.specs.Prelude.{◌≡◌, ◌↔◌, ℕ, ◌<◌, List, [], ◌∷◌, ◌++◌, length, Contains, Option, Some, None, Bool, ◌==◌, if◌then◌else◌, slice_set, slice_index, slice_index_or}
 use Rattle.cca_base.specs.declared.cube.Pair.{Pair}
 use Rattle.cca_base.specs.declared.model.Failure.{Failure}
 use Rattle.cca_base.specs.PlantModel.{PlantModel}
@@ -40,12 +40,18 @@ abbrev pub state_after : Option Pair → List ℕ → List ℕ
 state_after None s = s
 state_after (Some p) s = slice_set s p.item p.value
 
--- rows of the components below this one
+-- the rows of the components below this one are written
 pub record AreRowsTo (m : PlantModel) (s : List ℕ) (moved : Option Pair) (bound : ℕ) (rows : List (List Choice)) : Type 0 where
-  pub full : length rows ≡ bound
-  pub rows_fit : All IsRow rows
+  pub rows_fit : (c : ℕ) → c < bound → IsRow (slice_index_or rows c [])
   pub each : (c : ℕ) → c < bound
       → AreChanges m c (slice_index s c) (mode_after moved c (slice_index s c)) (slice_index (mode_counts m) c) (slice_index_or rows c [])
+
+-- the component's row is written anew: what it may change to from a mode, where another is nominal
+pub record IsWritten (m : PlantModel) (c from nominal : ℕ) (old new : List (List Choice)) : Type 0 where
+  pub row : List Choice
+  pub fits : IsRow row
+  pub changes : AreChanges m c from nominal (slice_index (mode_counts m) c) row
+  pub is : new ≡ slice_set old c row
 
 -- per component exactly the modes to which it can change, each with what that costs
 pub record AreChoices (m : PlantModel) (s : List ℕ) (k : Option ℕ) (rows : List (List Choice)) : Type 0 where

@@ -2,12 +2,14 @@
 //! and the plant that follows the commands and faults.
 #![tactic(auto)]
 
+mod choice_space;
 mod options;
 mod plant;
 mod row;
 mod sent;
 
-pub use options::choices;
+pub use choice_space::{ChoiceRows, ChoiceSpace};
+pub use options::{choices, choices_in};
 pub use plant::Plant;
 pub use row::{change, least_costs};
 pub use sent::{nominal, obey};

@@ -1,6 +1,6 @@
 //! The choices of one component: its nominal mode, and each mode to which a failure leads, at the failure's least cost.
 
-ghost use Rattle.std.specs.Prelude.{◌≡◌, ◌≢◌, All, map, Some, ◌<◌, ◌↔◌, ℕ, Contains, None, IfOk, OnOk, List, ◌++◌, ◌∷◌, [], length, slice_index, slice_index_or};
+ghost use Rattle.std.specs.Prelude.{◌≡◌, ◌≢◌, All, map, Some, ◌+◌, ◌<◌, ◌≤◌, ◌↔◌, ℕ, Contains, None, IfOk, List, ◌++◌, ◌∷◌, [], length, slice_index, slice_index_or, vec_len, vec_capacity};
 ghost use Rattle.cca_base.specs.Prelude.{mode_counts, ChangeCosts, HasMode, IsLeast, IsRow, IsState};
 ghost use Rattle.cca_base.specs.declared.model.Failure.{Failure};
 ghost use Rattle.successors.specs.Choices.{AreLeast, AreAllLeast, AreChanges, IsAdded};
@@ -37,8 +37,11 @@ fn note_failure(table: &mut Vec<List<Option<u32>>>, failure: &Failure, modes: &[
     note_cost(&mut table[component], failure, modes[component]);
 }
 
-/// No cost for each mode of each component.
-fn no_costs(alloc: Global, components: &[Component]) -> Result<Vec<List<Option<u32>>>, AllocError>
+/// No cost for each mode of each component. The error is out of memory.
+pub(crate) fn no_costs(
+    alloc: Global,
+    components: &[Component],
+) -> Result<Vec<List<Option<u32>>>, AllocError>
     ensures sizes { IfOk result (λ v.
         map length v.items ≡ map (λ x. length x.modes) components.now) }
     ensures none { IfOk result (λ v. All (All (λ o. o ≡ None)) v.items) }
@@ -51,7 +54,40 @@ fn no_costs(alloc: Global, components: &[Component]) -> Result<Vec<List<Option<u
     Ok(table)
 }
 
-/// The least cost of the failures from each component's mode, for each of its modes. All failures are gone through once.
+/// Lets the costs of a component go.
+fn forget(costs: &mut List<Option<u32>>)
+    ensures full { length costs.new ≡ length costs.old }
+    ensures none { All (λ o. o ≡ None) costs.new }
+{
+    for mode in 0..costs.len() {
+        costs.set(mode, None);
+    }
+}
+
+/// Lets all costs go.
+fn forget_all(table: &mut Vec<List<Option<u32>>>)
+    ensures sizes { map length table.new.items ≡ map length table.old.items }
+    ensures none { All (All (λ o. o ≡ None)) table.new.items }
+{
+    for component in 0..table.len() {
+        forget(&mut table[component]);
+    }
+}
+
+/// Writes the least cost of the failures from each component's mode, for each of its modes. All failures are gone through once.
+pub(crate) fn note_costs(model: &Model, modes: &[u8], table: &mut Vec<List<Option<u32>>>)
+    requires state { IsState model.now modes.now }
+    requires sizes { map length table.old.items ≡ mode_counts model.now }
+    ensures sizes { map length table.new.items ≡ mode_counts model.now }
+    ensures least { AreAllLeast model.now.failures modes.now table.new.items }
+{
+    forget_all(table);
+    for failure in model.failures().as_slice() {
+        note_failure(table, failure, modes);
+    }
+}
+
+/// The least cost of the failures from each component's mode, for each of its modes. The error is out of memory.
 pub fn least_costs(
     alloc: Global,
     model: &Model,
@@ -62,9 +98,7 @@ pub fn least_costs(
     ensures least { IfOk result (λ v. AreAllLeast model.now.failures modes.now v.items) }
 {
     let mut table = no_costs(alloc, model.components().as_slice())?;
-    for failure in model.failures().as_slice() {
-        note_failure(&mut table, failure, modes);
-    }
+    note_costs(model, modes, &mut table);
     Ok(table)
 }
 
@@ -83,37 +117,39 @@ pub fn change(to: u8, nominal: u8, failure: Option<u32>) -> Option<u64>
 }
 
 /// Adds the mode, where the change to it has a cost.
-fn add_choice(row: &mut Vec<Choice>, mode: u8, cost: Option<u64>) -> Result<(), AllocError>
-    ensures { OnOk result (IsAdded row.old.items mode cost row.new.items) }
+fn add_choice(row: &mut Vec<Choice>, mode: u8, cost: Option<u64>)
+    requires { vec_len row.old < vec_capacity row.old }
+    ensures added { IsAdded row.old.items mode cost row.new.items }
+    ensures len { length row.new.items ≤ length row.old.items + 1 }
+    ensures room { vec_capacity row.new ≡ vec_capacity row.old }
 {
-    let Some(cost) = cost else {
-        return Ok(());
-    };
-    row.push(Choice { mode, cost })?;
-    Ok(())
+    if let Some(cost) = cost {
+        row.push_reserved(Choice { mode, cost });
+    }
 }
 
-/// The modes to which the component can change, by cost and then by mode, where failures to them cost this at least.
-pub fn row_of(
-    alloc: Global,
+/// Writes the modes to which the component can change, by cost and then by mode, where failures to them cost this at least.
+pub(crate) fn fill_row(
     model: &Model,
     component: u16,
     from: u8,
     nominal: u8,
     costs: &List<Option<u32>>,
-) -> Result<List<Choice>, AllocError>
+    row: &mut Vec<Choice>,
+)
     requires component { component < length model.now.components }
     requires full { length costs.now ≡ slice_index (mode_counts model.now) component }
     requires least { AreLeast model.now.failures component from costs.now }
-    ensures row { IfOk result IsRow }
-    ensures each { IfOk result (AreChanges model.now component from nominal
-        (slice_index (mode_counts model.now) component)) }
+    requires room { slice_index (mode_counts model.now) component ≤ vec_capacity row.old }
+    ensures row { IsRow row.new.items }
+    ensures each { AreChanges model.now component from nominal
+        (slice_index (mode_counts model.now) component) row.new.items }
+    ensures room { vec_capacity row.new ≡ vec_capacity row.old }
 {
     let modes = model.components().get(component as usize).modes.len();
-    let mut row = Vec::with_capacity(alloc, modes)?;
+    row.clear();
     for to in 0..modes as u8 {
-        add_choice(&mut row, to, change(to, nominal, *costs.get(to as usize)))?;
+        add_choice(row, to, change(to, nominal, *costs.get(to as usize)));
     }
     row.sort_unstable();
-    Ok(List::of(row))
 }

@@ -6,6 +6,6 @@ use Rattle.mode_estimator.proofs.first.write_masks.Given as goal
 
 abbrev pub invariant-loop-at : goal.invariant-loop-at
 invariant-loop-at l = record {
-  long : length l.masks ≡ length l.rows;
-  each : (c : ℕ) (x : Choice) → c < l.at → Contains (slice_index_or l.rows c []) x → x.mode < MAX_CHOICES → has (slice_index l.masks c) x.mode ≡ true;
+  long : length l.masks ≡ length l.rows.rows;
+  each : (c : ℕ) (x : Choice) → c < l.at → Contains (slice_index_or l.rows.rows c []) x → x.mode < MAX_CHOICES → has (slice_index l.masks c) x.mode ≡ true;
 }

@@ -1,5 +1,5 @@
-use Rattle.std.proofs.Common.{◌≡◌, ◌+◌, ◌<◌, ℕ, List, [], ◌∷◌, length, slice_index, get_or, sym, ap, subst, ◌∙◌, arith}
-use Rattle.std.proofs.lemmas.List.{get_or_default, length-append}
+use Rattle.std.proofs.Common.{◌≡◌, ◌+◌, ℕ, List, [], ◌∷◌, length, slice_index, get_or, sym, ap, subst, ◌∙◌, arith}
+use Rattle.std.proofs.lemmas.List.{length-append}
 use Rattle.bounded_list.specs.Bounded.{Bounded}
 use Rattle.cca_base.specs.declared.choice.Choice.{Choice}
 use Rattle.cca_base.specs.declared.cube.Pair.{Pair}
@@ -11,13 +11,12 @@ use Rattle.mode_estimator.proofs.tick.write_pairs.Goals.{then-row-eq1, else-row-
 
 pub loop-c-preserved : goal.loop-c-preserved
 loop-c-preserved c =
-    let rows : List (List Choice) = c.args.rows.now in
+    let rows : List (List Choice) = c.args.rows.now.rows in
     let names : List ℕ = c.args.names.now in
     let modes : List ℕ = c.args.modes.now in
     let i : ℕ = c.loop-c.c in
-    let row : List Choice = c.as_slice-row.result.now in
-    let within : i < length rows = omega (arith, c.loop-c-test.true, c.requires.rows) in
-    let here : get_or rows i [] ≡ row = sym (c.as_slice-row.ensures ∙ c.index-rows-c.is ∙ get_or_default rows i c.index-rows-c.result [] within) in
+    let row : List Choice = c.get-row.result.now in
+    let here : get_or rows i [] ≡ row = sym c.get-row.ensures.row in
     let old = c.loop-c.pairs.items in let kept = c.loop-c.invariant in let new = c.if-row-eq1.pairs.items in
     let items = λ (b : Bounded Pair). b.items in let room = λ (b : Bounded Pair). b.room in
     elim c.if-row-eq1.branch [

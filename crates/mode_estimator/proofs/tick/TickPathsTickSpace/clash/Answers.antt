@@ -1,4 +1,4 @@
-use Rattle.std.proofs.Common.{◌≡◌, ◌∙◌, length, refl, sym, subst, arith}
+use Rattle.std.proofs.Common.{◌∙◌, length, sym, subst, arith}
 use Rattle.cca_base.specs.Cube.{IsPart}
 use Rattle.cca_base.specs.Shown.{Clash}
 use Rattle.cca_base.specs.State.{Extends}
@@ -17,10 +17,10 @@ pub write_pairs-requires-clause-names : goal.write_pairs-requires-clause-names
 write_pairs-requires-clause-names c = c.requires.names ∙ sym (as_many c.args.self.now c.args.names.now c.args.group c.args.values.now c.args.costs.now c.requires.paths)
 
 pub write_pairs-requires-clause-few : goal.write_pairs-requires-clause-few
-write_pairs-requires-clause-few c = omega (arith, c.args.self.now.of_rows.rows_fit.few, c.requires.paths.places, length-numbers (length c.args.self.now.rows.now))
+write_pairs-requires-clause-few c = omega (arith, c.args.self.now.of_rows.rows_fit.few, c.requires.paths.places, length-numbers (length c.args.self.now.rows.now.rows))
 
 pub write_pairs-requires-clause-room : goal.write_pairs-requires-clause-room
-write_pairs-requires-clause-room c = omega (arith, c.requires.space.asked, c.requires.paths.places, length-numbers (length c.args.self.now.rows.now))
+write_pairs-requires-clause-room c = omega (arith, c.requires.space.asked, c.requires.paths.places, length-numbers (length c.args.self.now.rows.now.rows))
 
 pub clash_into-requires-clause-modes : goal.clash_into-requires-clause-modes
 clash_into-requires-clause-modes c =
@@ -67,4 +67,4 @@ returns-then-not-clash_into-clause-none c _ =
 
 pub write_free-requires-clause-room : goal.write_free-requires-clause-room
 write_free-requires-clause-room c =
-    omega (arith, c.as_slice.ensures.within, c.clash_into.ensures.room, c.requires.space.blamed, c.requires.room, length-numbers (length c.args.self.now.rows.now))
+    omega (arith, c.as_slice.ensures.within, c.clash_into.ensures.room, c.requires.space.blamed, c.requires.room, length-numbers (length c.args.self.now.rows.now.rows))
