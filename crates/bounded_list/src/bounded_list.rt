@@ -1,6 +1,7 @@
 //! A list with room for so many items. A contract sees its items and its room.
 
 ghost use Rattle.std.specs.Prelude.{◌≡◌, ◌+◌, ◌<◌, ◌≤◌, [], ◌∷◌, ◌++◌, length, take, slice_get, slice_index_or, slice_set, Some, IfOk, MatchOption};
+ghost use Rattle.std.specs.List.Sorted.{IsPermutation, IsSortedByKeyClosure};
 
 use std::alloc::{AllocError, Global};
 use std::marker::Model;
@@ -100,6 +101,16 @@ impl<T> BoundedList<T> {
         let Ok(()) = self.items.extend_from_slice(items) else {
             unreachable!()
         };
+    }
+
+    /// Puts the items in an order in which their keys do not fall. Items of one key stand in any order.
+    pub fn sort_unstable_by_key<K: Ord + Drop, F: FnMut(&T) -> K>(&mut self, key: F)
+        requires { F.IsAlwaysCallable key }
+        ensures permutation { IsPermutation self.old.items self.new.items }
+        ensures sorted { IsSortedByKeyClosure F.FnMut K.cmp key self.new.items }
+        ensures room { self.new.room ≡ self.old.room }
+    {
+        self.items.sort_unstable_by_key(key);
     }
 
     /// Takes the last item away.

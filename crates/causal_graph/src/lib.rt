@@ -13,7 +13,7 @@ mod ordering;
 mod reach;
 
 pub use answer::Order;
-pub use goal::sort_goal;
+pub use goal::{sort_goal, sort_into};
 pub use laws::answers_are_of_models;
 pub use ordering::order;
 pub use reach::ancestors;

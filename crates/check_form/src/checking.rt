@@ -8,7 +8,7 @@ use crate::check_trace::TraceCheck;
 use crate::item::CheckItem;
 use cca_base::codes::ENDS_EARLY;
 use cca_base::{Model, Stop};
-use line_forms::{LineForm, Lines, OpensLines, kept_line};
+use line_forms::{LineForm, Lines, OpensLines, kept_line, placed};
 use line_machine::{End, Out};
 use model_form::{Accepted, MAX_LINE, OfLines, WithModel, refuse_code_to};
 use std::alloc::{AllocError, Global};
@@ -91,13 +91,20 @@ impl LineForm<CheckItem> for Checking {
         false
     }
 
-    fn read(&self, alloc: Global, line: &[u8]) -> Result<Option<CheckItem>, Stop> {
+    fn place(&self, _alloc: Global) -> Result<CheckItem, AllocError> {
+        Ok(CheckItem::Trace)
+    }
+
+    fn read(&self, alloc: Global, line: &[u8], item: &mut CheckItem) -> Result<bool, Stop> {
         let _compiled = self.accepted.compiled().model();
         match &self.part {
-            Part::Script(script) => script.read(alloc, self.accepted.named(), line),
+            Part::Script(script) => {
+                let read = script.read(alloc, self.accepted.named(), line)?;
+                Ok(placed(read, item))
+            }
             Part::Trace(_) => {
-                let bytes = kept_line(alloc, line)?;
-                Ok(Some(CheckItem::Judges(bytes)))
+                *item = CheckItem::Judges(kept_line(alloc, line)?);
+                Ok(true)
             }
         }
     }
@@ -106,9 +113,10 @@ impl LineForm<CheckItem> for Checking {
         &mut self,
         alloc: Global,
         _number: u64,
-        item: CheckItem,
+        item: &mut CheckItem,
         out: &mut Out,
     ) -> Result<Option<End>, AllocError> {
+        let item = mem::replace(item, CheckItem::Trace);
         let model = self.accepted.compiled().model();
         match &mut self.part {
             Part::Script(script) => match item {

@@ -1,7 +1,7 @@
 -- What all solutions of a state's clauses have is what all worlds of the state have.
 use Rattle.std.proofs.Common.{◌≡◌, ◌+◌, ◌<◌, ◌++◌, ℕ, List, [], length, slice_index, take, drop, All, Contains, Some, None, refl, sym, ap, subst, ◌∙◌, arith}
 use Rattle.std.specs.List.{slice_get}
-use Rattle.std.proofs.lemmas.List.{take-append-drop}
+use Rattle.std.proofs.lemmas.List.{take-append-drop, take_all}
 use Rattle.std.proofs.lemmas.List.Elements.{All-nil}
 use Rattle.std.proofs.lemmas.Option.{slice_get_within}
 use Rattle.list_laws.proofs.Places.{value_at, get_at}
@@ -15,7 +15,7 @@ use Rattle.cca_base.proofs.StateLaws.{same_state}
 use Rattle.clause_form.specs.declared.clause.Clauses.{Clauses}
 use Rattle.clause_form.specs.Formulas.{AreClausesOf}
 use Rattle.consistency.specs.Base.{IsBase}
-use Rattle.consistency.specs.Forced.{AreForced}
+use Rattle.consistency.specs.Forced.{AreForced, AreShown}
 use Rattle.world_search.specs.Worlds.{IsSolution}
 use Rattle.consistency.specs.Search.{AllHave, IsBackbone}
 use Rattle.clause_form.proofs.ModelSizes.{subjects_counted}
@@ -78,13 +78,16 @@ module _ (m : PlantModel) (s : List ℕ) (c : Clauses) (base : List ℕ) (of : A
           let one = one_of p among in
           subst (HasValue m p.item) (value_at world.0 p.item p.value (one world.0 world.1)) (world.1.values p.item (of_model p one)))
 
--- the same where the base is of pairs that are the state's, and so many components are counted
-pub forced_by : (m : PlantModel) (s : List ℕ) (c : Clauses) (modes : List Pair) (base : List ℕ) (components vars : ℕ) (pairs : List Pair) → AreClausesOf m None None c
-    → IsBase c.sizes (length m.components) modes [] base → modes ≡ pairs_of s → components ≡ length m.components → IsState m s → HasWorld m s
-    → IsBackbone c.clauses base components vars pairs → AreForced m s vars pairs × All (λ p. HasValue m p.item p.value) pairs
-forced_by m s c modes base components vars pairs of b own counted state world h =
-    let here = subst (λ ps. IsBase c.sizes (length m.components) ps [] base) own b in
-    let found = subst (λ (k : ℕ). IsBackbone c.clauses base k vars pairs) counted h in (
-      backbone_forced m s c base of here state world vars pairs found,
-      forced_values m s c base of here state world vars pairs found,
-    )
+-- the room for a state's pairs, once they are put in
+pub own_whole : (s : List ℕ) (room : List Pair) → length room ≡ length s → take (length s) room ≡ pairs_of s → room ≡ pairs_of s
+own_whole s room long put = sym (take_all (length s) room (omega (arith, long))) ∙ put
+
+-- the same where so many components are counted
+pub forced_by : (m : PlantModel) (s : List ℕ) (c : Clauses) (base : List ℕ) (components vars : ℕ) (pairs : List Pair) → AreClausesOf m None None c
+    → IsBase c.sizes (length m.components) (pairs_of s) [] base → components ≡ length m.components → IsState m s → HasWorld m s
+    → IsBackbone c.clauses base components vars pairs → AreShown m s vars pairs
+forced_by m s c base components vars pairs of here counted state world h =
+    let found = subst (λ (k : ℕ). IsBackbone c.clauses base k vars pairs) counted h in record {
+      forced = backbone_forced m s c base of here state world vars pairs found;
+      values = forced_values m s c base of here state world vars pairs found;
+    }

@@ -1,16 +1,21 @@
 -- What is pending, and what the worlds of the plant's state agree on of the mirrored variables, are what a tick observes.
-use Rattle.std.proofs.Common.{Option, Some, IfSome, ◌≡◌, ◌≢◌, ℕ, true, false, List, All, Contains, inl, inr, sym, subst}
-use Rattle.std.proofs.lemmas.Bool.{both_ways}
-use Rattle.std.proofs.lemmas.List.Elements.{All-contains}
+use Rattle.std.proofs.Common.{◌≡◌, ◌≢◌, ◌+◌, ◌<◌, ◌≤◌, ◌++◌, ◌∙◌, ℕ, true, false, eqb, List, length, map, get_or, All, Contains, inl, inr, sym, subst, arith, length-append}
+use Rattle.std.specs.List.{IsDistinct}
+use Rattle.std.proofs.lemmas.Bool.{both_ways, ne_eqb}
+use Rattle.std.proofs.lemmas.List.{get_or-map, length-map}
+use Rattle.std.proofs.lemmas.List.Elements.{All-contains, All-map, Contains-append_cases}
+use Rattle.std.proofs.lemmas.Map.Keys.{IsDistinct-from_apart}
 use Rattle.list_laws.proofs.Members.{all_from}
 use Rattle.cca_base.specs.declared.cube.Pair.{Pair}
 use Rattle.cca_base.specs.PlantModel.{PlantModel}
-use Rattle.cca_base.specs.Cube.{IsUnion, Lacks}
+use Rattle.cca_base.specs.Cube.{IsCube, IsRising, IsUnion, Lacks}
 use Rattle.cca_base.specs.Sets.{has}
 use Rattle.cca_base.specs.State.{HasValue}
-use Rattle.consistency.specs.Forced.{AreForced}
-use Rattle.consistency.specs.Observed.{IsObserved, IsShown, ShowsNow}
-use Rattle.consistency.specs.declared.mirror.Shown.{Shown}
+use Rattle.cca_base.proofs.CubeLaws.{both_cube, rising_once}
+use Rattle.cca_base.proofs.NextModes.{few_below}
+use Rattle.cca_base.proofs.Within.{value_within}
+use Rattle.consistency.specs.Forced.{AreForced, AreShown}
+use Rattle.consistency.specs.Observed.{IsObserved}
 
 -- what the worlds agree on of the mirrored variables names none that is pending
 pub forced_new : (m : PlantModel) (s : List ℕ) (mirrored : ℕ) (pending forced : List Pair) → All (λ p. has mirrored p.item ≡ false) pending → AreForced m s mirrored forced
@@ -38,10 +43,26 @@ observed_values m pending forced both old new union = all_from (λ p. HasValue m
   | inr one ↦ All-contains (λ q. HasValue m q.item q.value) forced p new one
 ])
 
--- what is kept of these modes and these variables is what their worlds agree on
-pub shown_now : (m : PlantModel) (plant : List ℕ) (mirrored : ℕ) (last : Option Shown) (x : Shown) → last ≡ Some x → IfSome last (IsShown m) → ShowsNow plant mirrored last
-    → AreForced m plant mirrored x.seen.pairs × All (λ p. HasValue m p.item p.value) x.seen.pairs
-shown_now m plant mirrored last x is right now =
-    let own : IsShown m x = subst (λ (o : Option Shown). IfSome o (IsShown m)) is right in
-    let same : ShowsNow plant mirrored (Some x) = subst (λ (o : Option Shown). ShowsNow plant mirrored o) is now in
-    (subst (λ s. AreForced m s mirrored x.seen.pairs) same.0 (subst (λ v. AreForced m x.plant.modes v x.seen.pairs) same.1 own.forced), own.values)
+-- pairs of different variables of n are at most n
+pub cube_few : (n : ℕ) (pairs : List Pair) → IsCube pairs → All (λ p. p.item < n) pairs → length pairs ≤ n
+cube_few n pairs cube inside =
+    let item : Pair → ℕ = λ p. p.item in
+    let items : List ℕ = map item pairs in
+    let long : length items ≡ length pairs = length-map pairs item in
+    let distinct : IsDistinct eqb items = IsDistinct-from_apart eqb items (λ i j d before within.
+    let at : Pair = record { item = d; value = 0 } in
+    let last : j < length pairs = omega (arith, within, long) in
+    let first : i < length pairs = omega (arith, before, last) in
+    ne_eqb (get_or items i d) (get_or items j d) (λ same. cube i j at before last (sym (get_or-map item pairs i at d first) ∙ same ∙ get_or-map item pairs j at d last))) in
+    omega (arith, long, few_below n items distinct (λ x h. All-contains (λ k. k < n) items x (All-map (λ (k : ℕ). k < n) item pairs inside) h))
+
+-- what is pending and what is shown are together no more pairs than there are variables
+pub observed_few : (m : PlantModel) (s : List ℕ) (mirrored : ℕ) (pending shown : List Pair) → IsRising pending → All (λ p. has mirrored p.item ≡ false) pending
+    → All (λ p. HasValue m p.item p.value) pending → AreShown m s mirrored shown → length pending + length shown ≤ length m.variables
+observed_few m s mirrored pending shown rising unmirrored values h =
+    let cube = both_cube pending shown (rising_once pending rising) (rising_once shown h.forced.rising) (forced_new m s mirrored pending shown unmirrored h.forced) in
+    let inside = all_from (λ (p : Pair). p.item < length m.variables) (pending ++ shown) (λ p among. elim (Contains-append_cases pending shown p among) [
+      | inl before ↦ value_within m p.item p.value (All-contains (λ (q : Pair). HasValue m q.item q.value) pending p values before)
+      | inr one ↦ value_within m p.item p.value (All-contains (λ (q : Pair). HasValue m q.item q.value) shown p h.values one)
+    ]) in
+    omega (arith, cube_few (length m.variables) (pending ++ shown) cube inside, length-append pending shown)

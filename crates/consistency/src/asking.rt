@@ -1,8 +1,9 @@
 //! A question in a model's words: whether some state that extends modes has a world that agrees with what is seen.
 
-ghost use Rattle.std.specs.Prelude.{◌≡◌, length, take, All, None, Option};
+ghost use Rattle.std.specs.Prelude.{◌≡◌, ◌≤◌, [], length, take, All, None, Option};
 ghost use Rattle.cca_base.specs.Prelude.{pairs_of, HasMode, HasValue, IsState, WellFormed};
 ghost use Rattle.cca_base.specs.declared.formula.Formula.{Formula};
+ghost use Rattle.cca_base.specs.declared.limits.TheConstants.{MAX_COMPONENTS};
 ghost use Rattle.clause_form.specs.Formulas.{AreClausesOf};
 ghost use Rattle.consistency.specs.Base.{IsBase};
 ghost use Rattle.consistency.specs.Cores.{IsFitting, IsShowing};
@@ -51,6 +52,28 @@ pub fn see(model: &Model, problem: &Problem, modes: &[Pair], seen: &[Pair], spac
 {
     put_base(model, problem, modes, seen, space);
     problem.see(&mut space.search, &space.sets);
+}
+
+/// From now on components have the modes of a state, whose pairs are put in the room for them.
+pub fn see_state(
+    model: &Model,
+    problem: &Problem,
+    modes: &[u8],
+    room: &mut [Pair],
+    space: &mut WorldSpace,
+)
+    requires of { AreClausesOf model.now None None problem.now }
+    requires state { IsState model.now modes.now }
+    requires few { length modes.now ≤ MAX_COMPONENTS }
+    requires room { length room.old ≡ length modes.now }
+    requires space { IsWorldSpace problem.now space.old }
+    ensures space { IsWorldSpace problem.now space.new }
+    ensures room { length room.new ≡ length room.old }
+    ensures base { IsBase problem.now.sizes (length model.now.components) (pairs_of modes.now) []
+        (base_in space.new.search) }
+{
+    put_pairs(modes, room);
+    see(model, problem, room, &[], space);
 }
 
 /// Whether some state that extends the modes has a world that agrees with what is seen, and if not, which components

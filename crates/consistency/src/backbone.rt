@@ -4,17 +4,17 @@
 //! settles others too. A second world, for which the search begins with other values, is asked for before all these
 //! questions.
 
-ghost use Rattle.std.specs.Prelude.{◌≤◌, ◌<◌, ◌≡◌, ◌≢◌, ℕ, true, false, List, length};
-ghost use Rattle.std.specs.Prelude.{slice_index, IfOk};
+ghost use Rattle.std.specs.Prelude.{◌≤◌, ◌<◌, ◌≡◌, ◌≢◌, ◌+◌, ℕ, true, false, List, length};
+ghost use Rattle.std.specs.Prelude.{slice_index};
 ghost use Rattle.clause_form.specs.declared.clause.Clause.{Clause};
 ghost use Rattle.clash_analysis.specs.declared.subjects.TheConstants.{SET_SUBJECTS};
 ghost use Rattle.consistency.specs.Search.{AreVaried, EachWorld, IsBackbone};
 ghost use Rattle.world_search.specs.Spaces.{IsSpace, base_in, world_in};
 ghost use Rattle.world_search.specs.Worlds.{IsSolution};
 
-use cca_base::{List, Pair, VarSet};
+use bounded_list::BoundedList;
+use cca_base::{Pair, VarSet};
 use clash_analysis::{SubjectSet, has_subject, no_subject, with_subject};
-use std::alloc::{AllocError, Global};
 use world_search::{Answer, Problem, Space, has_value};
 
 /// The subjects, and those at which the two worlds differ.
@@ -78,37 +78,52 @@ fn is_other_found(problem: &Problem, space: &mut Space, subject: usize, value: u
     false
 }
 
-/// The variables of the set that have one value in all worlds, where there is some. Variables are the subjects behind
-/// the components. The error is out of memory.
+/// Writes the values of some world, where there is one.
+pub fn put_first(problem: &Problem, space: &mut Space, values: &mut [u8])
+    requires space { IsSpace problem.now space.old }
+    requires some { ((xs : List ℕ) → IsSolution problem.now.clauses (base_in space.old) xs → ⊥) → ⊥ }
+    requires full { length values.old ≡ length problem.now.sizes }
+    ensures space { IsSpace problem.now space.new }
+    ensures base { base_in space.new ≡ base_in space.old }
+    ensures world { IsSolution problem.now.clauses (base_in space.old) values.new }
+{
+    match problem.ask(space, &[]) {
+        Answer::Agrees => {}
+        Answer::Clash(_) => unreachable!(),
+    }
+    values.copy_from_slice(space.world());
+}
+
+/// Leaves in the list the variables of the set that have one value in all worlds, of which this is one. Variables are
+/// the subjects behind the components. It takes no memory.
 pub fn backbone(
-    alloc: Global,
     problem: &Problem,
     space: &mut Space,
     components: usize,
     vars: VarSet,
-) -> Result<List<Pair>, AllocError>
+    world: &[u8],
+    pairs: &mut BoundedList<Pair>,
+)
     requires space { IsSpace problem.now space.old }
     requires front { components ≤ length problem.now.sizes }
-    requires some { ((xs : List ℕ) → IsSolution problem.now.clauses (base_in space.old) xs → ⊥) → ⊥ }
-    ensures { IfOk result (IsBackbone problem.now.clauses (base_in space.old) components vars) }
+    requires world { IsSolution problem.now.clauses (base_in space.old) world.now }
+    requires room { length problem.now.sizes ≤ components + pairs.old.room }
+    ensures space { IsSpace problem.now space.new }
+    ensures base { base_in space.new ≡ base_in space.old }
+    ensures pairs { IsBackbone problem.now.clauses (base_in space.old) components vars pairs.new.items }
+    ensures room { pairs.new.room ≡ pairs.old.room }
 {
-    match problem.ask(space, &[]) {
-        Answer::Agrees => {}
-        Answer::Clash(_) => return Ok(List::new(alloc)),
-    }
-    let values = Vec::from_slice(alloc, space.world())?;
-    let mut pairs = List::new(alloc);
-    let mut varied = differing(problem, space, &values);
-    for item in 0..(values.len() - components) as u16 {
+    pairs.clear();
+    let mut varied = differing(problem, space, world);
+    for item in 0..(world.len() - components) as u16 {
         let subject = components + item as usize;
         if vars.has(item) && !has_subject(&varied, subject as u16) {
-            let value = values[subject];
+            let value = world[subject];
             if is_other_found(problem, space, subject, value) {
-                varied = with_differing(&varied, &values, space.world());
+                varied = with_differing(&varied, world, space.world());
             } else {
-                pairs.push(Pair { item, value })?;
+                pairs.push(Pair { item, value });
             }
         }
     }
-    Ok(pairs)
 }

@@ -2,7 +2,7 @@
 //! once, in component order. An answer names the components that had to do with a clash, its core, so that only pairs
 //! of cores cost a question.
 
-ghost use Rattle.std.specs.Prelude.{◌≡◌, [], ◌++◌, ◌↔◌, length, All, IfOk, IfSome, IsNone};
+ghost use Rattle.std.specs.Prelude.{◌≡◌, [], ◌++◌, ◌↔◌, All, IfOk, IfSome, IsNone};
 ghost use Rattle.cca_base.specs.Prelude.{pairs_of, CanShow, HasMode, HasValue, IsConflict, IsCube, IsState, KeepsOfClash};
 ghost use Rattle.consistency.specs.Cores.{IsCore, IsShowable};
 ghost use Rattle.consistency.specs.Spaces.{IsWorldSpace};

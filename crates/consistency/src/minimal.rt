@@ -1,7 +1,7 @@
 //! A minimal clash of a state, by deletion over a core. One pair after the other is left out, the last one first: it is
 //! kept where some state that extends the others has a world that agrees, and else only the pairs of their core go on.
 
-ghost use Rattle.std.specs.Prelude.{◌≡◌, ◌↔◌, ℕ, List, length, All, IfOk, IfSome, IsNone};
+ghost use Rattle.std.specs.Prelude.{◌≡◌, ◌↔◌, ℕ, List, All, IfOk, IfSome, IsNone};
 ghost use Rattle.cca_base.specs.Prelude.{pairs_of, CanShow, Clash, HasMode, HasValue, IsCube, IsPart, IsState};
 ghost use Rattle.consistency.specs.Conflict.{IsMinimalClash};
 ghost use Rattle.consistency.specs.Cores.{pairs_in};

@@ -1,106 +1,127 @@
 //! What the mirrored variables showed last. It is asked for again only where the plant or the variables are others.
 
-ghost use Rattle.std.specs.Prelude.{◌≡◌, false, All, IfOk, IfSome, IsTrue, OnOk};
-ghost use Rattle.cca_base.specs.Prelude.{has, HasValue, HasWorld, IsRising, IsState, PlantModel};
-ghost use Rattle.consistency.specs.Observed.{IsMirror, IsObserved, IsShown, ShowsNow};
+ghost use Rattle.std.specs.Prelude.{◌≡◌, ◌≤◌, false, length, All, IfOk, IsTrue, Some};
+ghost use Rattle.cca_base.specs.Prelude.{has, HasValue, HasWorld, IsRising, IsState};
+ghost use Rattle.consistency.specs.Forced.{AreShown};
+ghost use Rattle.consistency.specs.Observed.{IsMirror, IsObserved};
 ghost use Rattle.consistency.specs.Worlds.{AreWorldsOf};
 
-use crate::observed::union;
+use crate::forced_space::ForcedSpace;
+use crate::observed::join;
 use crate::worlds::Worlds;
-use cca_base::{Model, Seen, State, VarSet};
+use bounded_list::BoundedList;
+use cca_base::{List, Model, Pair, Seen, State, VarSet};
 use std::alloc::{AllocError, Global};
 
-/// The pairs that all worlds of a plant's state have of some variables.
-#[derive(Debug, Drop)]
-struct Shown {
-    plant: State,
-    mirrored: VarSet,
-    seen: Seen,
-}
-
-/// What the mirrored variables showed last, if they were asked for.
-#[derive(Debug, Drop)]
+/// What the mirrored variables showed last, and memory to ask for it again: made once.
+#[derive(Drop)]
 pub struct Mirror {
-    last: Option<Shown>,
+    /// The variables that were asked for last, if any were.
+    vars: Option<VarSet>,
+    /// The plant's modes then.
+    plant: Vec<u8>,
+    /// The pairs that all worlds had, and memory to find them.
+    space: ForcedSpace,
 }
 
 impl Mirror {
-    /// Nothing yet.
-    pub fn new() -> Mirror
-        ensures { (m : PlantModel) → IsMirror m result }
+    /// Nothing yet. The error is out of memory.
+    pub fn of(alloc: Global, model: &Model, worlds: &Worlds) -> Result<Mirror, AllocError>
+        ensures { IfOk result (IsMirror model.now worlds.now) }
     {
-        Mirror { last: None }
+        Ok(Mirror {
+            vars: None,
+            plant: Vec::from_elem(alloc, 0, model.components().len())?,
+            space: worlds.forced_space(alloc, model)?,
+        })
     }
-}
 
-/// Whether this is of the plant's state and of the variables.
-fn is_of(shown: &Shown, plant: &State, mirrored: VarSet) -> bool
-    ensures plant { IsTrue result → shown.now.plant.modes ≡ plant.now.modes }
-    ensures mirrored { IsTrue result → shown.now.mirrored ≡ mirrored }
-{
-    shown.mirrored == mirrored && shown.plant.modes.as_slice() == plant.modes.as_slice()
+    /// Whether what is kept is of the plant's state and of the variables.
+    fn is_of(&self, plant: &State, vars: VarSet) -> bool
+        ensures plant { IsTrue result → self.now.plant.items ≡ plant.now.modes }
+        ensures vars { IsTrue result → self.now.vars ≡ Some vars }
+    {
+        match self.vars {
+            Some(kept) => kept == vars && self.plant.as_slice() == plant.modes.as_slice(),
+            None => false,
+        }
+    }
 }
 
 impl Worlds {
-    /// Leaves what the variables show now: what is kept, or what is asked for anew. The error is out of memory.
-    fn renew(
-        &self,
-        alloc: Global,
-        model: &Model,
-        plant: &State,
-        mirrored: VarSet,
-        last: &mut Option<Shown>,
-    ) -> Result<(), AllocError>
+    /// Leaves what the variables show now: what is kept, or what is asked for anew. It takes no memory.
+    fn renew(&self, model: &Model, plant: &State, vars: VarSet, mirror: &mut Mirror)
         requires of { AreWorldsOf model.now self.now }
         requires plant { IsState model.now plant.now.modes }
         requires world { HasWorld model.now plant.now.modes }
-        requires last { IfSome last.old (IsShown model.now) }
-        ensures last { IfSome last.new (IsShown model.now) }
-        ensures now { OnOk result (ShowsNow plant.now.modes mirrored last.new) }
+        requires mirror { IsMirror model.now self.now mirror.old }
+        ensures mirror { IsMirror model.now self.now mirror.new }
+        ensures now { AreShown model.now plant.now.modes vars mirror.new.space.pairs.items }
     {
-        if let Some(shown) = last
-            && is_of(shown, plant, mirrored)
-        {
-            return Ok(());
+        if mirror.is_of(plant, vars) {
+            return;
         }
-        let seen = self.forced(alloc, model, plant, mirrored)?;
-        let plant = plant.copy(alloc)?;
-        *last = Some(Shown {
-            plant,
-            mirrored,
-            seen,
-        });
-        Ok(())
+        self.forced_in(model, plant, vars, &mut mirror.space);
+        mirror.plant.copy_from_slice(plant.modes.as_slice());
+        mirror.vars = Some(vars);
     }
 
-    /// What is pending, and the variables of the set that have one value in all worlds of the plant's state. What the
-    /// mirrored variables show is kept for the next time. The error is out of memory.
+    /// Leaves in the list what is pending, and the variables of the set that have one value in all worlds of the
+    /// plant's state. What the mirrored variables show is kept for the next time. It takes no memory.
+    pub fn observed_in(
+        &self,
+        model: &Model,
+        plant: &State,
+        mirrored: VarSet,
+        pending: &[Pair],
+        mirror: &mut Mirror,
+        seen: &mut BoundedList<Pair>,
+    )
+        requires of { AreWorldsOf model.now self.now }
+        requires plant { IsState model.now plant.now.modes }
+        requires world { HasWorld model.now plant.now.modes }
+        requires rising { IsRising pending.now }
+        requires unmirrored { All (λ p. has mirrored p.item ≡ false) pending.now }
+        requires pending { All (λ p. HasValue model.now p.item p.value) pending.now }
+        requires mirror { IsMirror model.now self.now mirror.old }
+        requires room { length model.now.variables ≤ seen.old.room }
+        ensures seen { IsObserved model.now plant.now.modes mirrored pending.now seen.new.items }
+        ensures values { All (λ p. HasValue model.now p.item p.value) seen.new.items }
+        ensures room { seen.new.room ≡ seen.old.room }
+        ensures mirror { IsMirror model.now self.now mirror.new }
+    {
+        self.renew(model, plant, mirrored, mirror);
+        seen.clear();
+        seen.push_all(pending);
+        join(seen, mirror.space.pairs.as_slice());
+    }
+
+    /// What is pending, and the variables of the set that have one value in all worlds of the plant's state, for one
+    /// tick alone. The error is out of memory.
     pub fn observed_by(
         &self,
         alloc: Global,
         model: &Model,
         plant: &State,
         mirrored: VarSet,
-        pending: &Seen,
-        mirror: &mut Mirror,
+        pending: &[Pair],
     ) -> Result<Seen, AllocError>
         requires of { AreWorldsOf model.now self.now }
         requires plant { IsState model.now plant.now.modes }
         requires world { HasWorld model.now plant.now.modes }
-        requires rising { IsRising pending.now.pairs }
-        requires unmirrored { All (λ p. has mirrored p.item ≡ false) pending.now.pairs }
-        requires pending { All (λ p. HasValue model.now p.item p.value) pending.now.pairs }
-        requires mirror { IsMirror model.now mirror.old }
+        requires rising { IsRising pending.now }
+        requires unmirrored { All (λ p. has mirrored p.item ≡ false) pending.now }
+        requires pending { All (λ p. HasValue model.now p.item p.value) pending.now }
         ensures seen { IfOk result (λ seen.
-            IsObserved model.now plant.now.modes mirrored pending.now.pairs seen.pairs) }
+            IsObserved model.now plant.now.modes mirrored pending.now seen.pairs) }
         ensures values { IfOk result (λ seen.
             All (λ p. HasValue model.now p.item p.value) seen.pairs) }
-        ensures mirror { IsMirror model.now mirror.new }
     {
-        self.renew(alloc, model, plant, mirrored, &mut mirror.last)?;
-        let Some(shown) = &mirror.last else {
-            unreachable!()
-        };
-        union(alloc, pending, &shown.seen.pairs)
+        let mut mirror = Mirror::of(alloc, model, self)?;
+        let mut seen = BoundedList::with_room(alloc, model.variables().len())?;
+        self.observed_in(model, plant, mirrored, pending, &mut mirror, &mut seen);
+        Ok(Seen {
+            pairs: List::of(seen.into_vec()),
+        })
     }
 }

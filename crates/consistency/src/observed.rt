@@ -1,23 +1,20 @@
 //! What is seen, with pairs of other variables besides.
 
-ghost use Rattle.std.specs.Prelude.{All, Contains, IfOk};
+ghost use Rattle.std.specs.Prelude.{◌≡◌, ◌+◌, ◌≤◌, length, All, Contains};
 ghost use Rattle.cca_base.specs.Prelude.{IsCube, IsRising, IsUnion, Lacks};
 
-use cca_base::{List, Pair, Seen};
-use std::alloc::{AllocError, Global};
+use bounded_list::BoundedList;
+use cca_base::Pair;
 
-/// What is seen, with pairs of other variables besides. The error is out of memory.
-pub fn union(alloc: Global, seen: &Seen, pairs: &List<Pair>) -> Result<Seen, AllocError>
-    requires rising { IsRising seen.now.pairs }
+/// Leaves in the list the pairs of both, rising. It takes no memory.
+pub fn join(list: &mut BoundedList<Pair>, pairs: &[Pair])
+    requires rising { IsRising list.old.items }
     requires once { IsCube pairs.now }
-    requires new { All (λ p. Lacks p.item seen.now.pairs) pairs.now }
-    ensures { IfOk result (λ both.
-        IsUnion (Contains seen.now.pairs) (Contains pairs.now) both.pairs) }
+    requires new { All (λ p. Lacks p.item list.old.items) pairs.now }
+    requires room { length list.old.items + length pairs.now ≤ list.old.room }
+    ensures union { IsUnion (Contains list.old.items) (Contains pairs.now) list.new.items }
+    ensures room { list.new.room ≡ list.old.room }
 {
-    let mut both = Vec::from_slice(alloc, seen.pairs.as_slice())?;
-    both.extend_from_slice(pairs.as_slice())?;
-    both.sort_unstable_by_key(|pair| pair.item);
-    Ok(Seen {
-        pairs: List::of(both),
-    })
+    list.push_all(pairs);
+    list.sort_unstable_by_key(|pair| pair.item);
 }

@@ -1,11 +1,9 @@
 //! The clauses of a model's rules, made once for many questions.
 
-ghost use Rattle.std.specs.Prelude.{◌≡◌, ◌++◌, length, All, IfOk, IsNone, IsTrue, None, Option};
-ghost use Rattle.cca_base.specs.Prelude.{is_within, mode_counts, value_counts, Follows, HasMode, HasValue};
+ghost use Rattle.std.specs.Prelude.{length, All, IfOk, IsNone, IsTrue, None, Option};
+ghost use Rattle.cca_base.specs.Prelude.{is_within, Follows, HasMode, HasValue};
 ghost use Rattle.cca_base.specs.declared.formula.Formula.{Formula};
-ghost use Rattle.clause_form.specs.Clauses.{AreClauses};
 ghost use Rattle.clause_form.specs.Formulas.{AreClausesOf};
-ghost use Rattle.consistency.specs.Spaces.{IsWorldSpace};
 ghost use Rattle.consistency.specs.Found.{FitsSeen, Counters, FitsAndDenies, IsFirstFound};
 
 use crate::asking::see;

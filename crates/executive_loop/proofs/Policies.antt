@@ -1,9 +1,8 @@
 -- Tables in use, as a policy keeps them.
-use Rattle.std.proofs.Common.{◌≡◌, ℕ, Bool, true, false, cond, List, Option, Some, None, IfSome, refl, sym, subst}
+use Rattle.std.proofs.Common.{◌≡◌, ℕ, Bool, true, false, cond, List, Some, None, IfSome, refl, sym, subst}
 use Rattle.policy_tables.specs.Tables.{TableParts}
 use Rattle.trace_laws.specs.Tables.{Takes, StaysIf}
-use Rattle.executive_loop.specs.Covering.{base_of, covers, tables_in}
-use Rattle.executive_loop.specs.declared.policy.Policy.{Policy}
+use Rattle.executive_loop.specs.Covering.{base_of, covers}
 
 -- what holds of the tables holds of those in use
 pub in_use_has : (P : TableParts → Type 0) (t : TableParts) (in_use : Bool) → P t → IfSome (cond in_use (Some t) None) P

@@ -1,3 +1,5 @@
 pub mod Covering
 pub mod Parts
 pub mod Answered
+pub mod Borrowed
+pub mod Copied

@@ -12,8 +12,8 @@ ghost use Rattle.trace_laws.specs.Tables.{TakesFor};
 ghost use Rattle.executive_loop.specs.Covering.{base_of, covers, tables_in, AreCovering, AreTablesOf};
 
 use crate::policy::Policy;
-use cca_base::{Goal, Reply, State, Steps};
-use planner_step::{Answer, next_command};
+use cca_base::{Pair, Reply, State, Steps};
+use planner_step::{Answer, answer_for};
 use policy_tables::Tables;
 use std::marker::Brand;
 use std::sync::ledger::{Blank, Ledger};
@@ -30,25 +30,25 @@ fn reply_of(answer: Answer) -> Reply
 }
 
 /// The reply to a goal by the tables. Nobody asks for the count of steps.
-fn reply_by<L: Ledger>(tables: &Tables, state: &State, goal: &Goal, blank: Blank) -> Reply
+fn reply_by<L: Ledger>(tables: &Tables, state: &State, goal: &[Pair], blank: Blank) -> Reply
     requires name { blank.name ≡ L.name }
     requires parts { blank.parts ≡ L.parts }
     requires some { 0 < blank.parts }
     requires covers { CoversState tables.now.classes state.now.modes }
-    requires goal { IsGoal tables.now.classes.compiled goal.now.pairs }
-    ensures { Promising tables.now.classes.compiled state.now.modes goal.now.pairs result }
+    requires goal { IsGoal tables.now.classes.compiled goal.now }
+    ensures { Promising tables.now.classes.compiled state.now.modes goal.now result }
 {
     let mut steps = Steps::<L>::of(blank);
-    reply_of(next_command(tables, state, goal, &mut steps))
+    reply_of(answer_for(tables, state, goal, &mut steps))
 }
 
 /// The reply in a state: idle without a goal, and else by tables that cover the state.
-pub(crate) fn reply_in(policy: &mut Policy, state: &State, goal: &Option<Goal>) -> Reply
+pub(crate) fn reply_in(policy: &mut Policy, state: &State, goal: Option<&[Pair]>) -> Reply
     requires state { IsState policy.old.tables.classes.compiled.model state.now.modes }
-    requires goal { IfSome goal.now (λ g. IsKeptGoal policy.old.tables.classes.compiled g.pairs) }
+    requires goal { IfSome goal (λ g. IsKeptGoal policy.old.tables.classes.compiled g.now) }
     ensures reply { IsReply (Promising policy.old.tables.classes.compiled) state.now.modes
-        (option_map (λ g. g.pairs) goal.now) result }
-    ensures takes { TakesFor base_of covers (option_map (λ g. g.pairs) goal.now) (tables_in policy.old)
+        (option_map (λ g. g.now) goal.entry) result }
+    ensures takes { TakesFor base_of covers (option_map (λ g. g.now) goal.entry) (tables_in policy.old)
         state.now.modes (tables_in policy.new) }
     ensures covers { result ≢ Idle → AreCovering (tables_in policy.new) state.now.modes }
     ensures of { (b : CompiledModel) → AreTablesOf b policy.old.tables → AreTablesOf b policy.new.tables }

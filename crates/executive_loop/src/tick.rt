@@ -1,127 +1,101 @@
 //! One tick.
 
-ghost use Rattle.std.specs.Prelude.{◌≡◌, ◌<◌, ◌+◌, ◌^◌, [], true, IfOk, OnErr, None};
-ghost use Rattle.std.specs.Option.{option_map};
-ghost use Rattle.cca_base.specs.Prelude.{IsState, Nominal, Promising, TickShows};
-ghost use Rattle.consistency.specs.Observed.{IsMirror};
-ghost use Rattle.consistency.specs.Worlds.{AreWorldsOf};
+ghost use Rattle.std.specs.Prelude.{◌≡◌, ◌<◌, ◌+◌, ◌^◌};
+ghost use Rattle.cca_base.specs.Prelude.{IsState, Promising, TickShows};
 ghost use Rattle.trace_laws.specs.Fits.{Fits};
 ghost use Rattle.trace_laws.specs.Tables.{TablesShown};
 ghost use Rattle.executive_loop.specs.Answered.{IsAnswered};
-ghost use Rattle.executive_loop.specs.Covering.{base_of, covers, tables_in, AreCoveringShown, AreTablesOf};
-ghost use Rattle.executive_loop.specs.Parts.{SeenAt};
-ghost use Rattle.mode_estimator.specs.Spaces.{IsEstimateSpace};
+ghost use Rattle.executive_loop.specs.Borrowed.{shown_with};
+ghost use Rattle.executive_loop.specs.Covering.{base_of, covers, tables_in, AreCoveringShown};
+ghost use Rattle.executive_loop.specs.Parts.{IsWorkspace, SeenAt};
 
 use crate::answer::reply_in;
+use crate::kept_standing::KeptStanding;
+use crate::made::{Made, Outcome};
 use crate::observed::observe;
-use crate::policy::Policy;
-use cca_base::{Compiled, Seen, Shown, State, TickReport};
-use consistency::{Mirror, Worlds};
-use mode_estimator::{Estimate, EstimateSpace, estimate_by};
-use std::alloc::{AllocError, Global};
+use crate::workspace::Workspace;
+use cca_base::Compiled;
+use mode_estimator::estimate_in;
+use std::alloc::Global;
 use std::rc::Rc;
 use successors::obey;
-use trace_laws::{Standing, command_of, nothing_seen};
+use trace_laws::command_of;
 
-/// Answers an estimate: what is shown of it, with the reply. The error is out of memory.
+/// Answers the estimate that was found, which becomes the last one.
 fn answer(
-    alloc: Global,
     compiled: &Rc<Compiled>,
-    standing: &mut Standing,
-    policy: &mut Policy,
-    state: State,
+    standing: &mut KeptStanding,
+    workspace: &mut Workspace,
     cost: u64,
-) -> Result<Shown, AllocError>
+) -> Outcome
     requires fits { Fits compiled.now.value standing.old }
-    requires tables { AreTablesOf compiled.now.value policy.old.tables }
-    requires state { IsState compiled.now.value.model state.modes }
+    requires workspace { IsWorkspace compiled.now.value workspace.old }
+    requires state { IsState compiled.now.value.model workspace.old.space.found.modes }
     requires room { standing.old.ticks + 1 < 2 ^ 64 }
-    ensures answered { IfOk result (λ shown.
-        IsAnswered compiled.now.value standing.old cost state shown
-        standing.new) }
-    ensures takes { IfOk result (λ shown.
-        TablesShown base_of covers standing.old.goal (tables_in policy.old) shown (tables_in policy.new)) }
-    ensures covers { IfOk result (λ shown. AreCoveringShown (tables_in policy.new) state.modes shown) }
-    ensures tables { AreTablesOf compiled.now.value policy.new.tables }
-    ensures err { OnErr result (standing.new ≡ standing.old) }
-    ensures err_tables { OnErr result (policy.new ≡ policy.old) }
+    ensures answered { IsAnswered compiled.now.value standing.old cost workspace.old.space.found
+        (shown_with standing.new.estimate result) standing.new }
+    ensures takes { TablesShown base_of covers standing.old.goal (tables_in workspace.old.policy)
+        (shown_with standing.new.estimate result) (tables_in workspace.new.policy) }
+    ensures covers { AreCoveringShown (tables_in workspace.new.policy) standing.new.estimate
+        (shown_with standing.new.estimate result) }
+    ensures workspace { IsWorkspace compiled.now.value workspace.new }
+    ensures seen { workspace.new.seen ≡ workspace.old.seen }
 {
-    let shown = state.copy(alloc)?;
-    let reply = reply_in(policy, &state, &standing.goal);
-    let command = command_of(reply);
     let tick = standing.ticks + 1;
+    workspace.space.swap_found(&mut standing.estimate);
+    let reply = reply_in(&mut workspace.policy, &standing.estimate, standing.goal());
+    let command = command_of(reply);
     obey(compiled, &mut standing.plant, command);
-    standing.estimate = state;
-    standing.count(alloc, command, tick);
-    Ok(Shown::Estimated {
-        cost,
-        state: shown,
-        reply,
-    })
+    standing.count(command, tick);
+    Outcome::Estimated { cost, reply }
 }
 
-/// Makes a tick. The error is out of memory.
+/// Makes a tick. It takes no memory.
 pub(crate) fn make_tick(
     alloc: Global,
     compiled: &Rc<Compiled>,
-    worlds: &Worlds,
-    space: &mut EstimateSpace,
-    mirror: &mut Mirror,
-    standing: &mut Standing,
-    policy: &mut Policy,
-    last_seen: &mut Seen,
-) -> Result<TickReport, AllocError>
-    requires worlds { AreWorldsOf compiled.now.value.model worlds.now }
-    requires space { IsEstimateSpace compiled.now.value.model worlds.now space.old }
-    requires mirror { IsMirror compiled.now.value.model mirror.old }
+    standing: &mut KeptStanding,
+    workspace: &mut Workspace,
+) -> Made
     requires fits { Fits compiled.now.value standing.old }
-    requires tables { AreTablesOf compiled.now.value policy.old.tables }
+    requires workspace { IsWorkspace compiled.now.value workspace.old }
     requires room { standing.old.ticks + 1 < 2 ^ 64 }
-    ensures number { IfOk result (λ report. report.tick ≡ standing.old.ticks + 1) }
-    ensures shows { IfOk result (λ report.
-        TickShows compiled.now.value.model (Promising compiled.now.value) standing.old
-        report.shown standing.new) }
-    ensures takes { IfOk result (λ report.
-        TablesShown base_of covers standing.old.goal (tables_in policy.old) report.shown (tables_in policy.new)) }
-    ensures covers { IfOk result (λ report.
-        AreCoveringShown (tables_in policy.new) standing.new.estimate report.shown) }
-    ensures tables { AreTablesOf compiled.now.value policy.new.tables }
-    ensures space { IsEstimateSpace compiled.now.value.model worlds.now space.new }
-    ensures mirror { IsMirror compiled.now.value.model mirror.new }
-    ensures seen { IfOk result (λ report.
-        SeenAt compiled.now.value.model standing.old report.shown last_seen.new.pairs) }
-    ensures err { OnErr result (standing.new ≡ standing.old) }
-    ensures err_tables { OnErr result (policy.new ≡ policy.old) }
-    ensures err_seen { OnErr result (last_seen.new ≡ last_seen.old) }
+    ensures number { result.tick ≡ standing.old.ticks + 1 }
+    ensures shows { TickShows compiled.now.value.model (Promising compiled.now.value) standing.old
+        (shown_with standing.new.estimate result.outcome) standing.new }
+    ensures takes { TablesShown base_of covers standing.old.goal (tables_in workspace.old.policy)
+        (shown_with standing.new.estimate result.outcome) (tables_in workspace.new.policy) }
+    ensures covers { AreCoveringShown (tables_in workspace.new.policy) standing.new.estimate
+        (shown_with standing.new.estimate result.outcome) }
+    ensures workspace { IsWorkspace compiled.now.value workspace.new }
+    ensures seen { SeenAt compiled.now.value.model standing.old
+        (shown_with standing.new.estimate result.outcome) workspace.new.seen.items }
 {
     let tick = standing.ticks + 1;
     if standing.holding {
-        standing.count(alloc, standing.command, tick);
-        *last_seen = nothing_seen(alloc);
-        return Ok(TickReport {
+        standing.count(standing.command, tick);
+        workspace.seen.clear();
+        return Made {
             tick,
-            shown: Shown::Holding,
-        });
+            outcome: Outcome::Holding,
+        };
     }
-    let seen = observe(alloc, compiled, worlds, mirror, standing)?;
-    let shown = match estimate_by(
+    observe(compiled, standing, workspace);
+    let found = estimate_in(
         alloc,
         compiled,
-        worlds,
+        &workspace.worlds,
         &standing.estimate,
         standing.command,
-        &seen,
-        space,
-    )? {
-        Estimate::Found { state, cost } => {
-            answer(alloc, compiled, standing, policy, state, cost)?
-        }
-        Estimate::Unexplained => {
-            standing.holding = true;
-            standing.count(alloc, None, tick);
-            Shown::Unexplained
+        workspace.seen.as_slice(),
+        &mut workspace.space,
+    );
+    let outcome = match found {
+        Some(cost) => answer(compiled, standing, workspace, cost),
+        None => {
+            standing.hold(tick);
+            Outcome::Unexplained
         }
     };
-    *last_seen = seen;
-    Ok(TickReport { tick, shown })
+    Made { tick, outcome }
 }

@@ -1,5 +1,5 @@
 -- What the lines of a form mean.
-use Rattle.std.specs.Prelude.{ℕ, Bool, List, Option, Result}
+use Rattle.std.specs.Prelude.{ℕ, Bool, true, false, List, Option, Some, None, Result, Ok, Err}
 use Rattle.cca_base.specs.PlantModel.{PlantModel}
 use Rattle.line_machine.specs.Next.{Next}
 use Rattle.model_form.specs.Answers.{Answer}
@@ -16,3 +16,13 @@ pub record LineMeaning (L I : Type 0) : Type 1 where
   pub serves : I → L → ℕ → Next L → List ℕ → Type 0
   pub closing : L → ℕ → Answer
   pub awaits : L → ℕ → Type 0
+
+-- an item, if a line asks for it
+abbrev pub item_if : {I : Type 0} → I → Bool → Option I
+item_if item true = Some item
+item_if item false = None
+
+-- what a line was read as, by a call that puts an item into its place and answers whether the line asks for it
+abbrev pub read_into : {I E : Type 0} → I → Result Bool E → Result (Option I) E
+read_into item (Ok asks) = Ok (item_if item asks)
+read_into item (Err e) = Err e

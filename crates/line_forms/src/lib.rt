@@ -6,8 +6,10 @@ mod kept;
 mod laws;
 mod line_form;
 mod lines;
+mod place;
 
 pub use kept::kept_line;
 pub use laws::lines_are_done;
 pub use line_form::{LineForm, OpensLines};
 pub use lines::Lines;
+pub use place::placed;

@@ -1,11 +1,11 @@
 //! A form of words by its lines: what a line says, and what is done for it.
 
-ghost use Rattle.std.specs.Prelude.{◌≡◌, ◌+◌, ℕ, Bool, List, [], Option, Result, Ok, Some, None, IfOk, IfSome, IsTrue};
+ghost use Rattle.std.specs.Prelude.{◌≡◌, ◌+◌, ℕ, Bool, List, [], Option, Result, Ok, Some, None, true, IfOk, IsTrue};
 ghost use Rattle.cca_base.specs.Prelude.{Answers, CompiledModel};
 ghost use Rattle.line_machine.specs.Next.{Next, next_of};
 ghost use Rattle.byte_buffer.specs.Outs.{Appended, IsFront};
 ghost use Rattle.model_form.specs.Answers.{answer};
-ghost use Rattle.line_forms.specs.LineMeaning.{LineMeaning};
+ghost use Rattle.line_forms.specs.LineMeaning.{LineMeaning, read_into};
 
 use cca_base::{Model, Stop};
 use line_machine::{End, Out};
@@ -33,23 +33,27 @@ pub trait LineForm<I> {
     fn skips_empty(&self) -> bool
         ensures { IsTrue result → means.said self.now [] (Ok None) };
 
-    /// Reads a line.
-    fn read(&self, alloc: Global, line: &[u8]) -> Result<Option<I>, Stop>
-        ensures said { Answers result (means.said self.now line.now) }
-        ensures fits { IfOk result (λ item. IfSome item (means.fits self.now)) };
+    /// A place for what a line asks for, before the first line. The error is out of memory.
+    fn place(&self, alloc: Global) -> Result<I, AllocError>;
 
-    /// Does what a line of this number asks for, and appends what is printed. The error is out of memory.
+    /// Reads a line: whether it asks for something, which stands in the place then.
+    fn read(&self, alloc: Global, line: &[u8], item: &mut I) -> Result<bool, Stop>
+        ensures said { Answers (read_into item.new result) (means.said self.now line.now) }
+        ensures fits { result ≡ Ok true → means.fits self.now item.new };
+
+    /// Does what a line of this number asks for, and appends what is printed. What stands in the place afterwards means nothing. The
+    /// error is out of memory.
     fn serve(
         &mut self,
         alloc: Global,
         number: u64,
-        item: I,
+        item: &mut I,
         out: &mut Out,
     ) -> Result<Option<End>, AllocError>
-        requires fits { means.fits self.old item }
+        requires fits { means.fits self.old item.old }
         requires turn { means.awaits self.old number }
-        ensures serves { IfOk result (λ end.
-            Appended (means.serves item self.old number (next_of self.new end)) out.old out.new) }
+        ensures serves { IfOk result (λ end. Appended
+            (means.serves item.old self.old number (next_of self.new end)) out.old out.new) }
         ensures turn { IfOk result (λ end. end ≡ None → means.awaits self.new (number + 1)) }
         ensures front { IsFront out.old out.new };
 

@@ -6,13 +6,13 @@ use crate::line_form::{LineForm, OpensLines};
 use line_machine::{End, Machine, Out};
 use model_form::{Accepted, BehindModel, refuse_code_to, refuse_stop_to};
 use std::alloc::{AllocError, Global};
-use std::marker::PhantomData;
 
 /// The machine of a form by its lines.
 #[derive(Drop)]
 pub struct Lines<L, I> {
     form: L,
-    of: PhantomData<I>,
+    /// The place into which a line's item is read.
+    item: I,
 }
 
 impl<L, I> std::marker::Model for Lines<L, I> {
@@ -22,14 +22,12 @@ impl<L, I> std::marker::Model for Lines<L, I> {
 }
 
 impl<L: LineForm<I> + Drop, I: Drop> Lines<L, I> {
-    /// The machine where the form stands.
-    pub fn new(form: L) -> Lines<L, I>
-        ensures { result ≡ form }
+    /// The machine where the form stands. The error is out of memory.
+    pub fn new(alloc: Global, form: L) -> Result<Lines<L, I>, AllocError>
+        ensures { IfOk result (λ w. w ≡ form) }
     {
-        Lines {
-            form,
-            of: PhantomData,
-        }
+        let item = form.place(alloc)?;
+        Ok(Lines { form, item })
     }
 }
 
@@ -77,9 +75,9 @@ impl<L: LineForm<I> + Drop, I: Drop> Machine for Lines<L, I> {
         line: &[u8],
         out: &mut Out,
     ) -> Result<Option<End>, AllocError> {
-        match self.form.read(alloc, line) {
-            Ok(Some(item)) => self.form.serve(alloc, number, item, out),
-            Ok(None) => Ok(None),
+        match self.form.read(alloc, line, &mut self.item) {
+            Ok(true) => self.form.serve(alloc, number, &mut self.item, out),
+            Ok(false) => Ok(None),
             Err(stop) => {
                 let json = self.form.is_json();
                 refuse_stop_to(alloc, json, self.form.model(), number, &stop, out)?;
@@ -97,6 +95,8 @@ impl<L: OpensLines<I> + Drop, I: Drop> BehindModel for Lines<L, I> {
     ghost first = { L.first };
 
     fn open(alloc: Global, accepted: Accepted) -> Result<Lines<L, I>, AllocError> {
-        Ok(Lines::new(L::open(alloc, accepted)?))
+        let form = L::open(alloc, accepted)?;
+        let lines = Lines::new(alloc, form)?;
+        Ok(lines)
     }
 }

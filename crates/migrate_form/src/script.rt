@@ -115,23 +115,29 @@ impl LineForm<KeptLine> for ScriptInSecond {
         true
     }
 
-    fn read(&self, alloc: Global, line: &[u8]) -> Result<Option<KeptLine>, Stop> {
+    fn place(&self, alloc: Global) -> Result<KeptLine, AllocError> {
+        Ok(KeptLine {
+            event: Event::Tick,
+            line: List::new(alloc),
+        })
+    }
+
+    fn read(&self, alloc: Global, line: &[u8], item: &mut KeptLine) -> Result<bool, Stop> {
         let model = NamedModel::new(&self.model, &self.names);
         let Known { pending, mirrored } = &self.known;
-        match read_named_event(alloc, line, model, pending, *mirrored)? {
-            Some(event) => {
-                let line = kept_line(alloc, line)?;
-                Ok(Some(KeptLine { event, line }))
-            }
-            None => Ok(None),
-        }
+        let Some(event) = read_named_event(alloc, line, model, pending, *mirrored)? else {
+            return Ok(false);
+        };
+        let line = kept_line(alloc, line)?;
+        *item = KeptLine { event, line };
+        Ok(true)
     }
 
     fn serve(
         &mut self,
         alloc: Global,
         _number: u64,
-        item: KeptLine,
+        item: &mut KeptLine,
         out: &mut Out,
     ) -> Result<Option<End>, AllocError> {
         print_line(item.line.as_slice(), out)?;

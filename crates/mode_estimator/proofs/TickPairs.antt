@@ -132,7 +132,7 @@ module _ (t : Tick) where
               | inr free ↦ All-contains (λ p. slice_get s p.item ≡ Some p.value) (free_pairs rows cube) p extends (to_filter (λ p. not (is_fixed rows p.item)) cube p (ap not free) among)
             ])
 
-        pub clash_cuts : Clash m t.seen.now.pairs cube → IsCut (asked t) (free_pairs rows cube)
+        pub clash_cuts : Clash m t.seen.now cube → IsCut (asked t) (free_pairs rows cube)
         clash_cuts clash s costs h extends = clash s (solved_state s costs h) (whole_stands s costs h extends) h.shows
 
         -- each free pair is one of the group, with the mode that stands there
@@ -178,10 +178,10 @@ module _ (t : Tick) where
           get_or_from_slice_get s i mode 0 (All-contains (λ p. slice_get s p.item ≡ Some p.value) pairs (record { item = i; value = mode }) extends among)
           ∙ chosen_mode rows i values (slice_index costs i) (paths.cost i within (whole i within)))
 
-      pub none_solves : IsShowable m t.seen.now.pairs pairs → IsWhole (asked t) names group → (asked t).solves values costs
+      pub none_solves : IsShowable m t.seen.now pairs → IsWhole (asked t) names group → (asked t).solves values costs
       none_solves shown whole = record {
         states = as_many;
         full = paths.components;
         each = λ c within. paths.cost c within (whole c within);
-        shows = subst (λ s. CanShow m s t.seen.now.pairs) (shown_values shown.0 shown.1 shown.2 whole) shown.3;
+        shows = subst (λ s. CanShow m s t.seen.now) (shown_values shown.0 shown.1 shown.2 whole) shown.3;
       }

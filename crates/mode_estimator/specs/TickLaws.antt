@@ -34,7 +34,7 @@ number_at (suc n) at h = elim (below_next at n (omega (arith, h))) [
 
 -- what is asked at a tick
 abbrev pub asked : Tick → Question
-asked t = tick_of t.rules.now.model.now t.rows.now.rows t.seen.now.pairs
+asked t = tick_of t.rules.now.model.now t.rows.now.rows t.seen.now
 
 abbrev pub tick_means : PathMeaning Tick TickSpace
 tick_means = record { question = asked; is_space = λ t space. IsTickSpace t.rules.now.worlds.now (length t.rows.now.rows) space }

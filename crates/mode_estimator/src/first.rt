@@ -11,7 +11,7 @@ ghost use Rattle.mode_estimator.specs.Ticks.{AreMasks, AreRowsOf};
 
 use crate::space::EstimateSpace;
 use crate::tick::Tick;
-use cca_base::{Choice, List, MAX_CHOICES, Seen, ValueSet};
+use cca_base::{Choice, List, MAX_CHOICES, Pair, ValueSet};
 use consistency::Rules;
 use group_search::{group_cost, least_in};
 use successors::ChoiceRows;
@@ -54,13 +54,13 @@ pub(crate) fn copy_modes(from: &List<u8>, to: &mut List<u8>)
 /// one of the memory. None where there is none.
 pub(crate) fn first_shown<'a>(
     rules: &'a Rules<'a>,
-    seen: &'a Seen,
+    seen: &'a [Pair],
     space: &mut EstimateSpace,
 ) -> Option<u64>
     requires rows { AreRowsOf rules.now.model.now space.old.choices.rows.rows }
-    requires seen { All (λ p. HasValue rules.now.model.now p.item p.value) seen.now.pairs }
+    requires seen { All (λ p. HasValue rules.now.model.now p.item p.value) seen.now }
     requires space { IsEstimateSpace rules.now.model.now rules.now.worlds.now space.old }
-    ensures first { IsFirstShown rules.now.model.now space.old.choices.rows.rows seen.now.pairs
+    ensures first { IsFirstShown rules.now.model.now space.old.choices.rows.rows seen.now
         (found_in result space.new.found) }
     ensures space { IsEstimateSpace rules.now.model.now rules.now.worlds.now space.new }
 {

@@ -11,7 +11,7 @@ ghost use Rattle.mode_estimator.specs.Spaces.{IsEstimateSpace};
 use crate::answer::Estimate;
 use crate::first::{copy_modes, first_shown};
 use crate::space::EstimateSpace;
-use cca_base::{Compiled, Seen, State};
+use cca_base::{Compiled, Pair, Seen, State};
 use consistency::{Rules, Worlds};
 use std::alloc::{AllocError, Global};
 use successors::{choices_in, obey};
@@ -25,21 +25,20 @@ pub fn estimate_in(
     worlds: &Worlds,
     state: &State,
     command: Option<u16>,
-    seen: &Seen,
+    seen: &[Pair],
     space: &mut EstimateSpace,
 ) -> Option<u64>
     requires worlds { AreWorldsOf compiled.now.model worlds.now }
     requires state { IsState compiled.now.model state.now.modes }
-    requires seen { All (λ p. HasValue compiled.now.model p.item p.value) seen.now.pairs }
+    requires seen { All (λ p. HasValue compiled.now.model p.item p.value) seen.now }
     requires space { IsEstimateSpace compiled.now.model worlds.now space.old }
-    ensures estimate { IsEstimate compiled.now.model state.now.modes command seen.now.pairs (found_in result space.new.found) }
+    ensures estimate { IsEstimate compiled.now.model state.now.modes command seen.now (found_in result space.new.found) }
     ensures space { IsEstimateSpace compiled.now.model worlds.now space.new }
 {
     let model = compiled.model();
     copy_modes(&state.modes, &mut space.found.modes);
     obey(compiled, &mut space.found, command);
-    let pairs = seen.pairs.as_slice();
-    if worlds.agrees(model, &space.found, pairs, &mut space.tick.worlds) {
+    if worlds.agrees(model, &space.found, seen, &mut space.tick.worlds) {
         return Some(0);
     }
     choices_in(compiled, state, command, &mut space.choices);
@@ -68,7 +67,8 @@ pub fn estimate_by(
     ensures estimate { IfOk result (IsEstimate compiled.now.model state.now.modes command seen.now.pairs) }
     ensures space { IsEstimateSpace compiled.now.model worlds.now space.new }
 {
-    match estimate_in(alloc, compiled, worlds, state, command, seen, space) {
+    let pairs = seen.pairs.as_slice();
+    match estimate_in(alloc, compiled, worlds, state, command, pairs, space) {
         None => Ok(Estimate::Unexplained),
         Some(cost) => {
             let state = space.found.copy(alloc)?;

@@ -8,6 +8,7 @@ use cca_base::{List, Model, Pair, State, numbers_below};
 use consistency::{WorldSpace, Worlds};
 use group_search::SearchRoom;
 use std::alloc::{AllocError, Global};
+use std::mem::swap;
 use successors::ChoiceSpace;
 
 /// Memory for questions whether modes clash with what is seen.
@@ -77,5 +78,13 @@ impl EstimateSpace {
         ensures { result.now ≡ self.now.found }
     {
         &self.found
+    }
+
+    /// Hands out the state that was found last, and keeps the other as memory for the next.
+    pub fn swap_found(&mut self, state: &mut State)
+        ensures taken { state.new ≡ self.old.found }
+        ensures kept { self.new ≡ record self.old { found = state.old } }
+    {
+        swap(&mut self.found, state);
     }
 }

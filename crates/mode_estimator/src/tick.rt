@@ -1,10 +1,9 @@
 //! A tick as a question of paths: each component chooses a mode from its row, and the state that they make is to have a world that
 //! agrees with what is seen.
 
-ghost use Rattle.std.specs.Prelude.{◌≡◌, ◌∷◌, ◌++◌, ◌<◌, ◌≤◌, ℕ, true, All, Contains, length, slice_get, slice_index, slice_index_or, Some, false, filter, not};
-ghost use Rattle.cca_base.specs.Prelude.{HasMode, HasValue, IsCube};
+ghost use Rattle.std.specs.Prelude.{◌≡◌, ◌<◌, ◌≤◌, true, All, length, Some, false, filter, not};
+ghost use Rattle.cca_base.specs.Prelude.{HasValue, IsCube};
 ghost use Rattle.cca_base.specs.Relations.{numbers_below};
-ghost use Rattle.cca_base.specs.Sets.{has};
 ghost use Rattle.cca_base.specs.declared.choice.Choice.{Choice};
 ghost use Rattle.cca_base.specs.declared.cube.Pair.{Pair};
 ghost use Rattle.cca_base.specs.declared.limits.TheConstants.{MAX_ROWS};
@@ -12,7 +11,7 @@ ghost use Rattle.mode_estimator.specs.Ticks.{AreRowsOf, IsNextIn, ArePairsOf, is
 
 use crate::space::TickSpace;
 use bounded_list::BoundedList;
-use cca_base::{Choice, Pair, Seen};
+use cca_base::{Choice, Pair};
 use consistency::Rules;
 use group_search::{Columns, Paths, has_value, is_in_group};
 use successors::ChoiceRows;
@@ -21,11 +20,11 @@ use successors::ChoiceRows;
 #[derive(Drop)]
 pub(crate) struct Tick<'a, 'b> {
     pub rules: &'a Rules<'a>,
-    pub seen: &'a Seen,
+    pub seen: &'a [Pair],
     pub rows: &'b ChoiceRows,
     /// The component of each place: itself.
     pub components: &'b [u16],
-    ghost values: { All (λ p. HasValue rules.now.model.now p.item p.value) seen.now.pairs },
+    ghost values: { All (λ p. HasValue rules.now.model.now p.item p.value) seen.now },
     ghost of_rows: { AreRowsOf rules.now.model.now rows.now.rows },
     ghost places: { components.now ≡ numbers_below (length rows.now.rows) },
 }
@@ -143,8 +142,7 @@ impl<'a, 'b> Paths<TickSpace> for Tick<'a, 'b> {
         cut: &mut BoundedList<Pair>,
     ) -> bool {
         write_pairs(self.rows, values, names, group, &mut space.asked);
-        let (rules, seen) = (self.rules, self.seen.pairs.as_slice());
-        let asked = space.asked.as_slice();
+        let (rules, seen, asked) = (self.rules, self.seen, space.asked.as_slice());
         if !rules.worlds.clash_into(
             rules.model,
             asked,

@@ -8,7 +8,7 @@ ghost use Rattle.plan_checker.specs.Worlds.{AreSeen, SomeAreSeen};
 
 use crate::states::is_world;
 use cca_base::{Seen, State, World};
-use consistency::{Mirror, Rules, stand_in};
+use consistency::{Rules, stand_in};
 use std::alloc::AllocError;
 use trace_laws::{Standing, nothing_seen};
 
@@ -22,14 +22,12 @@ fn observed(rules: &Rules, standing: &Standing) -> Result<Seen, AllocError>
     if standing.holding {
         return Ok(nothing_seen(rules.alloc));
     }
-    let mut mirror = Mirror::new();
     rules.worlds.observed_by(
         rules.alloc,
         rules.model,
         &standing.plant,
         standing.known.mirrored,
-        &standing.known.pending,
-        &mut mirror,
+        standing.known.pending.pairs.as_slice(),
     )
 }
 

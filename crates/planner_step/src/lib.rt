@@ -8,4 +8,4 @@ mod reached;
 mod toward;
 
 pub use answer::Answer;
-pub use next::next_command;
+pub use next::{answer_for, next_command};

@@ -13,27 +13,29 @@ use crate::answer::Answer;
 use crate::missing::first_missing;
 use crate::reached::first_unreached;
 use crate::toward::command_toward;
-use cca_base::{Goal, State, Steps};
+use cca_base::{Goal, Pair, State, Steps};
 use policy_tables::Tables;
 use std::sync::ledger::Ledger;
 
-/// The answer that the rule of the cells finds.
-fn answer_by_rule<L: Ledger>(
+/// The answer for a goal of these pairs, by the rule of the cells. It takes no memory, and at most twice as many steps as there are
+/// components, each of which is counted.
+pub fn answer_for<L: Ledger>(
     tables: &Tables,
     state: &State,
-    goal: &Goal,
+    pairs: &[Pair],
     steps: &mut Steps<L>,
 ) -> Answer
     requires covers { CoversState tables.now.classes state.now.modes }
-    requires goal { IsGoal tables.now.classes.compiled goal.now.pairs }
-    ensures rule { IsAnswer (member_of tables.now) (cells_of tables.now) state.now.modes
-        goal.now.pairs (reply_of result) }
+    requires goal { IsGoal tables.now.classes.compiled pairs.now }
+    ensures rule { IsAnswer (member_of tables.now) (cells_of tables.now) state.now.modes pairs.now
+        (reply_of result) }
+    ensures promises { Promising tables.now.classes.compiled state.now.modes pairs.now
+        (reply_of result) }
     ensures counts { steps.old ≤ steps.new }
     ensures steps { steps.new ≤ steps.old + 2 * length
         tables.now.classes.compiled.model.components }
 {
     let _classes = tables.classes();
-    let pairs = goal.pairs.as_slice();
     if let Some(pair) = first_unreached(tables, state, pairs, steps) {
         return Answer::Unreachable(pair.item, pair.value);
     }
@@ -72,5 +74,5 @@ pub fn next_command<L: Ledger>(
         tables.now.classes.compiled.model.components }
 {
     let _classes = tables.classes();
-    answer_by_rule(tables, state, goal, steps)
+    answer_for(tables, state, goal.pairs.as_slice(), steps)
 }

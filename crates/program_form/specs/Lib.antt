@@ -1,5 +1,6 @@
 pub mod Headline
 pub mod OneStep
+pub mod Places
 pub mod Printed
 pub mod ProgramMachine
 pub mod ProgramMeaning

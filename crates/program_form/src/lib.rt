@@ -9,6 +9,6 @@ mod running;
 mod sequenced;
 mod told;
 
-pub use item::ProgramItem;
+pub use item::{ItemPlace, ItemRef, ProgramItem};
 pub use laws::{programs_are_told, programs_are_traced, programs_are_written, put_in};
 pub use programmed::{ProgramMachine, Programmed, open_program};

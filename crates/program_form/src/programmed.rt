@@ -1,32 +1,29 @@
 //! The lines behind an accepted model: a control program, and the events behind it.
 
 ghost use Rattle.std.specs.Prelude.{◌≡◌, ◌+◌, None, IfOk, IfSome, OnOk};
-ghost use Rattle.cca_base.specs.Prelude.{Answers, IsCompiled};
+ghost use Rattle.cca_base.specs.Prelude.{Answers};
 ghost use Rattle.formula_syntax.specs.Lookups.{NamesFit};
 ghost use Rattle.line_machine.specs.Next.{next_of};
 ghost use Rattle.byte_buffer.specs.Outs.{Appended, IsFront};
 ghost use Rattle.model_form.specs.FormStates.{form_first};
 ghost use Rattle.control_syntax.specs.Kept.{MayRunSoFar};
-ghost use Rattle.script_reader.specs.EventLines.{AnswersAs, AnswersWhatMayCome};
 ghost use Rattle.program_form.specs.ProgramMachine.{program_lines};
-ghost use Rattle.program_form.specs.Sequences.{event_line};
 ghost use Rattle.program_form.specs.Stages.{ReadsTo, RunsWell, begun};
 ghost use Rattle.program_form.specs.declared.item.ProgramItem.TheVariants.{Reads};
 
-use crate::item::ProgramItem;
+use crate::item::{ItemPlace, ItemRef};
 use crate::running::Running;
 use crate::sequenced::make;
 use cca_base::codes::ENDS_EARLY;
-use cca_base::{Event, Model, Name, Stop, Subject};
+use cca_base::{Model, Name, Stop, Subject};
 use control_program::{Runner, TurnRoom};
 use control_syntax::{ProgramEnd, ProgramReader};
-use executive_loop::Executive;
+use executive_loop::SteadyExecutive;
 use formula_syntax::NamedModel;
 use indexmap::IndexMap;
-use line_forms::{LineForm, Lines, OpensLines, kept_line};
+use line_forms::{LineForm, Lines, OpensLines};
 use line_machine::{End, Out};
 use model_form::{Accepted, MAX_LINE, OfLines, WithModel, refuse_code_to, refuse_stop_to};
-use script_reader::{Context, read_event_by};
 use std::alloc::{AllocError, Global};
 use std::mem;
 
@@ -43,7 +40,7 @@ enum Stage {
 #[derive(Drop)]
 pub struct Programmed {
     names: IndexMap<Name, Subject>,
-    executive: Executive,
+    executive: SteadyExecutive,
     stage: Stage,
 }
 
@@ -93,30 +90,7 @@ fn read_program(
     }
 }
 
-/// What a line behind the program says, with what the executive has pending and mirrored.
-#[tactic(auto, unfolding(crate::specs::Sequences::event_line))]
-fn read_event(
-    alloc: Global,
-    executive: &Executive,
-    names: &IndexMap<Name, Subject>,
-    line: &[u8],
-) -> Result<Option<Event>, Stop>
-    requires fit { NamesFit names.now executive.now.compiled.model }
-    ensures answer { AnswersAs result (event_line executive.now.compiled.model
-        executive.now.state.pending executive.now.state.mirrored line.now) }
-    ensures may_come { AnswersWhatMayCome executive.now.compiled.model
-        executive.now.state.pending executive.now.state.mirrored result }
-    ensures compiled { IsCompiled executive.now.compiled }
-{
-    let context = Context {
-        model: NamedModel::new(executive.compiled().model(), names),
-        pending: executive.pending(),
-        mirrored: executive.mirrored(),
-    };
-    read_event_by(alloc, &context, false, line)
-}
-
-impl OpensLines<ProgramItem> for Programmed {
+impl OpensLines<ItemPlace> for Programmed {
     ghost use Rattle.program_form.specs.ProgramMachine.{program_first};
 
     ghost first = { program_first };
@@ -124,7 +98,7 @@ impl OpensLines<ProgramItem> for Programmed {
     fn open(alloc: Global, accepted: Accepted) -> Result<Programmed, AllocError> {
         let (compiled, names) = accepted.into_parts();
         let reader = ProgramReader::open(alloc)?;
-        let executive = Executive::open(alloc, compiled)?;
+        let executive = SteadyExecutive::open(alloc, compiled)?;
         Ok(Programmed {
             names,
             executive,
@@ -183,7 +157,7 @@ impl Programmed {
 }
 
 // What is said and done stands in `program_lines` (specs/ProgramMachine.antt).
-impl LineForm<ProgramItem> for Programmed {
+impl LineForm<ItemPlace> for Programmed {
     ghost use Rattle.program_form.specs.OneStep.{said_one, serves_one, awaits_on};
 
     ghost means = { program_lines };
@@ -213,17 +187,17 @@ impl LineForm<ProgramItem> for Programmed {
         matches!(self.stage, Stage::Running(_))
     }
 
-    fn read(&self, alloc: Global, line: &[u8]) -> Result<Option<ProgramItem>, Stop> {
+    fn place(&self, alloc: Global) -> Result<ItemPlace, AllocError> {
+        ItemPlace::new(alloc)
+    }
+
+    fn read(&self, alloc: Global, line: &[u8], item: &mut ItemPlace) -> Result<bool, Stop> {
         match &self.stage {
             Stage::Reading(_) => {
-                let bytes = kept_line(alloc, line)?;
-                Ok(Some(ProgramItem::Reads(bytes)))
+                item.keep(alloc, line)?;
+                Ok(true)
             }
-            Stage::Running(_) => match read_event(alloc, &self.executive, &self.names, line) {
-                Ok(Some(event)) => Ok(Some(ProgramItem::Makes(event))),
-                Ok(None) => Ok(None),
-                Err(stop) => Err(stop),
-            },
+            Stage::Running(_) => item.read(&self.executive, &self.names, line),
         }
     }
 
@@ -231,14 +205,14 @@ impl LineForm<ProgramItem> for Programmed {
         &mut self,
         alloc: Global,
         number: u64,
-        item: ProgramItem,
+        item: &mut ItemPlace,
         out: &mut Out,
     ) -> Result<Option<End>, AllocError> {
-        match item {
-            ProgramItem::Reads(bytes) => self.take_line(alloc, number, bytes.as_slice(), out),
-            ProgramItem::Makes(event) => match &mut self.stage {
+        match item.get() {
+            ItemRef::Reads(line) => self.take_line(alloc, number, line, out),
+            ItemRef::Makes(event) => match &mut self.stage {
                 Stage::Running(running) => {
-                    make(alloc, &mut self.executive, running, &event, out)?;
+                    make(&mut self.executive, running, event.borrowed(), out)?;
                     Ok(None)
                 }
                 Stage::Reading(_) => unreachable!(),
@@ -259,7 +233,7 @@ impl LineForm<ProgramItem> for Programmed {
 }
 
 /// The form `program`: behind the model stands a control program, and behind that its events.
-pub type ProgramMachine = WithModel<OfLines, Lines<Programmed, ProgramItem>>;
+pub type ProgramMachine = WithModel<OfLines, Lines<Programmed, ItemPlace>>;
 
 /// The form before the first line.
 pub fn open_program(alloc: Global) -> Result<ProgramMachine, AllocError>

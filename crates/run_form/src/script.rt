@@ -1,10 +1,8 @@
 //! The script behind an accepted model, made line by line.
 
-ghost use Rattle.std.specs.Prelude.{◌≡◌, ◌+◌, ◌-◌, ◌<◌, ◌^◌, IfOk, IfSome, OnOk, option_to_list};
-ghost use Rattle.cca_base.specs.Prelude.{IsCompiled, MayCome, Promising};
-ghost use Rattle.formula_syntax.specs.Lookups.{NamesFit};
+ghost use Rattle.std.specs.Prelude.{◌≡◌, ◌+◌, ◌-◌, ◌<◌, ◌^◌, OnOk, option_to_list};
+ghost use Rattle.cca_base.specs.Prelude.{MayCome, Promising};
 ghost use Rattle.byte_buffer.specs.Outs.{Appended, IsFront};
-ghost use Rattle.script_reader.specs.EventLines.{AnswersAs, event_line};
 ghost use Rattle.run_form.specs.Summaries.{AreFewer, added, counts_of};
 ghost use Rattle.run_form.specs.TickTexts.{EventText};
 ghost use Rattle.trace_laws.specs.Events.{Acts};
@@ -13,21 +11,21 @@ use crate::counts::{Counts, summary};
 use crate::notation::{Notation, is_json};
 use crate::run::OpensScript;
 use crate::told::told;
-use cca_base::{Event, Model, Name, Stop, Subject};
-use executive_loop::Executive;
+use cca_base::{Model, Name, Stop, Subject};
+use executive_loop::SteadyExecutive;
 use indexmap::IndexMap;
 use line_forms::LineForm;
 use line_machine::{End, Out};
 use model_form::{Accepted, MAX_LINE};
-use script_reader::{NamedModel, read_named_event};
 use std::alloc::{AllocError, Global};
+use steady_events::EventPlace;
 
 /// An accepted model, its names, and its executive.
 #[derive(Drop)]
 pub struct Script {
     notation: Notation,
     names: IndexMap<Name, Subject>,
-    executive: Executive,
+    executive: SteadyExecutive,
     counts: Counts,
 }
 
@@ -45,38 +43,13 @@ impl std::marker::Model for Script {
     ghost invariant = { λ s. NamesFit s.names s.executive.compiled.model };
 }
 
-/// What a line of the script says, with what the executive has pending and mirrored.
-fn read(
-    alloc: Global,
-    executive: &Executive,
-    names: &IndexMap<Name, Subject>,
-    line: &[u8],
-) -> Result<Option<Event>, Stop>
-    requires fit { NamesFit names.now executive.now.compiled.model }
-    ensures answer { AnswersAs result (event_line executive.now.compiled.model
-        executive.now.state.pending executive.now.state.mirrored line.now) }
-    ensures may_come { IfOk result (λ event.
-        IfSome event (MayCome executive.now.compiled.model executive.now.state.pending
-        executive.now.state.mirrored)) }
-    ensures compiled { IsCompiled executive.now.compiled }
-{
-    let model = NamedModel::new(executive.compiled().model(), names);
-    read_named_event(
-        alloc,
-        line,
-        model,
-        executive.pending(),
-        executive.mirrored(),
-    )
-}
-
 /// Makes an event, counts its tick, and appends what is printed of it.
 fn make(
     alloc: Global,
     notation: Notation,
-    executive: &mut Executive,
+    executive: &mut SteadyExecutive,
     counts: &mut Counts,
-    event: &Event,
+    event: &EventPlace,
     out: &mut Out,
 ) -> Result<(), AllocError>
     requires may_come { MayCome executive.old.compiled.model executive.old.state.pending
@@ -92,24 +65,24 @@ fn make(
     ensures compiled { executive.new.compiled ≡ executive.old.compiled }
     ensures front { IsFront out.old out.new }
 {
-    match executive.event(event)? {
-        Some(report) => {
-            told(alloc, notation, executive, &report, out)?;
-            counts.count(&report);
+    match executive.act(event.borrowed()) {
+        Some(made) => {
+            told(alloc, notation, executive, made, out)?;
+            counts.count(made);
             Ok(())
         }
         None => Ok(()),
     }
 }
 
-impl OpensScript<Event> for Script {
+impl OpensScript<EventPlace> for Script {
     ghost use Rattle.run_form.specs.ScriptMachine.{script_first};
 
     ghost first = { script_first };
 
     fn open(alloc: Global, notation: Notation, accepted: Accepted) -> Result<Script, AllocError> {
         let (compiled, names) = accepted.into_parts();
-        let executive = Executive::open(alloc, compiled)?;
+        let executive = SteadyExecutive::open(alloc, compiled)?;
         Ok(Script {
             notation,
             names,
@@ -119,7 +92,7 @@ impl OpensScript<Event> for Script {
     }
 }
 
-impl LineForm<Event> for Script {
+impl LineForm<EventPlace> for Script {
     ghost use Rattle.run_form.specs.ScriptMachine.{script_lines};
     ghost use Rattle.run_form.specs.OneScript.{said_one, serves_one, awaits_on};
 
@@ -150,15 +123,20 @@ impl LineForm<Event> for Script {
         true
     }
 
-    fn read(&self, alloc: Global, line: &[u8]) -> Result<Option<Event>, Stop> {
-        read(alloc, &self.executive, &self.names, line)
+    fn place(&self, alloc: Global) -> Result<EventPlace, AllocError> {
+        EventPlace::new(alloc)
+    }
+
+    #[tactic(auto, unfolding(script_reader::specs::EventLines::event_line))]
+    fn read(&self, _alloc: Global, line: &[u8], item: &mut EventPlace) -> Result<bool, Stop> {
+        item.read(&self.executive, &self.names, true, line)
     }
 
     fn serve(
         &mut self,
         alloc: Global,
         _number: u64,
-        item: Event,
+        item: &mut EventPlace,
         out: &mut Out,
     ) -> Result<Option<End>, AllocError> {
         make(
@@ -166,7 +144,7 @@ impl LineForm<Event> for Script {
             self.notation,
             &mut self.executive,
             &mut self.counts,
-            &item,
+            item,
             out,
         )?;
         Ok(None)

@@ -14,7 +14,6 @@ use Rattle.cca_base.specs.declared.codes.TheConstants.{NOT_SENSED, BROKEN_GOAL, 
 use Rattle.cca_base.specs.declared.cube.Pair.{Pair}
 use Rattle.cca_base.specs.declared.events.Event.{Event}
 use Rattle.cca_base.specs.declared.events.Event.TheVariants as event
-use Rattle.cca_base.specs.declared.events.Stop.{Stop}
 use Rattle.cca_base.specs.declared.formula.Subject.TheVariants as subjects
 use Rattle.cca_base.specs.declared.model.Variable.{Variable}
 use Rattle.cca_base.specs.PlantModel.{PlantModel}
@@ -33,7 +32,7 @@ use Rattle.script_reader.specs.declared.named.Naming.TheVariants.{Modes, Values}
 use Rattle.script_reader.specs.Items.{Item, Goal, Clear, Observe, Fault, Mirror, Reset, Tick, item_of, IsSpelled}
 use Rattle.script_reader.specs.Named.{component_of, variable_of, mode_pair, value_pair, stands_for, each_pair}
 use Rattle.script_reader.specs.EventCodes.{has_item, has_item_twice, is_sensed, is_broken_pair, goal_code, observe_code, mirror_code}
-use Rattle.script_reader.specs.EventLines.{unless, named_event, event_of, event_here, event_by, as_event, by_form, by_tokens, event_line, AnswersAs, AnswersWhatMayCome}
+use Rattle.script_reader.specs.EventLines.{unless, named_event, event_of, event_here, event_by, as_event, by_form, by_tokens, event_line}
 use Rattle.script_reader.proofs.EachPair.{as_many, comes_from, pair_parts}
 use Rattle.script_reader.proofs.ItemGrammar.{item_written}
 
@@ -54,7 +53,7 @@ once_each (p ∷ ps) h =
 pub mode_is : (m : PlantModel) (p : NamedPair) (q : Pair) → mode_pair m p ≡ Some q → HasMode m q.item q.value
 mode_is m p q h = mode_of_component m q.item q.value p.value (pair_parts (component_of m p.name) (λ c. value_of m (subjects.Component c) p.value) q h).1
 
-value_is : (m : PlantModel) (p : NamedPair) (q : Pair) → value_pair m p ≡ Some q → HasValue m q.item q.value
+pub value_is : (m : PlantModel) (p : NamedPair) (q : Pair) → value_pair m p ≡ Some q → HasValue m q.item q.value
 value_is m p q h = value_of_variable m q.item q.value p.value (pair_parts (variable_of m p.name) (λ v. value_of m (subjects.Variable v) p.value) q h).1
 
 sensed_by : (m : PlantModel) (pending : List Pair) (mirrored v : ℕ) (o : Option Variable) → slice_get m.variables v ≡ o → option_map_or (λ (x : Variable). x.sensed) o false ≡ true
@@ -185,9 +184,3 @@ pub event_comes : (m : PlantModel) (pending : List Pair) (mirrored : ℕ) (line 
 unfolding event_line
 event_comes m pending mirrored line None h = tt
 event_comes m pending mirrored line (Some e) h = tokens_come m pending mirrored e true (tokens_of line) h
-
--- the event that a call answered may come
-pub line_may_come : (goals : Bool) (m : PlantModel) (pending : List Pair) (mirrored : ℕ) (t : Result (List Tok) ℕ) (r : Result (Option Event) Stop) → AnswersAs r (by_tokens (event_by goals m pending mirrored) t) → AnswersWhatMayCome m pending mirrored r
-line_may_come goals m pending mirrored t (Ok None) h = tt
-line_may_come goals m pending mirrored t (Ok (Some e)) h = tokens_come m pending mirrored e goals t h
-line_may_come goals m pending mirrored t (Err e) h = tt

@@ -107,19 +107,19 @@ item_again Reset h = refl
 item_again Tick h = refl
 
 -- the tests that are left, from one on
-abbrev from_tick : Lexeme → List Lexeme → Option Item
+abbrev pub from_tick : Lexeme → List Lexeme → Option Item
 from_tick l ls = cond (is_lexeme (word (codes "tick")) l) (ended Tick ls) None
 
-abbrev from_reset : Lexeme → List Lexeme → Option Item
+abbrev pub from_reset : Lexeme → List Lexeme → Option Item
 from_reset l ls = cond (is_lexeme (word (codes "reset")) l) (ended Reset ls) (from_tick l ls)
 
-abbrev from_mirror : Lexeme → List Lexeme → Option Item
+abbrev pub from_mirror : Lexeme → List Lexeme → Option Item
 from_mirror l ls = cond (is_lexeme (word (codes "mirror")) l) (mirror_at ls) (from_reset l ls)
 
-abbrev from_fault : Lexeme → List Lexeme → Option Item
+abbrev pub from_fault : Lexeme → List Lexeme → Option Item
 from_fault l ls = cond (is_lexeme (word (codes "fault")) l) (fault_at ls) (from_mirror l ls)
 
-abbrev from_observe : Lexeme → List Lexeme → Option Item
+abbrev pub from_observe : Lexeme → List Lexeme → Option Item
 from_observe l ls = cond (is_lexeme (word (codes "observe")) l) (pairs_item Observe ls) (from_fault l ls)
 
 abbrev from_clear : Lexeme → List Lexeme → Option Item

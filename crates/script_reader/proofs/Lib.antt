@@ -1,8 +1,10 @@
-pub mod ItemsOfTokens
 pub mod EachPair
 pub mod PairsSoFar
 pub mod ItemGrammar
 pub mod EventsMayCome
+pub mod PairsFound
+pub mod PairsRead
+pub mod AskedItems
 pub mod NamedItems
 pub mod OneSaid
 pub mod TableOfCodes

@@ -1,3 +1,4 @@
+pub mod Asked
 pub mod EventCodes
 pub mod EventLines
 pub mod Items

@@ -3,14 +3,14 @@
 ghost use Rattle.std.specs.Prelude.{◌≡◌, not};
 ghost use Rattle.std.specs.List.{list_any};
 ghost use Rattle.cca_base.specs.Prelude.{has};
-ghost use Rattle.script_reader.specs.EventCodes.{has_item, has_item_twice, is_sensed, is_broken_pair, goal_code, observe_code, mirror_code};
+ghost use Rattle.script_reader.specs.EventCodes.{has_item, has_item_twice, is_sensed, is_broken_pair, observe_code, mirror_code};
 
 use crate::context::Context;
-use cca_base::codes::{BROKEN_GOAL, MIRRORED, NOT_SENSED, REPEATED_PAIR};
+use cca_base::codes::{MIRRORED, NOT_SENSED, REPEATED_PAIR};
 use cca_base::{Model, Pair, VarSet};
 
 /// Whether one of the pairs is of the item.
-fn has_item(pairs: &[Pair], item: u16) -> bool
+pub fn has_item(pairs: &[Pair], item: u16) -> bool
     ensures { result ≡ has_item pairs.now item }
 {
     pairs.iter().any(|p| p.item == item)
@@ -29,7 +29,7 @@ pub fn has_item_twice(pairs: &[Pair]) -> bool
 }
 
 /// Whether the variable is sensed.
-fn is_sensed(model: &Model, v: u16) -> bool
+pub fn is_sensed(model: &Model, v: u16) -> bool
     ensures { result ≡ is_sensed model.now v }
 {
     match model.variables().as_slice().get(v as usize) {
@@ -63,30 +63,16 @@ fn has_mirrored(mirrored: VarSet, pairs: &[Pair]) -> bool
     pairs.iter().any(|p| mirrored.has(p.item))
 }
 
-/// The least code of a goal.
-#[tactic(auto, unfolding(crate::specs::EventCodes::goal_code))]
-pub fn goal_code(model: &Model, pairs: &[Pair]) -> Option<u8>
-    ensures { result ≡ goal_code model.now pairs.now }
-{
-    if has_broken(model, pairs) {
-        Some(BROKEN_GOAL)
-    } else if has_item_twice(pairs) {
-        Some(REPEATED_PAIR)
-    } else {
-        None
-    }
-}
-
 /// The least code of observations.
 #[tactic(auto, unfolding(crate::specs::EventCodes::observe_code))]
 pub fn observe_code(context: &Context, pairs: &[Pair]) -> Option<u8>
-    ensures { result ≡ observe_code context.now.model context.now.pending.now.pairs
+    ensures { result ≡ observe_code context.now.model context.now.pending.now
         context.now.mirrored
         pairs.now }
 {
     if has_unsensed(context.model.model(), pairs) {
         Some(NOT_SENSED)
-    } else if has_item_twice(pairs) || has_pending(context.pending.pairs.as_slice(), pairs) {
+    } else if has_item_twice(pairs) || has_pending(context.pending, pairs) {
         Some(REPEATED_PAIR)
     } else if has_mirrored(context.mirrored, pairs) {
         Some(MIRRORED)
@@ -98,13 +84,13 @@ pub fn observe_code(context: &Context, pairs: &[Pair]) -> Option<u8>
 /// The least code of a variable that is to be mirrored.
 #[tactic(auto, unfolding(crate::specs::EventCodes::mirror_code))]
 pub fn mirror_code(context: &Context, v: u16) -> Option<u8>
-    ensures { result ≡ mirror_code context.now.model context.now.pending.now.pairs
+    ensures { result ≡ mirror_code context.now.model context.now.pending.now
         context.now.mirrored
         v }
 {
     if !is_sensed(context.model.model(), v) {
         Some(NOT_SENSED)
-    } else if has_item(context.pending.pairs.as_slice(), v) {
+    } else if has_item(context.pending, v) {
         Some(REPEATED_PAIR)
     } else if context.mirrored.has(v) {
         Some(MIRRORED)

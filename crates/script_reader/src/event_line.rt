@@ -1,65 +1,46 @@
 //! Lines of a script, read one by one.
 
-ghost use Rattle.std.specs.Prelude.{Ok, map};
-ghost use Rattle.text_base.specs.Tokens.{token_view, tokens_of};
-ghost use Rattle.script_reader.specs.Items.{shown_item};
-ghost use Rattle.script_reader.specs.EventLines.{AnswersAs, AnswersWhatMayCome, as_event, by_tokens, event_by, event_here, event_line};
+ghost use Rattle.std.specs.Prelude.{◌≡◌, ◌≤◌, length, IfOk};
+ghost use Rattle.text_base.specs.Tokens.{tokens_of};
+ghost use Rattle.script_reader.specs.Asked.{event_with};
+ghost use Rattle.script_reader.specs.EventLines.{AnswersAs, AnswersWhatMayCome, by_tokens, event_by, event_line};
 
+use crate::asked::Asked;
+use crate::asking::read_event_in;
 use crate::context::Context;
-use crate::event::event_of;
-use crate::item::{Item, item_of};
-use cca_base::codes::MALFORMED;
-use cca_base::{Event, Model, Seen, Stop, VarSet};
+use bounded_list::BoundedList;
+use cca_base::{Event, List, Model, Pair, Seen, Stop, VarSet};
 use formula_syntax::NamedModel;
-use std::alloc::Global;
-use text_base::{Token, TokenFault, tokens};
+use std::alloc::{AllocError, Global};
 
-/// The event that an item asks for, where goals are set and cleared by no line.
-fn event_here(alloc: Global, context: &Context, item: &Item) -> Result<Event, Stop>
-    ensures { AnswersAs result (event_here context.now.model context.now.pending.now.pairs
-        context.now.mirrored (shown_item item.now)) }
+/// The event that is asked for, where these are its pairs.
+fn event_with(asked: Asked, pairs: BoundedList<Pair>) -> Event
+    ensures { result ≡ event_with pairs.items asked }
 {
-    if let Item::Goal(_) | Item::Clear = item {
-        return Err(Stop::refused(MALFORMED));
+    match asked {
+        Asked::Goal => Event::Goal(List::of(pairs.into_vec())),
+        Asked::Clear => Event::Clear,
+        Asked::Observe => Event::Observe(List::of(pairs.into_vec())),
+        Asked::Fault(pair) => Event::Fault(pair),
+        Asked::Mirror(v) => Event::Mirror(v),
+        Asked::Reset => Event::Reset,
+        Asked::Tick => Event::Tick,
     }
-    event_of(alloc, context, item)
 }
 
-/// The event that an item asks for, by whether lines set and clear goals, as what its line says.
-fn item_event(
-    alloc: Global,
-    context: &Context,
-    goals: bool,
-    item: &Item,
-) -> Result<Option<Event>, Stop>
-    ensures { AnswersAs result (as_event (event_by goals context.now.model
-        context.now.pending.now.pairs context.now.mirrored (shown_item item.now))) }
+/// An empty list that has room for a pair of each component or of each variable.
+fn pairs_for(alloc: Global, model: &Model) -> Result<BoundedList<Pair>, AllocError>
+    ensures components { IfOk result (λ pairs. length model.now.components ≤ pairs.room) }
+    ensures variables { IfOk result (λ pairs. length model.now.variables ≤ pairs.room) }
 {
-    let event = if goals {
-        event_of(alloc, context, item)?
+    let components = model.components().len();
+    let variables = model.variables().len();
+    let room = if components < variables {
+        variables
     } else {
-        event_here(alloc, context, item)?
+        components
     };
-    Ok(Some(event))
-}
-
-/// What the tokens of a line say.
-fn tokens_event(
-    alloc: Global,
-    context: &Context,
-    goals: bool,
-    tokens: &[Token],
-) -> Result<Option<Event>, Stop>
-    ensures { AnswersAs result (by_tokens (event_by goals context.now.model
-        context.now.pending.now.pairs context.now.mirrored) (Ok (map token_view tokens.now))) }
-{
-    if tokens.is_empty() {
-        return Ok(None);
-    }
-    match item_of(alloc, tokens)? {
-        Some(item) => item_event(alloc, context, goals, &item),
-        None => Err(Stop::refused(MALFORMED)),
-    }
+    BoundedList::with_room(alloc, room)
 }
 
 /// Reads one line of a script, without its LF: the event that it asks for, or None for a line without tokens. The refusal
@@ -72,14 +53,15 @@ pub fn read_event_by(
     line: &[u8],
 ) -> Result<Option<Event>, Stop>
     ensures answer { AnswersAs result (by_tokens (event_by goals context.now.model
-        context.now.pending.now.pairs context.now.mirrored) (tokens_of line.now)) }
-    ensures may_come { AnswersWhatMayCome context.now.model context.now.pending.now.pairs
+        context.now.pending.now context.now.mirrored) (tokens_of line.now)) }
+    ensures may_come { AnswersWhatMayCome context.now.model context.now.pending.now
         context.now.mirrored result }
 {
-    match tokens(alloc, line) {
-        Ok(tokens) => tokens_event(alloc, context, goals, tokens.as_slice()),
-        Err(TokenFault::Bad(_)) => Err(Stop::refused(MALFORMED)),
-        Err(TokenFault::Memory) => Err(Stop::Memory),
+    let mut pairs = pairs_for(alloc, context.model.model())?;
+    match read_event_in(context, goals, line, &mut pairs) {
+        Ok(Some(asked)) => Ok(Some(event_with(asked, pairs))),
+        Ok(None) => Ok(None),
+        Err(code) => Err(Stop::refused(code)),
     }
 }
 
@@ -111,7 +93,7 @@ pub fn read_named_event(
 {
     let context = Context {
         model,
-        pending,
+        pending: pending.pairs.as_slice(),
         mirrored,
     };
     read_event_by(alloc, &context, true, line)

@@ -2,16 +2,19 @@
 //! applies to it for the observations that are pending and the variables that are mirrored.
 #![tactic(auto)]
 
+mod asked;
+mod asking;
 mod context;
-mod event;
 mod event_codes;
 mod event_line;
+mod found;
 mod item;
 mod laws;
 mod named;
 
+pub use asked::Asked;
+pub use asking::read_event_in;
 pub use context::Context;
-pub use event::event_of;
 pub use event_codes::{has_broken, has_item_twice, observe_code};
 pub use event_line::{read_event, read_event_by, read_named_event};
 pub use formula_syntax::NamedModel;

@@ -8,6 +8,7 @@ pub mod ListGrammar
 pub mod NameGrammar
 pub mod PairGrammar
 pub mod ListsRead
+pub mod AheadLaws
 pub mod FormGrammar
 pub mod PieceBytes
 pub mod LongestTokens

@@ -18,7 +18,7 @@ pub record IsReadingList {A : Type 0} (part : List Lexeme → Option (A × List 
   pub within : at ≤ length ts
   pub same : with_parts front (list_at part (map lexeme_of (drop at ts))) ≡ list_at part (map lexeme_of ts)
 
-regroup : {A : Type 0} (front : List A) (x : A) (o : Option (List A × List Lexeme)) → with_parts front (with_part x o) ≡ with_parts (front ++ x ∷ []) o
+pub regroup : {A : Type 0} (front : List A) (x : A) (o : Option (List A × List Lexeme)) → with_parts front (with_part x o) ≡ with_parts (front ++ x ∷ []) o
 regroup front x None = refl
 regroup {A} front x (Some read) = ap (λ (xs : List A). Some (xs, read.1)) (sym (append_assoc front (x ∷ []) read.0))
 

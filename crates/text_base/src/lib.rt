@@ -2,6 +2,7 @@
 //! names that a line spells, or the place of the first byte that belongs to none.
 #![tactic(auto)]
 
+mod ahead;
 mod bytes;
 mod cursor;
 mod name;
@@ -9,6 +10,7 @@ mod number;
 mod pairs;
 mod token;
 
+pub use ahead::Ahead;
 pub use cursor::{is_lexeme, is_name_word, name_word_at, names_at, next_is};
 pub use name::{is_reserved, read_name};
 pub use number::read_number;

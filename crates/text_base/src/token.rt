@@ -2,6 +2,7 @@
 
 ghost use Rattle.std.specs.Prelude.{◌≡◌, ℕ, ◌+◌, ◌<◌, ◌≤◌, not, ◌∷◌, List, length, drop, position, map, MatchOption, None, Some, Ok, Err};
 ghost use Rattle.std.specs.List.{AllByRecursion};
+ghost use Rattle.text_base.specs.Ahead.{IsNext};
 ghost use Rattle.text_base.specs.Bytes.{is_comment_byte};
 ghost use Rattle.text_base.specs.Coverage.{BeginsComment, BelongsToLine, StandsBefore, StopsAt, IsLongest};
 ghost use Rattle.text_base.specs.Tokens.{Tok, IsPartOf, IsOfItsKind, Rise, piece_of, StaysWithin, tokens_of, token_view, Gives};
@@ -110,35 +111,60 @@ fn bad_in_comment(bytes: &[u8]) -> Option<usize>
     bytes.iter().position(|b| !is_comment_byte(*b))
 }
 
+/// What stands at a place, behind blanks.
+#[derive(Clone, Copy)]
+pub enum Next<'a> {
+    End,
+    Here(Token<'a>),
+    Bad(BadByte),
+}
+
+/// What stands at a place, behind blanks.
+pub fn next_from<'a>(line: &'a [u8], from: usize) -> Next<'a>
+    requires { from ≤ length line.now }
+    ensures { IsNext line.now from result }
+{
+    let mut at = from;
+    'blanks: while at < line.len() {
+        match piece_of(line[at], &line[at + 1..]) {
+            Piece::Blank => at += 1,
+            Piece::Comment => {
+                return match bad_in_comment(&line[at..]) {
+                    None => Next::End,
+                    Some(k) => Next::Bad(BadByte { at: at + k }),
+                };
+            }
+            Piece::Run(kind, more) => {
+                let end = at + more + 1;
+                return Next::Here(Token {
+                    kind,
+                    start: at,
+                    end,
+                    text: &line[at..end],
+                });
+            }
+            Piece::Bad => return Next::Bad(BadByte { at }),
+        }
+    }
+    Next::End
+}
+
 /// The tokens of a line, each as long as it can be, or the first byte that belongs to nothing.
 pub fn tokens<'a>(alloc: Global, line: &'a [u8]) -> Result<Vec<Token<'a>>, TokenFault>
     ensures { Gives (λ v. map token_view v.items) result (tokens_of line.now) }
 {
     let mut out = Vec::new(alloc);
     let mut at = 0;
-    while at < line.len() {
-        match piece_of(line[at], &line[at + 1..]) {
-            Piece::Blank => at += 1,
-            Piece::Comment => {
-                return match bad_in_comment(&line[at..]) {
-                    None => Ok(out),
-                    Some(k) => Err(TokenFault::Bad(BadByte { at: at + k })),
-                };
+    'tokens: loop {
+        match next_from(line, at) {
+            Next::End => return Ok(out),
+            Next::Bad(bad) => return Err(TokenFault::Bad(bad)),
+            Next::Here(token) => {
+                out.push(token)?;
+                at = token.end;
             }
-            Piece::Run(kind, more) => {
-                let end = at + more + 1;
-                out.push(Token {
-                    kind,
-                    start: at,
-                    end,
-                    text: &line[at..end],
-                })?;
-                at = end;
-            }
-            Piece::Bad => return Err(TokenFault::Bad(BadByte { at })),
         }
     }
-    Ok(out)
 }
 
 /// Each token is a part of its line, and begins behind the one before it.

@@ -1,11 +1,12 @@
 //! What bears on which events may come next: the observations that are pending, and the variables that are mirrored.
 
-ghost use Rattle.std.specs.Prelude.{◌≡◌, [], IfOk};
-ghost use Rattle.cca_base.specs.Prelude.{IsRising, MayCome};
+ghost use Rattle.std.specs.Prelude.{◌≡◌, [], All, Contains, IfOk};
+ghost use Rattle.cca_base.specs.Prelude.{IsCube, IsRising, IsUnion, Lacks, MayCome};
 ghost use Rattle.trace_laws.specs.Events.{PendingAfter, mirrored_after};
 
-use cca_base::{Event, List, Model, Seen, VarSet};
-use consistency::union;
+use bounded_list::BoundedList;
+use cca_base::{Event, List, Model, Pair, Seen, VarSet};
+use consistency::join;
 use std::alloc::{AllocError, Global};
 
 /// What is pending, and what is mirrored.
@@ -25,6 +26,25 @@ pub fn nothing_seen(alloc: Global) -> Seen
     }
 }
 
+/// What is seen, with pairs of other variables besides. The error is out of memory.
+fn joined(alloc: Global, seen: &Seen, pairs: &List<Pair>) -> Result<Seen, AllocError>
+    requires rising { IsRising seen.now.pairs }
+    requires once { IsCube pairs.now }
+    requires new { All (λ p. Lacks p.item seen.now.pairs) pairs.now }
+    ensures { IfOk result (λ both.
+        IsUnion (Contains seen.now.pairs) (Contains pairs.now) both.pairs) }
+{
+    let Some(room) = seen.pairs.len().checked_add(pairs.len()) else {
+        return Err(AllocError);
+    };
+    let mut both = BoundedList::with_room(alloc, room)?;
+    both.push_all(seen.pairs.as_slice());
+    join(&mut both, pairs.as_slice());
+    Ok(Seen {
+        pairs: List::of(both.into_vec()),
+    })
+}
+
 /// What is pending after an event. The error is out of memory.
 fn pending_after(
     alloc: Global,
@@ -38,7 +58,7 @@ fn pending_after(
     ensures rising { IfOk result (λ r. IsRising r.pairs) }
 {
     match event {
-        Event::Observe(pairs) => union(alloc, &known.pending, pairs),
+        Event::Observe(pairs) => joined(alloc, &known.pending, pairs),
         Event::Tick | Event::Reset => Ok(nothing_seen(alloc)),
         Event::Goal(_) | Event::Clear | Event::Fault(_) | Event::Mirror(_) => {
             let pairs = known.pending.pairs.copy(alloc)?;

@@ -1,7 +1,7 @@
 //! The lines behind an accepted model, in which target states are asked for.
 
-ghost use Rattle.std.specs.Prelude.{All, IfOk, OnErr, OnOk, length, ◌<◌, ◌≡◌, ◌≤◌};
-ghost use Rattle.cca_base.specs.Prelude.{HasMode, IsFormula, IsState, PlantModel};
+ghost use Rattle.std.specs.Prelude.{All, IfOk, IfSome, OnErr, OnOk, length, ◌<◌, ◌≡◌, ◌≤◌};
+ghost use Rattle.cca_base.specs.Prelude.{Answers, HasMode, IsFormula, IsState, PlantModel};
 ghost use Rattle.cca_base.specs.declared.limits.TheConstants.{MAX_WEIGHT};
 ghost use Rattle.reversibility.specs.ClassParts.{CoversState};
 ghost use Rattle.want_form.specs.Wishes.{put_in};
@@ -9,7 +9,7 @@ ghost use Rattle.line_machine.specs.Next.{next_of};
 ghost use Rattle.byte_buffer.specs.Outs.{Appended, IsFront};
 ghost use Rattle.model_form.specs.FormStates.{form_first};
 ghost use Rattle.want_lines.specs.declared.request.Request.TheVariants.{Want};
-ghost use Rattle.want_form.specs.WishMachine.{ServesRequest, put_at, weighed};
+ghost use Rattle.want_form.specs.WishMachine.{ServesRequest, put_at, weighed, wish_lines};
 
 use crate::weights::{no_weights, set_weight};
 use cca_base::codes::MANY;
@@ -18,7 +18,7 @@ use formula_syntax::NamedModel;
 use goal_interpreter::{Target, Weights, interpret_by};
 use guard_compiler::{RuleClause, rules_of};
 use indexmap::IndexMap;
-use line_forms::{LineForm, Lines, OpensLines};
+use line_forms::{LineForm, Lines, OpensLines, placed};
 use line_machine::{End, Out};
 use model_form::{Accepted, MAX_LINE, OfLines, WithModel, refuse_code_to};
 use plan_runner::whole_plan;
@@ -164,6 +164,15 @@ impl Wishing {
         }
     }
 
+    /// What a line asks for.
+    fn request(&self, alloc: Global, line: &[u8]) -> Result<Option<Request>, Stop>
+        ensures said { Answers result (wish_lines.said self.now line.now) }
+        ensures fits { IfOk result (λ item. IfSome item (wish_lines.fits self.now)) }
+    {
+        let model = NamedModel::new(self.compiled.model(), &self.names);
+        read_request(alloc, line, &model)
+    }
+
     /// Answers a wish, and appends the text of the answer. The error is out of memory.
     fn answer(
         &self,
@@ -184,7 +193,6 @@ impl Wishing {
 }
 
 impl LineForm<Request> for Wishing {
-    ghost use Rattle.want_form.specs.WishMachine.{wish_lines};
     ghost use Rattle.want_form.specs.OneStep.{said_one, serves_one};
 
     ghost means = { wish_lines };
@@ -213,28 +221,32 @@ impl LineForm<Request> for Wishing {
         true
     }
 
-    fn read(&self, alloc: Global, line: &[u8]) -> Result<Option<Request>, Stop> {
-        let model = NamedModel::new(self.compiled.model(), &self.names);
-        read_request(alloc, line, &model)
+    fn place(&self, alloc: Global) -> Result<Request, AllocError> {
+        Ok(Request::At(List::new(alloc)))
+    }
+
+    fn read(&self, alloc: Global, line: &[u8], item: &mut Request) -> Result<bool, Stop> {
+        let read = self.request(alloc, line)?;
+        Ok(placed(read, item))
     }
 
     fn serve(
         &mut self,
         alloc: Global,
         number: u64,
-        item: Request,
+        item: &mut Request,
         out: &mut Out,
     ) -> Result<Option<End>, AllocError> {
         match item {
             Request::Weight { pair, weight } => {
-                self.weigh(alloc, pair, weight)?;
+                self.weigh(alloc, *pair, *weight)?;
                 Ok(None)
             }
             Request::At(pairs) => {
                 self.put(pairs.as_slice());
                 Ok(None)
             }
-            Request::Want(formula) => self.answer(alloc, number, &formula, out),
+            Request::Want(formula) => self.answer(alloc, number, formula, out),
         }
     }
 

@@ -14,7 +14,7 @@ use crate::told::told;
 use cca_base::{List, Model, Name, Pair, Seen, Stop, Subject, VarSet};
 use formula_syntax::NamedModel;
 use indexmap::IndexMap;
-use line_forms::{LineForm, Lines, OpensLines};
+use line_forms::{LineForm, Lines, OpensLines, placed};
 use line_machine::{End, Out};
 use model_form::{Accepted, MAX_LINE, OfLines, WithModel};
 use script_reader::Context;
@@ -110,7 +110,7 @@ impl Watching {
         let model = self.tracker.compiled().model();
         let script = Context {
             model: NamedModel::new(model, &self.names),
-            pending: &self.pending.seen,
+            pending: self.pending.seen.pairs.as_slice(),
             mirrored: VarSet::empty(),
         };
         let context = WatchContext {
@@ -180,20 +180,24 @@ impl LineForm<WatchEvent> for Watching {
         true
     }
 
-    fn read(&self, alloc: Global, line: &[u8]) -> Result<Option<WatchEvent>, Stop> {
-        self.event(alloc, line)
+    fn place(&self, _alloc: Global) -> Result<WatchEvent, AllocError> {
+        Ok(WatchEvent::Tick)
+    }
+
+    fn read(&self, alloc: Global, line: &[u8], item: &mut WatchEvent) -> Result<bool, Stop> {
+        Ok(placed(self.event(alloc, line)?, item))
     }
 
     fn serve(
         &mut self,
         alloc: Global,
         _number: u64,
-        item: WatchEvent,
+        item: &mut WatchEvent,
         out: &mut Out,
     ) -> Result<Option<End>, AllocError> {
         match item {
             WatchEvent::Sent(command) => {
-                self.pending.command = Some(command);
+                self.pending.command = Some(*command);
                 Ok(None)
             }
             WatchEvent::Observe(pairs) => {

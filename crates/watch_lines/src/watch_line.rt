@@ -44,7 +44,7 @@ fn sent_event(context: &WatchContext, rest: &[Token]) -> Result<WatchEvent, Stop
     requires fit { NumbersFit context.now.places.now context.now.script.model.commands }
     requires few { length context.now.script.model.commands ≤ 2 ^ 16 }
     ensures { Answers result
-        (IsEventOfWords context.now.script.model context.now.script.pending.now.pairs
+        (IsEventOfWords context.now.script.model context.now.script.pending.now
         context.now.sent (word (codes "sent") ∷ map lexeme_of rest.now)) }
 {
     let Some(name) = only_name(rest) else {
@@ -67,7 +67,7 @@ fn observe_event(
 ) -> Result<WatchEvent, Stop>
     requires unmirrored { context.now.script.mirrored ≡ 0 }
     ensures { Answers result
-        (IsEventOfItem context.now.script.model context.now.script.pending.now.pairs
+        (IsEventOfItem context.now.script.model context.now.script.pending.now
         context.now.sent (Observe (map shown_pair named.now))) }
 {
     let script = &context.script;
@@ -84,7 +84,7 @@ fn observe_event(
 fn item_event(alloc: Global, context: &WatchContext, item: &Item) -> Result<WatchEvent, Stop>
     requires unmirrored { context.now.script.mirrored ≡ 0 }
     ensures { Answers result
-        (IsEventOfScript context.now.script.model context.now.script.pending.now.pairs
+        (IsEventOfScript context.now.script.model context.now.script.pending.now
         context.now.sent (shown_item item.now)) }
 {
     match item {
@@ -102,7 +102,7 @@ fn script_event(alloc: Global, context: &WatchContext, tokens: &[Token]) -> Resu
     requires unmirrored { context.now.script.mirrored ≡ 0 }
     requires other { next_is (word (codes "sent")) (map lexeme_of tokens.now) ≡ None }
     ensures { Answers result
-        (IsEventOfWords context.now.script.model context.now.script.pending.now.pairs
+        (IsEventOfWords context.now.script.model context.now.script.pending.now
         context.now.sent (map lexeme_of tokens.now)) }
 {
     match item_of(alloc, tokens)? {
@@ -121,7 +121,7 @@ fn tokens_event(
     requires fit { NumbersFit context.now.places.now context.now.script.model.commands }
     requires few { length context.now.script.model.commands ≤ 2 ^ 16 }
     ensures { Answers result
-        (IsEventOfTokens context.now.script.model context.now.script.pending.now.pairs
+        (IsEventOfTokens context.now.script.model context.now.script.pending.now
         context.now.sent (map lexeme_of tokens.now)) }
 {
     if tokens.is_empty() {
@@ -145,10 +145,10 @@ pub fn read_watch_line(
     requires fit { NumbersFit context.now.places.now context.now.script.model.commands }
     requires few { length context.now.script.model.commands ≤ 2 ^ 16 }
     ensures answer { Answers result
-        (IsWatchEventOf context.now.script.model context.now.script.pending.now.pairs
+        (IsWatchEventOf context.now.script.model context.now.script.pending.now
         context.now.sent line.now) }
     ensures fits { IfOk result (λ event. IfSome event
-        (FitsWatch context.now.script.model context.now.script.pending.now.pairs
+        (FitsWatch context.now.script.model context.now.script.pending.now
         context.now.sent)) }
 {
     match tokens(alloc, line) {

@@ -8,5 +8,6 @@ use Rattle.plan_checker.proofs.world.observed.Goals as goal
 pub returns : goal.returns
 returns c =
     let x : ExecutiveState = c.args.standing.now in
+    let seen = rw c.as_slice.ensures at c.observed_by.ensures.seen in
     IfOk-weaker c.observed_by.result (λ (r : Seen). Observed c.args.rules.now.model.now x r.pairs) (λ (r : Seen). AreSeen c.args.rules.now.model.now x r.pairs)
-    (λ r h. observed_seen c.args.rules.now.model.now x r.pairs (rw (← c.standing.view_is) c.if-standing.false) h) (rw (← c.standing.view_is) c.observed_by.ensures.seen)
+    (λ r h. observed_seen c.args.rules.now.model.now x r.pairs (rw (← c.standing.view_is) c.if-standing.false) h) (rw (← c.standing.view_is) seen)

@@ -1,4 +1,4 @@
-use Rattle.std.proofs.Common.{◌≡◌, None, Some, refl, sym, ap, subst, ◌∙◌}
+use Rattle.std.proofs.Common.{◌≡◌, None, Some, refl, subst, ◌∙◌}
 use Rattle.cca_base.specs.Plans.{Promising}
 use Rattle.control_program.specs.Rooms.{goal_in}
 use Rattle.program_form.specs.ProgramMachine.{sequencer}
@@ -12,10 +12,9 @@ returns-clause-puts c =
     let x = c.args.executive.now in
     let old = c.args.running.now.runner in
     let next = c.turn.new.running.runner in
-    let aim = goal_in c.turn.new.running.room in
-    let same : c.of.result ≡ aim = c.of.ensures ∙ c.in_ok-goal.ensures.items ∙ c.goal.ensures in (
+    let aim = goal_in c.turn.new.running.room in (
       Some (asks aim),
       subst (λ holding. TurnsBefore holding x.compiled.model (sequencer x.state old) (Some (asks aim)) next) c.if-holding.ensures (aim, c.turn.ensures.turn, refl),
-      subst (λ g. Acts x.compiled (Promising x.compiled) x.state (asks g) c.ask.new.executive.state None) same c.in_ok-ask.ensures.acts,
+      subst (λ g. Acts x.compiled (Promising x.compiled) x.state (asks g) c.ask.new.executive.state None) c.goal.ensures c.ask.ensures.acts,
       c.ends.ensures ∙ ends_by old next c.ended-before.result c.ended.result c.ended-before.ensures c.ended.ensures,
     )

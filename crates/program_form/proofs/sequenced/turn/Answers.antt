@@ -5,7 +5,7 @@ use Rattle.cca_base.specs.Trace.{MayCome}
 use Rattle.control_laws.specs.Turns.{TurnsBy}
 use Rattle.control_program.specs.Rooms.{IsTurnRoomOf, goal_in}
 use Rattle.program_form.specs.PutIn.{asks}
-use Rattle.program_form.specs.Stages.{RunsInRoom, RunsWell}
+use Rattle.program_form.specs.Stages.{RunsWell}
 use Rattle.program_form.proofs.RunningWell.{goal_comes, runs_after}
 use Rattle.program_form.proofs.sequenced.turn.Goals as goal
 

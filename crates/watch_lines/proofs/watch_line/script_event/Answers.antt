@@ -9,10 +9,10 @@ pub returns-in-Some : goal.returns-in-Some
 returns-in-Some c =
     let k = c.args.context.now in
     let read = sym c.in_ok-item.ensures ∙ ap (option_map shown_item) c.in-Some.is in
-    item_answer k.script.model k.script.pending.now.pairs k.sent (map lexeme_of c.args.tokens.now) c.requires.other (shown_item c.in-Some.item) c.item_event.result read c.item_event.ensures
+    item_answer k.script.model k.script.pending.now k.sent (map lexeme_of c.args.tokens.now) c.requires.other (shown_item c.in-Some.item) c.item_event.result read c.item_event.ensures
 
 pub returns-in-None : goal.returns-in-None
 returns-in-None c =
     let k = c.args.context.now in
     let none = sym (ap (option_map shown_item) c.in-None.is) ∙ c.in_ok-item.ensures in
-    rw c.refused.ensures (no_item k.script.model k.script.pending.now.pairs k.sent (map lexeme_of c.args.tokens.now) c.requires.other none, refl)
+    rw c.refused.ensures (no_item k.script.model k.script.pending.now k.sent (map lexeme_of c.args.tokens.now) c.requires.other none, refl)

@@ -1,4 +1,4 @@
-use Rattle.std.proofs.Common.{List, None, All, Contains, true, refl, subst, sym}
+use Rattle.std.proofs.Common.{None, All, Contains, true, refl, subst, sym}
 use Rattle.std.proofs.lemmas.Bool.{both_ways}
 use Rattle.list_laws.proofs.Members.{all_from, from_filter}
 use Rattle.cca_base.specs.declared.cube.Pair.{Pair}

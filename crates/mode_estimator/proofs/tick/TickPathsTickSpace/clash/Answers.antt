@@ -3,7 +3,6 @@ use Rattle.cca_base.specs.Cube.{IsPart}
 use Rattle.cca_base.specs.Shown.{Clash}
 use Rattle.cca_base.specs.State.{Extends}
 use Rattle.cca_base.proofs.PathLaws.{length-numbers}
-use Rattle.consistency.specs.Cores.{IsShowable}
 use Rattle.group_search.specs.Questions.{AreOf, IsCut, in_group}
 use Rattle.mode_estimator.specs.TickLaws.{asked}
 use Rattle.mode_estimator.specs.declared.tick.Tick.{Tick}
@@ -37,9 +36,9 @@ pub returns-clause-cut : goal.returns-clause-cut
 returns-clause-cut c _ =
     let t : Tick = c.args.self.now in
     let part : IsPart c.as_slice.result.now c.as_slice-asked.result.now = subst (λ l. IsPart l c.as_slice-asked.result.now) (sym c.as_slice.ensures.items) (c.clash_into.ensures.part c.if-not-clash_into.false) in
-    let clash : Clash t.rules.now.model.now t.seen.now.pairs c.as_slice.result.now =
-    subst (Clash t.rules.now.model.now t.seen.now.pairs) (sym c.as_slice.ensures.items)
-    (subst (λ s. Clash t.rules.now.model.now s c.clash_into.new.clash.items) c.as_slice-seen.ensures (c.clash_into.ensures.clash c.if-not-clash_into.false)) in
+    let clash : Clash t.rules.now.model.now t.seen.now c.as_slice.result.now =
+    subst (Clash t.rules.now.model.now t.seen.now) (sym c.as_slice.ensures.items)
+    (c.clash_into.ensures.clash c.if-not-clash_into.false) in
     subst (IsCut (asked t)) (sym c.write_free.ensures.part)
     (clash_cuts t c.args.names.now c.args.group c.args.values.now c.args.costs.now c.requires.paths c.write_pairs.new.pairs.items c.as_slice-asked.result.now c.write_pairs.ensures.pairs
     c.as_slice-asked.ensures.items c.as_slice.result.now part clash)
@@ -61,7 +60,7 @@ returns-clause-own c _ =
 pub returns-then-not-clash_into-clause-none : goal.returns-then-not-clash_into-clause-none
 returns-then-not-clash_into-clause-none c _ =
     let t : Tick = c.args.self.now in
-    let shows = subst (λ s. IsShowable t.rules.now.model.now s c.as_slice-asked.result.now) c.as_slice-seen.ensures (c.clash_into.ensures.none.0 c.if-not-clash_into.true) in
+    let shows = c.clash_into.ensures.none.0 c.if-not-clash_into.true in
     none_solves t c.args.names.now c.args.group c.args.values.now c.args.costs.now c.requires.paths c.write_pairs.new.pairs.items c.as_slice-asked.result.now c.write_pairs.ensures.pairs
     c.as_slice-asked.ensures.items shows
 

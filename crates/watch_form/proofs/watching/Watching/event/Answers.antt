@@ -16,5 +16,5 @@ read_watch_line-requires-clause-few c =
 pub returns-clause-answer : goal.returns-clause-answer
 returns-clause-answer c =
     let model = c.new.ensures ∙ c.model-model.ensures.value ∙ ap (λ (b : CompiledModel). b.model) c.compiled.ensures.value in
-    let here = rw (model, c.is_some.ensures) at c.read_watch_line.ensures.answer in
+    let here = rw (model, c.as_slice.ensures, c.is_some.ensures) at c.read_watch_line.ensures.answer in
     subst (λ (x : WatchState). Answers c.read_watch_line.result (IsWatchEventOf x.compiled.model x.pending.seen (is_some x.pending.command) c.args.line.now)) c.self.view_is here
