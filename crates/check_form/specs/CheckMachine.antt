@@ -126,6 +126,7 @@ check_lines = record {
   serves = λ item s n u text. ServesIn item s u text;
   closing = closing_in;
   awaits = λ s n. ⊤;
+  steady = λ x n. ⊥;
 }
 
 -- the machine of a document and its printed trace

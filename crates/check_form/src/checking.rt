@@ -69,6 +69,8 @@ impl LineForm<CheckItem> for Checking {
 
     ghost serves_one = { serves_one };
 
+    ghost steady_refusals = { λ x n h. absurd h };
+
     ghost awaits_on = { λ x n h. tt };
 
     fn model(&self) -> &Model {

@@ -32,6 +32,7 @@ module _ {L I : Type 0} (form : LineMeaning L I) where
     steps = LineSteps;
     closes = LineCloses;
     awaits = form.awaits;
+    steady = form.steady;
   }
 
   -- ---- a state and a line lead to one state and one text

@@ -45,6 +45,8 @@ impl<L: LineForm<I> + Drop, I: Drop> Machine for Lines<L, I> {
 
     ghost awaits = { (lines_machine L.means).awaits };
 
+    ghost steady = { (lines_machine L.means).steady };
+
     ghost steps_are_one = { line_steps_are_one L.means L.said_one L.serves_one };
 
     ghost closes_are_one = { line_closes_are_one L.means };

@@ -1,9 +1,9 @@
 -- Calls that follow one another, and what they brought.
-use Rattle.std.proofs.Common.{◌≡◌, ℕ, ◌⊎◌, inl, inr, List, [], ◌∷◌, ◌++◌, length, Option, Some, None, Result, Ok, Err, refl, sym, ap, subst, ◌∙◌, append_assoc, append-nil}
+use Rattle.std.proofs.Common.{◌≡◌, ℕ, ◌≤◌, ◌⊎◌, arith, inl, inr, List, [], ◌∷◌, ◌++◌, length, Option, Some, None, Result, Ok, Err, refl, sym, ap, subst, ◌∙◌, append_assoc, append-nil}
 use Rattle.std.specs.Prelude.{⊤}
 use Rattle.std.proofs.KnownBytes.{prepend_known-nil}
 use Rattle.std.specs.Io.KnownBytes.{prepend_known}
-use Rattle.line_machine.specs.Call.{Call, bytes_of, with_calls, Notes, AllCame}
+use Rattle.line_machine.specs.Call.{Call, bytes_of, with_calls, Notes, AllCame, AreReads}
 use Rattle.line_machine.specs.Found.{IsShort, Fills, Waits, Came}
 use Rattle.line_machine.specs.declared.buffer.FillStop.{FillStop}
 use Rattle.line_machine.specs.declared.buffer.FillStop.TheVariants.{Fault, Memory}
@@ -36,6 +36,10 @@ pub all_came-append : (a b : List Call) → AllCame a → AllCame b → AllCame 
 all_came-append [] b h k = k
 all_came-append (c ∷ a) b h k = (h.0, all_came-append a b h.1 k)
 
+pub reads-append : (a b : List Call) → AreReads a → AreReads b → AreReads (a ++ b)
+reads-append [] b h k = k
+reads-append (c ∷ a) b h k = (h.0, reads-append a b h.1 k)
+
 pub alive : {A : Type 0} → A ⊎ ⊥ → A
 alive (inl a) = a
 alive (inr b) = absurd b
@@ -46,6 +50,7 @@ record Asked (written : Option (List ℕ)) (old new : List ℕ) (left left' : Op
   pub held : new ≡ old ++ came
   pub moved : left ≡ prepend_known came left'
   pub noted : Notes calls calls' (record { came = came; written = written } ∷ [])
+  pub read : AreReads (record { came = came; written = written } ∷ [])
 
 -- one call more
 waits_on : (limit : ℕ) (written : Option (List ℕ)) (call : Call) (is : call.written ≡ written) (calls : List Call) (held : List ℕ) → Waits limit written held calls → AllCame calls → IsShort limit (held ++ bytes_of calls) → Waits limit written held (calls ++ call ∷ [])
@@ -59,7 +64,7 @@ live_on over calls written (b ∷ came) all h = inl (all_came-append calls (reco
 
 -- no call yet
 pub came_none : {limit : ℕ} {written : Option (List ℕ)} {old : List ℕ} {left : Option (List ℕ)} {calls : Option (List Call)} → Came ⊥ limit written old old left left calls calls
-came_none {limit} {written} {old} {left} {calls} = record { asked = []; held = sym (append-nil old); moved = sym (prepend_known-nil left); noted = notes_none calls; waits = tt; live = inl tt }
+came_none {limit} {written} {old} {left} {calls} = record { asked = []; held = sym (append-nil old); moved = sym (prepend_known-nil left); noted = notes_none calls; waits = tt; reads = tt; live = inl tt }
 
 module _ {limit : ℕ} {written : Option (List ℕ)} {old mid : List ℕ} {left left1 : Option (List ℕ)} {calls calls1 : Option (List Call)} where
   module _ (c : Came ⊥ limit written old mid left left1 calls calls1) (short : IsShort limit mid) {new : List ℕ} {left2 : Option (List ℕ)} {calls2 : Option (List Call)} where
@@ -73,17 +78,18 @@ module _ {limit : ℕ} {written : Option (List ℕ)} {old mid : List ℕ} {left 
           moved = c.moved ∙ ap (prepend_known (bytes_of c.asked)) a.moved ∙ prepend_twice left2 (bytes_of c.asked) a.came ∙ ap (λ (l : List ℕ). prepend_known l left2) (sym bytes);
           noted = notes_twice calls calls1 calls2 c.asked (call ∷ []) c.noted a.noted;
           waits = waits_on limit written call refl c.asked old c.waits (alive c.live) (subst (IsShort limit) c.held short);
+          reads = reads-append c.asked (call ∷ []) c.reads a.read;
           live = live_on over c.asked written a.came (alive c.live) h;
         }
 
     -- a call that brought something
     pub came_on : (n : ℕ) (f : Fills written mid new left1 left2 calls1 calls2 (Ok n)) → (n ≡ 0 → ⊥) → Came ⊥ limit written old new left left2 calls calls2
-    came_on n (bytes, count, held, moved, noted) some = came_more ⊥ (record { came = bytes; held = held; moved = moved; noted = noted }) (λ e. some (sym count ∙ ap length e))
+    came_on n (bytes, count, read, held, moved, noted) some = came_more ⊥ (record { came = bytes; held = held; moved = moved; noted = noted; read = read }) (λ e. some (sym count ∙ ap length e))
 
     -- the last call, whatever it brought
     pub came_last : (r : Result ℕ FillStop) → Fills written mid new left1 left2 calls1 calls2 r → Came ⊤ limit written old new left left2 calls calls2
-    came_last (Ok n) (bytes, count, held, moved, noted) = came_more ⊤ (record { came = bytes; held = held; moved = moved; noted = noted }) (λ _. tt)
-    came_last (Err Fault) (same, still, noted) = came_more ⊤ (record { came = []; held = same ∙ sym (append-nil mid); moved = sym still ∙ sym (prepend_known-nil left2); noted = noted }) (λ _. tt)
+    came_last (Ok n) (bytes, count, read, held, moved, noted) = came_more ⊤ (record { came = bytes; held = held; moved = moved; noted = noted; read = read }) (λ _. tt)
+    came_last (Err Fault) (same, still, noted) = came_more ⊤ (record { came = []; held = same ∙ sym (append-nil mid); moved = sym still ∙ sym (prepend_known-nil left2); noted = noted; read = (omega arith, tt) }) (λ _. tt)
     came_last (Err Memory) (same, still, none) =
         record {
           asked = c.asked;
@@ -91,5 +97,6 @@ module _ {limit : ℕ} {written : Option (List ℕ)} {old mid : List ℕ} {left 
           moved = c.moved ∙ ap (prepend_known (bytes_of c.asked)) (sym still);
           noted = subst (λ (o : Option (List Call)). Notes calls o c.asked) (sym none) c.noted;
           waits = c.waits;
+          reads = c.reads;
           live = inl (alive c.live);
         }

@@ -1,6 +1,7 @@
 -- The driver's invariant, its next turn and its exits.
 use Rattle.std.proofs.Common.{◌≡◌, ℕ, ◌+◌, ◌≤◌, ◌<◌, inl, inr, Bool, true, false, cond, ltb, ◌⊎◌, List, [], ◌∷◌, ◌++◌, length, take, drop, Option, Some, None, Result, Ok, Err, IfOk, IfErr, OnErr, refl, sym, ap, subst, ◌∙◌, append_assoc, append-nil}
 use Rattle.std.specs.Io.KnownBytes.{prepend_known, append_known, IsAtEnd}
+use Rattle.std.proofs.KnownBytes.{prepend_known-nil}
 use Rattle.std.proofs.lemmas.List.{take-append-drop}
 use Rattle.std.proofs.lemmas.Bool.{ltb-false}
 use Rattle.titan_wire.specs.Wire.{HasRoom, less_space}
@@ -20,10 +21,13 @@ use Rattle.line_machine.specs.declared.machine.End.TheVariants.{Refused}
 use Rattle.line_machine.specs.declared.machine.Machine.{Ghosts}
 use Rattle.line_machine.proofs.SureTextBegins.{stays_decided}
 use Rattle.line_machine.proofs.SentPieces.{append_known-nil, less_space-none, write_on, less_on, room_on}
-use Rattle.line_machine.specs.Call.{Call, bytes_of, Notes, AllCame}
+use Rattle.line_machine.specs.Call.{Call, bytes_of, Notes, AllCame, AreReads}
 use Rattle.line_machine.specs.Calls.{InTurn, DrivenInTurn}
+use Rattle.line_machine.specs.declared.driver.TheConstants.{OUT_ROOM}
 use Rattle.line_machine.specs.declared.machine.TheConstants.{MAX_LINES}
-use Rattle.line_machine.proofs.Calls.{prepend_twice, notes_twice, bytes_of-append, all_came-append, alive}
+use Rattle.line_machine.proofs.RunsAreOne.{IsFixed}
+use Rattle.line_machine.proofs.SteadyCalls.{StaysSteady, steady_none, steady_on}
+use Rattle.line_machine.proofs.Calls.{prepend_twice, notes_none, notes_twice, bytes_of-append, all_came-append, reads-append, alive}
 use Rattle.line_machine.proofs.BetweenLines.{IsAt, line_taken, next_at, waits, long_taken, so_far, last_run, last_closed}
 
 -- what was found, by its kind
@@ -87,7 +91,9 @@ module _ {S : Type 0} (m : Ghosts S) (first : S) (left0 out0 : Option (List ℕ)
     pub noted : Notes calls0 calls asked
     pub bytes : bytes_of asked ≡ given ++ held
     pub turns : InTurn m first out0 [] asked
+    pub reads : AreReads asked
     pub live : AllCame asked ⊎ over
+    pub steady : StaysSteady m first asked s
 
 module _ {S : Type 0} {m : Ghosts S} {first : S} (out0 : Option (List ℕ)) where
   -- a prefix of a text that may be printed behind what was printed
@@ -106,9 +112,27 @@ module _ {S : Type 0} {m : Ghosts S} {first : S} (out0 : Option (List ℕ)) wher
       record { text = a; rest = []; is = subst (Prints m first taken left) (sym (append-nil a)) now; written = h ∙ e }
 
 module _ {S : Type 0} {m : Ghosts S} {first : S} {left0 out0 : Option (List ℕ)} {space0 : Option ℕ} where
-  pub came : {calls0 calls calls' : Option (List Call)} {over : Type 0} {limit n : ℕ} {s : S} {held held' : List ℕ} {left left' out : Option (List ℕ)} {space : Option ℕ} → IsDriving m first left0 out0 space0 calls0 ⊥ n s held left out space calls
+  -- no line yet
+  pub starts : (calls : Option (List Call)) (held : List ℕ) → held ≡ [] → IsDriving m first left0 out0 space0 calls ⊥ 0 first held left0 out0 space0 calls
+  starts calls held none = record {
+    given = [];
+    text = [];
+    at = record { whole = []; lines = refl; count = refl; runs = (refl, refl) };
+    moved = sym (ap (λ (l : List ℕ). prepend_known l left0) none ∙ prepend_known-nil left0);
+    written = sym (append_known-nil out0);
+    less = less_space-none space0;
+    asked = [];
+    noted = notes_none calls;
+    bytes = sym none;
+    turns = tt;
+    reads = tt;
+    live = inl tt;
+    steady = steady_none m first first;
+  }
+
+  pub came : IsFixed m → {calls0 calls calls' : Option (List Call)} {over : Type 0} {limit n : ℕ} {s : S} {held held' : List ℕ} {left left' out : Option (List ℕ)} {space : Option ℕ} → IsDriving m first left0 out0 space0 calls0 ⊥ n s held left out space calls
       → ((len : ℕ) → 0 < len → len ≤ limit → length_code (m.limit_of s) (n + 1) len ≡ None) → Came over limit out held held' left left' calls calls' → IsDriving m first left0 out0 space0 calls0 over n s held' left' out space calls'
-  came {calls0} {calls} {calls'} {over} {limit} {n} {s} {held} {held'} {left} {left'} {out} {space} d code c =
+  came fixed {calls0} {calls} {calls'} {over} {limit} {n} {s} {held} {held'} {left} {left'} {out} {space} d code c =
       let all : (d.given ++ held) ++ bytes_of c.asked ≡ d.given ++ held' = append_assoc d.given held (bytes_of c.asked) ∙ ap (λ (l : List ℕ). d.given ++ l) (sym c.held) in
       record {
         given = d.given;
@@ -121,7 +145,9 @@ module _ {S : Type 0} {m : Ghosts S} {first : S} {left0 out0 : Option (List ℕ)
         noted = notes_twice calls0 calls calls' d.asked c.asked d.noted c.noted;
         bytes = bytes_of-append d.asked c.asked ∙ ap (λ (l : List ℕ). l ++ bytes_of c.asked) d.bytes ∙ all;
         turns = turns_on m first out0 d.asked c.asked [] d.turns (alive d.live) (subst (λ (b : List ℕ). InTurn m first out0 b c.asked) (sym d.bytes) (turns_here m first out0 d.given n s d.text d.at limit code out d.written c.asked held c.waits));
+        reads = reads-append d.asked c.asked d.reads c.reads;
         live = live_on d.asked c.asked (alive d.live) c.live;
+        steady = steady_on m first fixed d.given held n s d.text d.at limit code out d.asked c.asked d.bytes c.waits d.steady;
       }
 
   -- where a whole line was found, more may be asked for
@@ -129,12 +155,18 @@ module _ {S : Type 0} {m : Ghosts S} {first : S} {left0 out0 : Option (List ℕ)
   goes_on_line {calls0} {calls} {n} {k} {s} {held} {left} {out} {space} f e d = subst (λ v. IsDriving m first left0 out0 space0 calls0 (IsOver (Ok v)) n s held left out space calls) e d
 
   -- the driver asked in turn, however it ends
-  pub in_turn : {calls0 calls : Option (List Call)} {over : Type 0} {n : ℕ} {s : S} {held : List ℕ} {left out out' : Option (List ℕ)} {space : Option ℕ} (r : Result End Cut) (d : IsDriving m first left0 out0 space0 calls0 over n s held left out space calls) → OutputBy m first (d.given ++ held) left out0 out' r → DrivenInTurn m first left0 left out0 out' calls0 calls r
-  in_turn {calls0} {calls} {over} {n} {s} {held} {left} r d says = record {
+  pub in_turn : {calls0 calls : Option (List Call)} {over : Type 0} {n : ℕ} {s : S} {held : List ℕ} {left out out' : Option (List ℕ)} {space : Option ℕ} (r : Result End Cut) (d : IsDriving m first left0 out0 space0 calls0 over n s held left out space calls) → OutputBy m first (d.given ++ held) left out0 out' r → (r ≡ Err Memory → m.steady s OUT_ROOM → ⊥)
+      → DrivenInTurn m first left0 left out0 out' calls0 calls r
+  in_turn {calls0} {calls} {over} {n} {s} {held} {left} r d says keeps = record {
     driven = record { taken = d.given ++ held; moved = d.moved; says = says };
-    order = record { asked = d.asked; noted = d.noted; moved = d.moved ∙ ap (λ (l : List ℕ). prepend_known l left) (sym d.bytes); turns = d.turns };
+    order = record { asked = d.asked; noted = d.noted; moved = d.moved ∙ ap (λ (l : List ℕ). prepend_known l left) (sym d.bytes); turns = d.turns; reads = d.reads };
     came = sym d.bytes;
+    memory = λ e before last is x text sure h. keeps e (d.steady before last is x text sure h);
   }
+
+  pub cut_in_turn : {calls0 calls : Option (List Call)} {over : Type 0} {n : ℕ} {s : S} {held : List ℕ} {left out out' : Option (List ℕ)} {space : Option ℕ} (c : Cut) (d : IsDriving m first left0 out0 space0 calls0 over n s held left out space calls) → OutputBy m first (d.given ++ held) left out0 out' (Err c) → (c ≡ Memory → m.steady s OUT_ROOM → ⊥)
+      → DrivenInTurn m first left0 left out0 out' calls0 calls (Err c)
+  cut_in_turn c d says keeps = in_turn (Err c) d says (λ e. keeps cc)
 
   module _ {calls0 calls : Option (List Call)} {over : Type 0} {n : ℕ} {s : S} {held : List ℕ} {left out : Option (List ℕ)} {space : Option ℕ} (d : IsDriving m first left0 out0 space0 calls0 over n s held left out space calls) where
     now_prints : Prints m first (d.given ++ held) left d.text
@@ -161,8 +193,8 @@ module _ {S : Type 0} {m : Ghosts S} {first : S} {left0 out0 : Option (List ℕ)
         whole = inr (subst (λ (b : List ℕ). IsSure m first b (Stops e) (d.text ++ h.text)) rest_joined (stays_decided m first (d.given ++ take (k + 1) held) (drop (k + 1) held) (d.text ++ h.text) e (line_taken m first d.given held n s d.text d.at k (Stops e) h.text line (subst (λ y. Transition m s (n + 1) y (Stops e) h.text) is h.is))));
       }
 
-      line_goes_on : (t : S) {out' : Option (List ℕ)} {space' : Option ℕ} → Sent (Transition m s (n + 1) l (GoesOn t)) out out' space space' → IsDriving m first left0 out0 space0 calls0 over (n + 1) t (drop (k + 1) held) left out' space' calls
-      line_goes_on t {out'} {space'} h = record {
+      line_goes_on : (t : S) → (m.steady s OUT_ROOM → m.steady t OUT_ROOM) → {out' : Option (List ℕ)} {space' : Option ℕ} → Sent (Transition m s (n + 1) l (GoesOn t)) out out' space space' → IsDriving m first left0 out0 space0 calls0 over (n + 1) t (drop (k + 1) held) left out' space' calls
+      line_goes_on t stays {out'} {space'} h = record {
         given = d.given ++ take (k + 1) held;
         text = d.text ++ h.text;
         at = next_at m first d.given held n s d.text d.at k t h.text line (subst (λ y. Transition m s (n + 1) y (GoesOn t) h.text) is h.is);
@@ -173,7 +205,9 @@ module _ {S : Type 0} {m : Ghosts S} {first : S} {left0 out0 : Option (List ℕ)
         noted = d.noted;
         bytes = d.bytes ∙ sym rest_joined;
         turns = d.turns;
+        reads = d.reads;
         live = d.live;
+        steady = λ before last is x text sure h. stays (d.steady before last is x text sure h);
       }
 
       said_as : (t : S) {out' : Option (List ℕ)} {space' : Option ℕ} (o w : Option End) → o ≡ w → Sent (Transition m s (n + 1) l (next_of t o)) out out' space space' → Sent (Transition m s (n + 1) l (next_of t w)) out out' space space'
@@ -182,12 +216,21 @@ module _ {S : Type 0} {m : Ghosts S} {first : S} {left0 out0 : Option (List ℕ)
       pub line_ends : (t : S) {out' : Option (List ℕ)} {space' : Option ℕ} (o : Option End) (e : End) → o ≡ Some e → Sent (Transition m s (n + 1) l (next_of t o)) out out' space space' → OutputBy m first (d.given ++ held) left out0 out' (Ok e)
       line_ends t o e is_some h = line_stops e (said_as t o (Some e) is_some h)
 
-      pub line_next : (t : S) {out' : Option (List ℕ)} {space' : Option ℕ} (o : Option End) → o ≡ None → Sent (Transition m s (n + 1) l (next_of t o)) out out' space space' → IsDriving m first left0 out0 space0 calls0 over (n + 1) t (drop (k + 1) held) left out' space' calls
-      line_next t o is_none h = line_goes_on t (said_as t o None is_none h)
+      pub line_next : (t : S) → (m.steady s OUT_ROOM → m.steady t OUT_ROOM) → {out' : Option (List ℕ)} {space' : Option ℕ} (o : Option End) → o ≡ None → Sent (Transition m s (n + 1) l (next_of t o)) out out' space space' → IsDriving m first left0 out0 space0 calls0 over (n + 1) t (drop (k + 1) held) left out' space' calls
+      line_next t stays o is_none h = line_goes_on t stays (said_as t o None is_none h)
+
+      -- the line went out, and then there was no memory for the next one
+      pub line_last : (t : S) {out' : Option (List ℕ)} {space' : Option ℕ} (o : Option End) → Sent (Transition m s (n + 1) l (next_of t o)) out out' space space' → OutputBy m first (d.given ++ held) left out0 out' (Err Memory)
+      line_last t {out'} {space'} o h = record {
+        text = d.text ++ h.text;
+        rest = [];
+        is = subst (Prints m first (d.given ++ held) left) (sym (append-nil (d.text ++ h.text))) (line_prints h.text (next_of t o, h.is));
+        written = write_on out0 out out' d.text h.text d.written h.written;
+      }
 
       -- a line that does nothing goes by
       pub line_skipped : Transition m s (n + 1) l (GoesOn s) [] → IsDriving m first left0 out0 space0 calls0 over (n + 1) s (drop (k + 1) held) left out space calls
-      line_skipped h = line_goes_on s (record { text = []; is = h; written = sym (append_known-nil out); less = less_space-none space })
+      line_skipped h = line_goes_on s (λ k. k) (record { text = []; is = h; written = sym (append_known-nil out); less = less_space-none space })
 
       pub line_few : (t : S) {out' : Option (List ℕ)} {space' : Option ℕ} (o : Option End) → o ≡ None → Sent (Transition m s (n + 1) l (next_of t o)) out out' space space' → n + 1 ≤ MAX_LINES
       line_few t o is_none h = let k = said_as t o None is_none h in takes_few m s (n + 1) l t k.text k.is

@@ -1,6 +1,7 @@
 pub mod FirstLineFeed
 pub mod BetweenLines
 pub mod Calls
+pub mod SteadyCalls
 pub mod DriverInvariant
 pub mod LastBytes
 pub mod LengthCodes
@@ -13,4 +14,5 @@ pub mod LineOutput
 pub mod KnownInputs
 pub mod EndsSo
 pub mod NotOpened
+pub mod RanOut
 pub mod RunLines

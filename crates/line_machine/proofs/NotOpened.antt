@@ -13,6 +13,7 @@ use Rattle.line_machine.specs.declared.machine.Machine.{Ghosts}
 use Rattle.line_machine.specs.declared.send.Cut.TheVariants as cuts
 use Rattle.line_machine.proofs.Calls.{notes_none}
 use Rattle.line_machine.proofs.SentPieces.{append_known-nil}
+use Rattle.line_machine.proofs.SteadyCalls.{no_last}
 use Rattle.line_machine.specs.IsDriven.{EndsFor, IsDriven}
 
 nothing_written : (text : List ℕ) (out : Option (List ℕ)) → WroteFront text out out
@@ -24,9 +25,9 @@ module _ {S : Type 0} (m : Ghosts S) (first : S) (left out : Option (List ℕ)) 
       let sure : IsSure m first [] (GoesOn first) [] = record { here = GoesOn first; lines = []; runs = (refl, refl); last = []; tail = (refl, refl); parts = refl } in
       record { taken = []; moved = sym (prepend_known-nil left); says = record { text = []; rest = []; is = BySure [] [] (GoesOn first) refl sure; written = sym (append_known-nil out) } }
 
-  no_order : DrivenInTurn m first left left out out calls calls (Err cuts.Memory)
+  pub no_order : DrivenInTurn m first left left out out calls calls (Err cuts.Memory)
   unfolding nothing_driven
-  no_order = record { driven = nothing_driven; order = record { asked = []; noted = notes_none calls; moved = sym (prepend_known-nil left); turns = tt }; came = refl }
+  no_order = record { driven = nothing_driven; order = record { asked = []; noted = notes_none calls; moved = sym (prepend_known-nil left); turns = tt; reads = tt }; came = refl; memory = λ _ before last e x text sure h. no_last before last e }
 
 module _ {S : Type 0} (m : Ghosts S) where
   no_text : (first : S) (left out : Option (List ℕ)) → IfSome left (λ input. OutputFor m first input out out (Err cuts.Memory))

@@ -1,6 +1,7 @@
 -- A call of a source, beside what the sink had got by then.
-use Rattle.std.specs.Prelude.{◌≡◌, ⊤, ◌⊎◌, ℕ, List, [], ◌∷◌, ◌++◌, take, Option, None, Result, Ok, Err}
+use Rattle.std.specs.Prelude.{◌≡◌, ⊤, ◌⊎◌, ℕ, ◌≤◌, List, [], ◌∷◌, ◌++◌, length, take, Option, None, Result, Ok, Err}
 use Rattle.std.specs.Option.{option_map}
+use Rattle.line_machine.specs.declared.buffer.TheConstants.{TAKE}
 
 -- the bytes that a call brought, and those that had been written when it was made, where they are known
 pub record Call : Type 0 where
@@ -29,3 +30,8 @@ bytes_of (call ∷ calls) = call.came ++ bytes_of calls
 abbrev pub AllCame : List Call → Type 0
 AllCame [] = ⊤
 AllCame (call ∷ calls) = (call.came ≡ [] → ⊥) × AllCame calls
+
+-- each call brought at most so much as is asked for at a time
+abbrev pub AreReads : List Call → Type 0
+AreReads [] = ⊤
+AreReads (call ∷ calls) = (length call.came ≤ TAKE) × AreReads calls

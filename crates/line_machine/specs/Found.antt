@@ -2,7 +2,7 @@
 use Rattle.std.specs.Prelude.{◌≡◌, ⊤, ◌⊎◌, ℕ, ◌<◌, ◌≤◌, List, [], ◌∷◌, ◌++◌, length, Option, Result, Ok, Err}
 use Rattle.std.specs.Io.KnownBytes.{prepend_known, IsAtEnd}
 use Rattle.line_machine.specs.Lines.{HasNoLf, HasLine}
-use Rattle.line_machine.specs.Call.{Call, bytes_of, Notes, AllCame}
+use Rattle.line_machine.specs.Call.{Call, bytes_of, Notes, AllCame, AreReads}
 use Rattle.line_machine.specs.declared.buffer.FillStop.{FillStop}
 use Rattle.line_machine.specs.declared.buffer.FillStop.TheVariants.{Fault, Memory}
 use Rattle.line_machine.specs.declared.buffer.Found.{Found}
@@ -23,7 +23,7 @@ IsFound Last limit held left = IsShort limit held × IsAtEnd left
 
 -- by the answer: one call that brought so many bytes, one that failed and brought none, or no call
 abbrev pub Fills : Option (List ℕ) → List ℕ → List ℕ → Option (List ℕ) → Option (List ℕ) → Option (List Call) → Option (List Call) → Result ℕ FillStop → Type 0
-Fills written old new left left' calls calls' (Ok n) = (came : List ℕ) × (length came ≡ n) × (new ≡ old ++ came) × (left ≡ prepend_known came left') × Notes calls calls' (record { came = came; written = written } ∷ [])
+Fills written old new left left' calls calls' (Ok n) = (came : List ℕ) × (length came ≡ n) × AreReads (record { came = came; written = written } ∷ []) × (new ≡ old ++ came) × (left ≡ prepend_known came left') × Notes calls calls' (record { came = came; written = written } ∷ [])
 Fills written old new left left' calls calls' (Err Fault) = (new ≡ old) × (left' ≡ left) × Notes calls calls' (record { came = []; written = written } ∷ [])
 Fills written old new left left' calls calls' (Err Memory) = (new ≡ old) × (left' ≡ left) × (calls' ≡ calls)
 
@@ -39,6 +39,7 @@ pub record Came (over : Type 0) (limit : ℕ) (written : Option (List ℕ)) (old
   pub moved : left ≡ prepend_known (bytes_of asked) left'
   pub noted : Notes calls calls' asked
   pub waits : Waits limit written old asked
+  pub reads : AreReads asked
   pub live : AllCame asked ⊎ over
 
 -- the source is asked no more

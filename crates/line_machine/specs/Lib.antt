@@ -12,3 +12,4 @@ pub mod Next
 pub mod Runs
 pub mod Sent
 pub mod SentCut
+pub mod Steady

@@ -4,11 +4,14 @@ ghost use Rattle.std.specs.Prelude.{◌≡◌, ◌==◌, position, ◌+◌, ◌-
 ghost use Rattle.std.specs.Io.KnownBytes.{prepend_known, IsAtEnd};
 ghost use Rattle.titan_wire.specs.Wire.{Rose};
 ghost use Rattle.line_machine.specs.Lines.{HasNoLf, HasLine};
+ghost use Rattle.line_machine.specs.declared.buffer.TheConstants.{TAKE};
+ghost use Rattle.line_machine.specs.declared.machine.TheConstants.{LINE_ROOM};
 
 use crate::intake::Intake;
-use std::alloc::Global;
+use crate::machine::LINE_ROOM;
+use std::alloc::{AllocError, Global};
 use std::marker::Model;
-use titan_wire::{Failed, Sink, append_within, drop_front};
+use titan_wire::{Failed, Sink, append_within};
 
 /// Bytes that are asked of a source at a time.
 pub const TAKE: usize = 4096;
@@ -39,6 +42,20 @@ pub fn lf_place(bytes: &[u8]) -> Option<usize>
     bytes.iter().position(|b| *b == b'\n')
 }
 
+/// Lets the first bytes go, moves the others to the front of the memory, and keeps the memory.
+fn compact(bytes: &mut Vec<u8>, count: usize)
+    requires { count ≤ vec_len bytes.old }
+    ensures items { bytes.new.items ≡ drop count bytes.old.items }
+    ensures memory { vec_capacity bytes.new ≡ vec_capacity bytes.old }
+{
+    if count == 0 {
+        return;
+    }
+    let len = bytes.len() - count;
+    bytes.rotate_left(count);
+    bytes.truncate(len);
+}
+
 /// Bytes that came and are not yet given out as lines.
 #[derive(Drop)]
 pub struct LineBuffer {
@@ -52,20 +69,21 @@ impl Model for LineBuffer {
 
     ghost view = { λ b. drop b.start b.bytes.items };
 
-    ghost invariant = { λ b. (b.start + b.scanned ≤ vec_len b.bytes) × HasNoLf (take b.scanned (drop b.start b.bytes.items)) };
+    ghost invariant = { λ b. (b.start + b.scanned ≤ vec_len b.bytes) × HasNoLf (take b.scanned (drop b.start b.bytes.items)) × (LINE_ROOM + TAKE ≤ vec_capacity b.bytes) };
 }
 
 impl LineBuffer {
     ghost use Rattle.line_machine.specs.Found.{Fills, Came, IsOver, IsFound, IsShort};
 
-    pub fn new(alloc: Global) -> LineBuffer
-        ensures { result ≡ [] }
+    /// No bytes, and room for a line of `LINE_ROOM` bytes with all that may come behind it at a time. The error is out of memory.
+    pub fn with_room(alloc: Global) -> Result<LineBuffer, AllocError>
+        ensures { IfOk result (λ b. b ≡ []) }
     {
-        LineBuffer {
-            bytes: Vec::new(alloc),
+        Ok(LineBuffer {
+            bytes: Vec::with_capacity(alloc, LINE_ROOM + TAKE)?,
             start: 0,
             scanned: 0,
-        }
+        })
     }
 
     /// The number of bytes.
@@ -120,16 +138,6 @@ impl LineBuffer {
         self.scanned = 0;
     }
 
-    /// Moves the bytes to the front of the memory.
-    fn compact(&mut self)
-        ensures { self.new ≡ self.old }
-    {
-        if self.start > 0 {
-            drop_front(&mut self.bytes, self.start);
-            self.start = 0;
-        }
-    }
-
     /// Asks the source once for more bytes, and answers how many came. 0 is the end.
     fn fill<S, K: Sink, I: Intake<S, K>>(
         &mut self,
@@ -144,8 +152,10 @@ impl LineBuffer {
             I.faults source.new ≡ I.faults source.old }
         ensures fault { IsErrOf result FillStop.Fault →
             Rose (I.faults source.old) (I.faults source.new) }
+        ensures steady { length self.old ≤ LINE_ROOM → ¬ (IsErrOf result FillStop.Memory) }
     {
-        self.compact();
+        compact(&mut self.bytes, self.start);
+        self.start = 0;
         if self.bytes.reserve(TAKE).is_err() {
             return Err(FillStop::Memory);
         }
@@ -175,6 +185,7 @@ impl LineBuffer {
             I.faults source.new ≡ I.faults source.old }
         ensures fault { IsErrOf result FillStop.Fault →
             Rose (I.faults source.old) (I.faults source.new) }
+        ensures steady { limit ≤ LINE_ROOM → ¬ (IsErrOf result FillStop.Memory) }
     {
         'asks: loop {
             match self.first_line() {

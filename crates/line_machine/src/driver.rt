@@ -7,17 +7,21 @@ ghost use Rattle.line_machine.specs.Runs.{length_code, IsText, Transition};
 ghost use Rattle.line_machine.specs.declared.machine.End.{End};
 ghost use Rattle.line_machine.specs.Calls.{DrivenInTurn};
 ghost use Rattle.line_machine.specs.Driven.{HasRoomFor};
+ghost use Rattle.byte_buffer.specs.Outs.{HasRoomLeft};
 ghost use Rattle.line_machine.specs.Faults.{AnswersFaults};
 ghost use Rattle.line_machine.specs.KnownInput.{Streamed, OutputFor};
 
 use crate::buffer::{FillStop, Found, LineBuffer};
 use crate::intake::Intake;
 use crate::line::{refuse, take_last, take_line};
-use crate::machine::{End, LONG_LINE, MAX_LINES, Machine, TOO_MANY_LINES};
+use crate::machine::{End, LINE_ROOM, LONG_LINE, MAX_LINES, Machine, TOO_MANY_LINES};
 use crate::send::Cut;
 use byte_buffer::Out;
 use std::alloc::Global;
 use titan_wire::Sink;
+
+/// How many bytes the driver's buffer has room for: the text of a line fits.
+pub const OUT_ROOM: usize = 32_768;
 
 /// The most bytes of the line behind so many lines, and the code that it has with more.
 #[tactic(auto, using(crate::proofs::LengthCodes::long_code, crate::proofs::LengthCodes::short_code, crate::proofs::LengthCodes::many_code))]
@@ -27,6 +31,7 @@ fn next_limit<M: Machine>(machine: &M, count: u64) -> (usize, u8)
         Some result.1 }
     ensures short { (len : ℕ) → 0 < len → len ≤ result.0 →
         length_code (M.limit_of machine.now) (count + 1) len ≡ None }
+    ensures steady { (n : ℕ) → M.steady machine.now n → result.0 ≤ LINE_ROOM }
 {
     if count < MAX_LINES {
         (machine.limit(), LONG_LINE)
@@ -48,15 +53,20 @@ fn skips_line<M: Machine>(machine: &M, count: u64, buffer: &LineBuffer) -> bool
     count < MAX_LINES && buffer.begins_empty() && machine.skips_empty()
 }
 
-/// The loop of `drive`.
-fn drive_lines<M: Machine, S, K: Sink, I: Intake<S, K>>(
+/// The loop of `drive`, over buffers that are made.
+fn drive_turns<M: Machine, S, K: Sink, I: Intake<S, K>>(
     alloc: Global,
     machine: &mut M,
     source: &mut S,
     sink: &mut K,
+    buffer: &mut LineBuffer,
+    out: &mut Out,
 ) -> Result<End, Cut>
     requires room { HasRoomFor M.Machine machine.old (I.left source.old) (K.space sink.old) }
     requires first { M.awaits machine.old 1 }
+    requires none_held { buffer.old ≡ [] }
+    requires none_said { out.old.bytes ≡ [] }
+    requires out_room { HasRoomLeft out.old OUT_ROOM }
     ensures driven { DrivenInTurn M.Machine machine.old (I.left source.old) (I.left source.new)
         (K.written sink.old) (K.written sink.new) (I.calls source.old) (I.calls source.new) result }
     ensures read { IsErrOf result Cut.ReadFault → Rose (I.faults source.old) (I.faults source.new) }
@@ -66,11 +76,9 @@ fn drive_lines<M: Machine, S, K: Sink, I: Intake<S, K>>(
     ensures quiet_write { ¬ (IsErrOf result Cut.WriteFault) →
         K.faults sink.new ≡ K.faults sink.old }
 {
-    let mut buffer = LineBuffer::new(alloc);
-    let mut out = Out::new(alloc);
     let mut count: u64 = 0;
     'lines: loop {
-        if skips_line(machine, count, &buffer) {
+        if skips_line(machine, count, buffer) {
             buffer.drop_line(0);
             count += 1;
             continue;
@@ -83,16 +91,16 @@ fn drive_lines<M: Machine, S, K: Sink, I: Intake<S, K>>(
         };
         let len = match found {
             Found::Line(len) => len,
-            Found::Long => match refuse(alloc, machine, count + 1, code, &mut out, sink) {
+            Found::Long => match refuse(alloc, machine, count + 1, code, out, sink) {
                 Ok(()) => return Ok(End::Refused),
                 Err(cut) => return Err(cut),
             },
             Found::Last => {
                 let len = buffer.len();
-                return take_last(alloc, machine, count, buffer.front(len), &mut out, sink);
+                return take_last(alloc, machine, count, buffer.front(len), out, sink);
             }
         };
-        let said = match take_line(alloc, machine, count + 1, buffer.front(len), &mut out, sink) {
+        let said = match take_line(alloc, machine, count + 1, buffer.front(len), out, sink) {
             Ok(said) => said,
             Err(cut) => return Err(cut),
         };
@@ -100,9 +108,35 @@ fn drive_lines<M: Machine, S, K: Sink, I: Intake<S, K>>(
             None => {}
             Some(end) => return Ok(end),
         }
+        let Ok(()) = out.reserve(OUT_ROOM) else {
+            return Err(Cut::Memory);
+        };
         buffer.drop_line(len);
         count += 1;
     }
+}
+
+/// Makes the buffers before the first byte is read, and runs the loop over them.
+fn drive_lines<M: Machine, S, K: Sink, I: Intake<S, K>>(
+    alloc: Global,
+    machine: &mut M,
+    source: &mut S,
+    sink: &mut K,
+) -> Result<End, Cut>
+    requires room { HasRoomFor M.Machine machine.old (I.left source.old) (K.space sink.old) }
+    requires first { M.awaits machine.old 1 }
+    ensures driven { DrivenInTurn M.Machine machine.old (I.left source.old) (I.left source.new)
+        (K.written sink.old) (K.written sink.new) (I.calls source.old) (I.calls source.new) result }
+    ensures faults { AnswersFaults (I.faults source.old) (I.faults source.new) (K.faults sink.old)
+        (K.faults sink.new) result }
+{
+    let Ok(mut buffer) = LineBuffer::with_room(alloc) else {
+        return Err(Cut::Memory);
+    };
+    let Ok(mut out) = Out::with_capacity(alloc, OUT_ROOM) else {
+        return Err(Cut::Memory);
+    };
+    drive_turns::<M, S, K, I>(alloc, machine, source, sink, &mut buffer, &mut out)
 }
 
 /// Hands the lines of a source to the machine, one after the other, and what it says of each to the sink before the next one is
@@ -122,7 +156,8 @@ pub fn drive<M: Machine, S, K: Sink, I: Intake<S, K>>(
         (K.written sink.old) (K.written sink.new) result }
 
     // Where the intake notes its calls, those bytes are what they brought. At each call all that the bytes so far decide had been
-    // written, and that is no end; after a call that brings nothing there is no other.
+    // written, and that is no end; after a call that brings nothing there is no other. Memory doesn't run out where the bytes of all calls
+    // but the last one lead to a state from which no line takes memory.
     ensures order { DrivenInTurn M.Machine machine.old (I.left source.old) (I.left source.new)
         (K.written sink.old) (K.written sink.new) (I.calls source.old) (I.calls source.new) result }
 

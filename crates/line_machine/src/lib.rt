@@ -14,10 +14,10 @@ mod send;
 
 pub use buffer::lf_place;
 pub use byte_buffer::Out;
-pub use driver::drive;
+pub use driver::{OUT_ROOM, drive};
 pub use intake::{Intake, Unwatched};
 pub use laws::sure_text_laws;
 pub use line::length_code;
-pub use machine::{End, LONG_LINE, MAX_LINES, Machine, TOO_MANY_LINES};
+pub use machine::{End, LINE_ROOM, LONG_LINE, MAX_LINES, Machine, TOO_MANY_LINES};
 pub use opened::drive_opened;
 pub use send::Cut;

@@ -1,5 +1,6 @@
 //! One turn of the driver: a line, the refusal of a line, or the end of the input, with what is printed for it.
 ghost use Rattle.std.specs.Prelude.{◌≡◌, ◌≢◌, ◌≤◌, ◌<◌, ◌+◌, ◌^◌, ℕ, List, [], length, None, option_map, IfOk, IfErr, IfNone, OnOk, OnErr, IsErrOf};
+ghost use Rattle.byte_buffer.specs.Outs.{HasRoomLeft};
 ghost use Rattle.titan_wire.specs.Wire.{Rose, HasRoom};
 ghost use Rattle.line_machine.specs.Next.{Next, next_of};
 ghost use Rattle.line_machine.specs.Sent.{Sent, SentFront};
@@ -46,6 +47,10 @@ pub fn refuse<M: Machine, K: Sink>(
         (K.written sink.old) (K.written sink.new)) }
     ensures quiet { ¬ (IsErrOf result Cut.WriteFault) → K.faults sink.new ≡ K.faults sink.old }
     ensures fault { IsErrOf result Cut.WriteFault → Rose (K.faults sink.old) (K.faults sink.new) }
+    ensures steady { (n : ℕ) → M.steady machine.now n → HasRoomLeft out.old n →
+        ¬ (IsErrOf result Cut.Memory) }
+    ensures capacity { (n : ℕ) → M.steady machine.now n → HasRoomLeft out.old n →
+        out.new.capacity ≡ out.old.capacity }
 {
     match machine.refuse(alloc, number, code, out) {
         Ok(()) => send_out(out, sink),
@@ -76,6 +81,12 @@ pub fn take_line<M: Machine, K: Sink>(
         (K.written sink.old) (K.written sink.new)) }
     ensures quiet { ¬ (IsErrOf result Cut.WriteFault) → K.faults sink.new ≡ K.faults sink.old }
     ensures fault { IsErrOf result Cut.WriteFault → Rose (K.faults sink.old) (K.faults sink.new) }
+    ensures steady { (n : ℕ) → M.steady machine.old n → HasRoomLeft out.old n →
+        ¬ (IsErrOf result Cut.Memory) }
+    ensures capacity { (n : ℕ) → M.steady machine.old n → HasRoomLeft out.old n →
+        out.new.capacity ≡ out.old.capacity }
+    ensures stays { (n : ℕ) → M.steady machine.old n → HasRoomLeft out.old n →
+        IfOk result (λ end. end ≡ None → M.steady machine.new n) }
 {
     match length_code(machine.limit(), number, line.len()) {
         Some(code) => match refuse(alloc, machine, number, code, out, sink) {
@@ -110,6 +121,10 @@ pub fn finish<M: Machine, K: Sink>(
         (K.written sink.old) (K.written sink.new)) }
     ensures quiet { ¬ (IsErrOf result Cut.WriteFault) → K.faults sink.new ≡ K.faults sink.old }
     ensures fault { IsErrOf result Cut.WriteFault → Rose (K.faults sink.old) (K.faults sink.new) }
+    ensures steady { (n : ℕ) → M.steady machine.old n → HasRoomLeft out.old n →
+        ¬ (IsErrOf result Cut.Memory) }
+    ensures capacity { (n : ℕ) → M.steady machine.old n → HasRoomLeft out.old n →
+        out.new.capacity ≡ out.old.capacity }
 {
     match machine.close(alloc, count, out) {
         Ok(end) => {
@@ -141,6 +156,10 @@ pub fn take_last<M: Machine, K: Sink>(
         (K.written sink.old) (K.written sink.new)) }
     ensures quiet { ¬ (IsErrOf result Cut.WriteFault) → K.faults sink.new ≡ K.faults sink.old }
     ensures fault { IsErrOf result Cut.WriteFault → Rose (K.faults sink.old) (K.faults sink.new) }
+    ensures steady { (n : ℕ) → M.steady machine.old n → HasRoomLeft out.old n →
+        ¬ (IsErrOf result Cut.Memory) }
+    ensures capacity { (n : ℕ) → M.steady machine.old n → HasRoomLeft out.old n →
+        out.new.capacity ≡ out.old.capacity }
 {
     if tail.is_empty() {
         return finish(alloc, machine, count, out, sink);

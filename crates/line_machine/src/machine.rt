@@ -1,7 +1,8 @@
 //! A form of words as a transducer over lines: a state machine that prints at each step (a Mealy machine).
 ghost use Rattle.std.specs.Prelude.{◌≡◌, ◌≤◌, ◌+◌, ◌++◌, ℕ, List, [], length, None, IfOk, IsTrue, OnOk};
 ghost use Rattle.line_machine.specs.Next.{Next, GoesOn, next_of};
-ghost use Rattle.byte_buffer.specs.Outs.{Appended, IsFront};
+ghost use Rattle.line_machine.specs.Steady.{TookNone};
+ghost use Rattle.byte_buffer.specs.Outs.{Appended, IsFront, HasRoomLeft};
 
 use byte_buffer::Out;
 use std::alloc::{AllocError, Global};
@@ -19,6 +20,9 @@ pub enum End {
 
 /// Lines of a larger number are refused.
 pub const MAX_LINES: u64 = 1_000_000;
+
+/// The most bytes of a line of a machine that takes no memory, without its LF.
+pub const LINE_ROOM: usize = 4096;
 
 /// The code of a line past its limit of bytes.
 pub const LONG_LINE: u8 = 18;
@@ -46,9 +50,14 @@ pub trait Machine {
     /// can't bring it past its greatest number.
     ghost awaits: { Self → ℕ → Type 0 };
 
+    /// From this state on no line takes memory where what is printed has room for so many bytes more; nor does the end of the input, nor
+    /// a refusal. A machine that promises this of no state says so.
+    ghost steady: { Self → ℕ → Type 0 };
+
     /// The most bytes of the next line.
     fn limit(&self) -> usize
-        ensures { result ≡ limit_of self.now };
+        ensures value { result ≡ limit_of self.now }
+        ensures short { (n : ℕ) → steady self.now n → result ≤ LINE_ROOM };
 
     /// Whether an empty line is known to do nothing here: it prints nothing, and leaves the state as it is. A driver may pass over it.
     fn skips_empty(&self) -> bool
@@ -59,7 +68,9 @@ pub trait Machine {
     fn refuse(&self, alloc: Global, number: u64, code: u8, out: &mut Out) -> Result<(), AllocError>
         ensures text { OnOk result
             (out.new.bytes ≡ out.old.bytes ++ refusal self.now number code) }
-        ensures front { IsFront out.old out.new };
+        ensures front { IsFront out.old out.new }
+        ensures steady { (n : ℕ) → steady self.now n → HasRoomLeft out.old n →
+            TookNone out.old result out.new };
 
     /// Takes a whole line, without its LF: appends what is printed, and answers whether that is the end. The error is out of memory.
     fn step(
@@ -74,13 +85,17 @@ pub trait Machine {
         ensures steps { IfOk result (λ end. Appended
             (steps self.old number line.now (next_of self.new end)) out.old out.new) }
         ensures turn { IfOk result (λ end. end ≡ None → awaits self.new (number + 1)) }
-        ensures front { IsFront out.old out.new };
+        ensures front { IsFront out.old out.new }
+        ensures steady { (n : ℕ) → steady self.old n → HasRoomLeft out.old n →
+            TookNone out.old result out.new × IfOk result (λ end. end ≡ None → steady self.new n) };
 
     /// Takes the end of the input, behind `count` lines: appends what is printed, and answers how the program ends. The error is out of
     /// memory.
     fn close(&mut self, alloc: Global, count: u64, out: &mut Out) -> Result<End, AllocError>
         ensures closes { IfOk result (λ end. Appended (closes self.old count end) out.old out.new) }
-        ensures front { IsFront out.old out.new };
+        ensures front { IsFront out.old out.new }
+        ensures steady { (n : ℕ) → steady self.old n → HasRoomLeft out.old n →
+            TookNone out.old result out.new };
 
     // A state and a line lead to one state and one text, and a state and the end of the input to one end and one text.
     ghost steps_are_one: { (s : Self) (n : ℕ) (l : List ℕ) (u v : Next Self) (a c : List ℕ) →

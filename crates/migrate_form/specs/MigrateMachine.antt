@@ -62,6 +62,7 @@ second_lines = record {
   serves = λ k x n u text. KeepsLine k x u text;
   closing = λ x n. answer Ended [];
   awaits = λ x n. ⊤;
+  steady = λ x n. ⊥;
 }
 
 -- the machine of the script

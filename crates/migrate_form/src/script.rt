@@ -96,6 +96,8 @@ impl LineForm<KeptLine> for ScriptInSecond {
 
     ghost serves_one = { serves_one };
 
+    ghost steady_refusals = { λ x n h. absurd h };
+
     ghost awaits_on = { λ x n h. h };
 
     fn model(&self) -> &Model {

@@ -4,6 +4,7 @@ pub mod Behind
 pub mod ByLines
 pub mod Following
 pub mod FormEnds
+pub mod HeldModels
 pub mod LinesAgree
 pub mod NeverRejected
 pub mod OneReading

@@ -8,7 +8,7 @@ use Rattle.model_form.specs.FormStates.{nothing_read}
 use Rattle.model_form.specs.Limits.{line_code}
 use Rattle.model_form.specs.ModelTexts.{ModelText, WholeModel, RefusedModel, LeadsByCode, After, ReadsModel, EndsModel}
 
-leads_one : (c : Option ℕ) (s : ModelSoFar) (l : List ℕ) (o p : LineOutcome) → LeadsByCode c s l o → LeadsByCode c s l p → o ≡ p
+pub leads_one : (c : Option ℕ) (s : ModelSoFar) (l : List ℕ) (o p : LineOutcome) → LeadsByCode c s l o → LeadsByCode c s l p → o ≡ p
 leads_one (Some code) s l o p h k = h ∙ sym k
 leads_one None s l o p h k = lead_one_way s l o p h k
 

@@ -37,7 +37,7 @@ module _ {F B : Type 0} (form : FormGhosts F B) (m : Ghosts B) (f : F) where
   -- ---- from the machine to what the lines say
 
   -- what a line is refused with, or what it makes of the model
-  line_by : (o : Option ℕ) (s : ModelSoFar) (n : ℕ) (l : List ℕ) (u : Next (FormState F B)) (x : List ℕ) → TransitionByCode (form_machine form m) o (InModel f s) n l u x
+  pub line_by : (o : Option ℕ) (s : ModelSoFar) (n : ℕ) (l : List ℕ) (u : Next (FormState F B)) (x : List ℕ) → TransitionByCode (form_machine form m) o (InModel f s) n l u x
       → (out : LineOutcome) × LeadsByCode o s l out × StepsBy (form.is_json f) (InModel f) out s n (FormAtScript form m f s.model n u x) u x
   line_by (Some code) s n l u x takes = (Refuses code, refl, takes)
   line_by None s n l u x takes = takes

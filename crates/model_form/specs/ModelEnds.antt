@@ -3,7 +3,9 @@ use Rattle.std.specs.Prelude.{◌≡◌, ℕ, List}
 use Rattle.cca_base.specs.Accepted.{CompiledModel}
 use Rattle.cca_base.specs.declared.events.Refusal.{Refusal}
 use Rattle.model_form.specs.Acceptance.{AcceptedAs, RefusedFor, IsAcceptanceOf}
-use Rattle.model_form.specs.ModelTexts.{ModelText, WholeModel, RefusedModel, EndsModel}
+use Rattle.line_machine.specs.Lines.{lines_in}
+use Rattle.model_form.specs.FormStates.{nothing_read}
+use Rattle.model_form.specs.ModelTexts.{ModelText, WholeModel, RefusedModel, ReadsModel, EndsModel}
 
 -- the model came to its script, and is accepted
 abbrev pub IsAcceptedEnd : ModelText → Type 0
@@ -22,3 +24,7 @@ IsRefused end = (line : ℕ) × (refusal : Refusal) × IsRefusedEnd end line ref
 -- the model of the input ends so
 abbrev pub HasEnd : (ModelText → Type 0) → List ℕ → Type 0
 HasEnd EndsSo input = (end : ModelText) × EndsModel input end × EndsSo end
+
+-- the whole lines of these bytes are an accepted model, up to its line `script`, and maybe more
+abbrev pub HoldsModel : List ℕ → Type 0
+HoldsModel bytes = (end : ModelText) × ReadsModel nothing_read 0 (lines_in bytes).whole end × IsAcceptedEnd end

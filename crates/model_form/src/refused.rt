@@ -1,16 +1,18 @@
 //! A line that is refused: its refusal is printed.
 
-ghost use Rattle.std.specs.Prelude.{◌≡◌, ℕ, ◌++◌, Some, OnOk, OnErr};
+ghost use Rattle.std.specs.Prelude.{◌≡◌, ℕ, ◌++◌, false, Some, IsSome, OnOk, OnErr};
 ghost use Rattle.cca_base.specs.Prelude.{bare, stop_code};
-ghost use Rattle.byte_buffer.specs.Outs.{Appended, IsFront};
+ghost use Rattle.byte_buffer.specs.Outs.{Appended, HasRoomLeft, IsFront};
+ghost use Rattle.line_machine.specs.Steady.{TookNone};
 ghost use Rattle.model_form.specs.Acceptance.{SaysNotAccepted};
 ghost use Rattle.trace_text.specs.Json.{refusal_text};
+ghost use Rattle.trace_text.specs.declared.refusal.TheConstants.{REFUSAL_ROOM};
 
 use acceptance::NotAccepted;
 use cca_base::{Model, Refusal, Stop};
 use line_machine::Out;
 use std::alloc::{AllocError, Global};
-use trace_text::refusal_line;
+use trace_text::{bare_refusal_to, refusal_line};
 
 /// Appends the line of a refusal. The error is out of memory, and then all is as it was.
 pub fn refuse_to(
@@ -43,8 +45,15 @@ pub fn refuse_code_to(
         ≡ out.old.bytes ++ refusal_text json model.now number (bare code)) }
     ensures err { OnErr result (out.new ≡ out.old) }
     ensures front { IsFront out.old out.new }
+
+    // In words it takes no memory where there is room.
+    ensures steady { json ≡ false → HasRoomLeft out.old REFUSAL_ROOM →
+        TookNone out.old result out.new }
 {
-    refuse_to(alloc, json, model, number, &Refusal::bare(code), out)
+    if json {
+        return refuse_to(alloc, json, model, number, &Refusal::bare(code), out);
+    }
+    bare_refusal_to(model, number, code, out)
 }
 
 /// The same for a line that was not taken.
@@ -60,6 +69,10 @@ pub fn refuse_stop_to(
         × (out.new.bytes ≡ out.old.bytes ++ refusal_text json model.now number (bare code))) }
     ensures err { OnErr result (out.new ≡ out.old) }
     ensures front { IsFront out.old out.new }
+
+    // In words a refusal takes no memory where there is room.
+    ensures steady { json ≡ false → IsSome (stop_code stop.now) → HasRoomLeft out.old REFUSAL_ROOM →
+        TookNone out.old result out.new }
 {
     match stop.code() {
         Some(code) => refuse_code_to(alloc, json, model, number, code, out),

@@ -129,7 +129,7 @@ impl<F: ModelForm<B> + Drop, B: Machine + Drop> WithModel<F, B> {
 
 // By the clauses of the trait a line gives `FormSteps`, and the end of the input `FormCloses` (specs/FormMachine.antt).
 impl<F: ModelForm<B> + Drop, B: Machine + Drop> Machine for WithModel<F, B> {
-    ghost use Rattle.model_form.specs.FormMachine.{limit_in, refusal_in, FormSteps, FormCloses, FormAwaits};
+    ghost use Rattle.model_form.specs.FormMachine.{limit_in, refusal_in, FormSteps, FormCloses, FormAwaits, FormSteady};
     ghost use Rattle.model_form.specs.OneStep.{form_steps_are_one, form_closes_are_one};
 
     ghost limit_of = { limit_in F.ModelForm B.Machine };
@@ -141,6 +141,8 @@ impl<F: ModelForm<B> + Drop, B: Machine + Drop> Machine for WithModel<F, B> {
     ghost closes = { FormCloses F.ModelForm B.Machine };
 
     ghost awaits = { FormAwaits F.ModelForm B.Machine };
+
+    ghost steady = { FormSteady F.ModelForm B.Machine };
 
     ghost steps_are_one = { form_steps_are_one F.ModelForm.own B.Machine.own F.begins_one_way B.steps_are_one };
 

@@ -13,4 +13,5 @@ pub mod ReadPrograms
 pub mod RunningWell
 pub mod Sequencing
 pub mod TicksCount
+pub mod ToldRoom
 mod WrittenPrograms

@@ -1,5 +1,5 @@
 -- A line says one thing, and an item that is said leads to one state and one text. The proofs stand here since a form of lines names them.
-use Rattle.std.proofs.Common.{◌≡◌, ℕ, ◌+◌, List, Bool, true, false, Option, Some, None, Result, Ok, Err, refl, sym, ap, subst, ◌∙◌, arith}
+use Rattle.std.proofs.Common.{◌≡◌, ℕ, ◌+◌, ◌≤◌, List, Bool, true, false, Option, Some, None, Result, Ok, Err, refl, sym, ap, subst, ◌∙◌, arith}
 use Rattle.cca_base.specs.Accepted.{CompiledModel, IsCompiled}
 use Rattle.cca_base.specs.Plans.{Promising}
 use Rattle.cca_base.specs.PlantModel.{PlantModel}
@@ -15,7 +15,8 @@ use Rattle.line_machine.specs.Next.{Next, GoesOn}
 use Rattle.model_form.specs.OneStep.{AreOne}
 use Rattle.trace_laws.specs.Events.{Acts}
 use Rattle.trace_laws.proofs.OneNext.{acts_are_one}
-use Rattle.program_form.specs.ProgramMachine.{ProgramState, Stage, Reads, Runs, MakesEvent, ReadsBy, SaysIn, ServesIn, ProgramAwaits, Prepares, program_lines, report_of, event_text, running, sequencer}
+use Rattle.trace_text.specs.declared.refusal.TheConstants.{REFUSAL_ROOM}
+use Rattle.program_form.specs.ProgramMachine.{ProgramState, Stage, Reads, Runs, MakesEvent, ReadsBy, SaysIn, ServesIn, ProgramAwaits, ProgramSteady, Prepares, program_lines, report_of, event_text, running, sequencer}
 use Rattle.program_form.specs.PutIn.{Sequencer, Told, PutsBefore, TurnsBefore, IsToldOf, asks, ends}
 use Rattle.program_form.specs.declared.item.ProgramItem.{ProgramItem}
 use Rattle.program_form.specs.declared.item.ProgramItem.TheVariants as items
@@ -93,3 +94,6 @@ said_one x l a b h k = says_one x.stage x l a b h k
 
 pub awaits_on : (x : ProgramState) (n : ℕ) → ProgramAwaits x n → ProgramAwaits x (n + 1)
 awaits_on x n h = let few = h.0 in (omega arith, h.1)
+
+pub steady_refusals : (x : ProgramState) (n : ℕ) → ProgramSteady x n → (program_lines.is_json x ≡ false) × (REFUSAL_ROOM ≤ n)
+steady_refusals x n h = (refl, h.refusal)

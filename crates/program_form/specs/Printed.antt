@@ -1,5 +1,5 @@
 -- What is printed of a program's run.
-use Rattle.std.specs.Prelude.{◌≡◌, ℕ, Bool, true, false, List, [], ◌∷◌, ◌++◌, codes, flat_map, map, Option, Some, None}
+use Rattle.std.specs.Prelude.{◌≡◌, ◌+◌, ℕ, Bool, true, false, List, [], ◌∷◌, ◌++◌, codes, flat_map, map, Option, Some, None}
 use Rattle.std.specs.Fmt.{decimal}
 use Rattle.cca_base.specs.declared.events.Event.{Event}
 use Rattle.cca_base.specs.declared.events.TickReport.{TickReport}
@@ -11,9 +11,11 @@ use Rattle.control_laws.specs.Rest.{whole}
 use Rattle.control_syntax.specs.declared.part.Part.{Part}
 use Rattle.model_form.specs.Answers.{Saying}
 use Rattle.model_form.specs.LinesEnds.{ending}
+use Rattle.trace_text.specs.ReportRefs.{most_bytes}
 use Rattle.trace_text.specs.Reports.{report_line}
 use Rattle.program_form.specs.PutIn.{PutIn, Told, at_start}
 use Rattle.program_form.specs.Sequences.{Sequence, SaysSequence}
+use Rattle.program_form.specs.declared.told.TheConstants.{DONE_ROOM}
 
 -- the line of a program that has ended before a tick of this number, and no line of one that hasn't
 abbrev pub done_line : Bool → ℕ → List ℕ
@@ -23,6 +25,10 @@ done_line false tick = []
 -- the line of a tick, and behind it that the program has ended, where it has in the turn before the tick
 abbrev pub told_text : PlantModel → Told → List ℕ
 told_text m t = report_line m t.report ++ done_line t.ended t.report.tick
+
+-- how many bytes are told of a tick of the model at most
+abbrev pub most_told : PlantModel → ℕ
+most_told m = most_bytes m + DONE_ROOM
 
 -- the lines of ticks, one behind the other
 abbrev pub all_told : PlantModel → List Told → List ℕ

@@ -1,5 +1,5 @@
 -- The machine of the lines behind a model that are a control program and its events.
-use Rattle.std.specs.Prelude.{◌≡◌, ◌<◌, ℕ, false, List, [], Option, Some, None, Result, Ok, Err}
+use Rattle.std.specs.Prelude.{◌≡◌, ◌<◌, ◌≤◌, ℕ, false, List, [], Option, Some, None, Result, Ok, Err}
 use Rattle.std.specs.Option.{option_map}
 use Rattle.cca_base.specs.declared.codes.TheConstants.{ENDS_EARLY}
 use Rattle.cca_base.specs.declared.events.Event.{Event}
@@ -29,7 +29,8 @@ use Rattle.model_form.specs.declared.form.ModelForm.{Ghosts as FormGhosts}
 use Rattle.model_form.specs.declared.limits.TheConstants.{MAX_LINE}
 use Rattle.model_form.specs.declared.lines.OfLines.{OfLines}
 use Rattle.trace_laws.specs.Events.{Acts}
-use Rattle.program_form.specs.Printed.{told_text}
+use Rattle.trace_text.specs.declared.refusal.TheConstants.{REFUSAL_ROOM}
+use Rattle.program_form.specs.Printed.{most_told, told_text}
 use Rattle.program_form.specs.PutIn.{Sequencer, PutsBefore, IsToldOf, Told}
 use Rattle.program_form.specs.Sequences.{event_line}
 use Rattle.program_form.specs.declared.item.ProgramItem.{ProgramItem}
@@ -139,6 +140,17 @@ IsProperStage (Runs c) = Unit {0}
 abbrev pub ProgramAwaits : ProgramState → ℕ → Type 0
 ProgramAwaits x n = (x.state.ticks < n) × IsProperStage x.stage
 
+-- the program was read whole
+abbrev pub IsRunning : Stage → Type 0
+IsRunning (Reads y) = ⊥
+IsRunning (Runs c) = Unit {0}
+
+-- behind a program that was read whole no line takes memory where there is room for what is told of any tick of the model, and for a refusal
+pub record ProgramSteady (x : ProgramState) (n : ℕ) : Type 0 where
+  pub running : IsRunning x.stage
+  pub told : most_told x.compiled.model ≤ n
+  pub refusal : REFUSAL_ROOM ≤ n
+
 -- what a line says, and what is done for it
 abbrev pub program_lines : LineMeaning ProgramState ProgramItem
 program_lines = record {
@@ -150,6 +162,7 @@ program_lines = record {
   serves = λ item x n u text. ServesIn x.stage item x n u text;
   closing = λ x n. closing_in x.stage x.compiled.model n;
   awaits = ProgramAwaits;
+  steady = ProgramSteady;
 }
 
 -- the machine of the lines

@@ -1,7 +1,7 @@
 //! What a line behind the model asks for, and the place for it.
 
-ghost use Rattle.std.specs.Prelude.{◌≡◌, [], true, IfOk, OnOk, Ok};
-ghost use Rattle.cca_base.specs.Prelude.{IsCompiled};
+ghost use Rattle.std.specs.Prelude.{◌≡◌, [], true, IfErr, IfOk, IsSome, OnOk, Ok};
+ghost use Rattle.cca_base.specs.Prelude.{stop_code, IsCompiled};
 ghost use Rattle.formula_syntax.specs.Lookups.{NamesFit};
 ghost use Rattle.line_forms.specs.LineMeaning.{read_into};
 ghost use Rattle.script_reader.specs.EventLines.{AnswersAs};
@@ -86,6 +86,7 @@ impl ItemPlace {
             line.now)) }
         ensures may_come { result ≡ Ok true → IsComing executive.now.compiled.model
             executive.now.state.pending executive.now.state.mirrored self.new }
+        ensures no_memory { IfErr result (λ stop. IsSome (stop_code stop)) }
         ensures compiled { IsCompiled executive.now.compiled }
     {
         self.makes = true;

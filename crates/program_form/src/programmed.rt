@@ -158,13 +158,15 @@ impl Programmed {
 
 // What is said and done stands in `program_lines` (specs/ProgramMachine.antt).
 impl LineForm<ItemPlace> for Programmed {
-    ghost use Rattle.program_form.specs.OneStep.{said_one, serves_one, awaits_on};
+    ghost use Rattle.program_form.specs.OneStep.{said_one, serves_one, awaits_on, steady_refusals};
 
     ghost means = { program_lines };
 
     ghost said_one = { said_one };
 
     ghost serves_one = { serves_one };
+
+    ghost steady_refusals = { steady_refusals };
 
     ghost awaits_on = { awaits_on };
 

@@ -6,9 +6,11 @@ ghost use Rattle.cca_base.specs.declared.events.Event.{Event};
 ghost use Rattle.cca_base.specs.declared.events.Event.TheVariants.{Tick};
 ghost use Rattle.control_laws.specs.Turns.{TurnsBy};
 ghost use Rattle.control_program.specs.Rooms.{goal_in};
-ghost use Rattle.byte_buffer.specs.Outs.{Appended, IsFront};
+ghost use Rattle.byte_buffer.specs.Outs.{Appended, HasRoomLeft, IsFront};
+ghost use Rattle.line_machine.specs.Steady.{TookNone};
 ghost use Rattle.executive_loop.specs.Borrowed.{event_read, report_with};
 ghost use Rattle.trace_laws.specs.Events.{Acts, IsTick};
+ghost use Rattle.program_form.specs.Printed.{most_told};
 ghost use Rattle.program_form.specs.PutIn.{TurnsBefore, asks, ends, left_by};
 ghost use Rattle.program_form.specs.ProgramMachine.{MakesEvent, PrintsEvent, Prepares, sequencer};
 ghost use Rattle.program_form.specs.Stages.{RunsInRoom};
@@ -118,6 +120,8 @@ fn make_tick(
     ensures compiled { executive.new.compiled ≡ executive.old.compiled }
     ensures well { RunsInRoom executive.old.compiled.model running.new }
     ensures front { IsFront out.old out.new }
+    ensures steady { HasRoomLeft out.old (most_told executive.old.compiled.model) →
+        TookNone out.old result out.new }
 {
     let ended = prepare(executive, running);
     let made = tick(executive);
@@ -174,6 +178,8 @@ pub fn make(
     ensures compiled { executive.new.compiled ≡ executive.old.compiled }
     ensures well { RunsInRoom executive.old.compiled.model running.new }
     ensures front { IsFront out.old out.new }
+    ensures steady { HasRoomLeft out.old (most_told executive.old.compiled.model) →
+        TookNone out.old result out.new }
 {
     if let EventRef::Tick = event {
         return make_tick(executive, running, out);

@@ -12,4 +12,5 @@ pub mod RunKeeps
 pub mod RunsTold
 pub mod ScriptTelling
 pub mod ShownPlans
+pub mod SteadyRuns
 pub mod TraceOfRun

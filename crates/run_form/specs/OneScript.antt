@@ -1,12 +1,14 @@
 -- A script and a line lead to one script and one text. The proofs stand here since a machine names them.
-use Rattle.std.proofs.Common.{◌≡◌, ℕ, ◌+◌, List, Option, Some, Result, Ok, sym, subst, ◌∙◌, arith}
+use Rattle.std.proofs.Common.{◌≡◌, ℕ, ◌+◌, ◌≤◌, false, List, Option, Some, Result, Ok, sym, ap, subst, ◌∙◌, arith}
 use Rattle.cca_base.specs.declared.events.Event.{Event}
 use Rattle.cca_base.specs.declared.events.TickReport.{TickReport}
 use Rattle.line_machine.specs.Next.{Next, GoesOn}
 use Rattle.model_form.specs.OneStep.{AreOne}
 use Rattle.trace_laws.proofs.OneNext.{acts_are_one}
+use Rattle.trace_text.specs.declared.refusal.TheConstants.{REFUSAL_ROOM}
+use Rattle.run_form.specs.Notations.{is_json}
 use Rattle.run_form.specs.OneText.{one_event_text}
-use Rattle.run_form.specs.ScriptMachine.{ScriptState, MakesEvent, ScriptAwaits, after_event, script_lines}
+use Rattle.run_form.specs.ScriptMachine.{ScriptState, MakesEvent, ScriptAwaits, ScriptSteady, after_event, script_lines}
 use Rattle.run_form.specs.TickTexts.{EventText}
 
 pub said_one : (x : ScriptState) (l : List ℕ) (a b : Result (Option Event) ℕ) → script_lines.said x l a → script_lines.said x l b → a ≡ b
@@ -37,3 +39,6 @@ awaits_on x n (few, h) =
         idle = omega (arith, idle);
       },
     )
+
+pub steady_refusals : (x : ScriptState) (n : ℕ) → ScriptSteady x n → (is_json x.notation ≡ false) × (REFUSAL_ROOM ≤ n)
+steady_refusals x n h = (ap is_json h.words, h.refusal)

@@ -2,10 +2,13 @@
 
 ghost use Rattle.std.specs.Prelude.{◌≡◌, ◌+◌, ◌-◌, ◌<◌, ◌^◌, OnOk, option_to_list};
 ghost use Rattle.cca_base.specs.Prelude.{MayCome, Promising};
-ghost use Rattle.byte_buffer.specs.Outs.{Appended, IsFront};
+ghost use Rattle.byte_buffer.specs.Outs.{Appended, HasRoomLeft, IsFront};
+ghost use Rattle.line_machine.specs.Steady.{TookNone};
 ghost use Rattle.run_form.specs.Summaries.{AreFewer, added, counts_of};
 ghost use Rattle.run_form.specs.TickTexts.{EventText};
+ghost use Rattle.run_form.specs.declared.notation.Notation.TheVariants.{Words};
 ghost use Rattle.trace_laws.specs.Events.{Acts};
+ghost use Rattle.trace_text.specs.ReportRefs.{most_bytes};
 
 use crate::counts::{Counts, summary};
 use crate::notation::{Notation, is_json};
@@ -64,6 +67,11 @@ fn make(
         × (counts.new ≡ added counts.old (counts_of (option_to_list report)))) }
     ensures compiled { executive.new.compiled ≡ executive.old.compiled }
     ensures front { IsFront out.old out.new }
+
+    // In words it takes no memory where there is room for any report of the model, and can't fail.
+    ensures steady { notation ≡ Words →
+        HasRoomLeft out.old (most_bytes executive.old.compiled.model) →
+        TookNone out.old result out.new }
 {
     match executive.act(event.borrowed()) {
         Some(made) => {
@@ -94,13 +102,15 @@ impl OpensScript<EventPlace> for Script {
 
 impl LineForm<EventPlace> for Script {
     ghost use Rattle.run_form.specs.ScriptMachine.{script_lines};
-    ghost use Rattle.run_form.specs.OneScript.{said_one, serves_one, awaits_on};
+    ghost use Rattle.run_form.specs.OneScript.{said_one, serves_one, awaits_on, steady_refusals};
 
     ghost means = { script_lines };
 
     ghost said_one = { said_one };
 
     ghost serves_one = { serves_one };
+
+    ghost steady_refusals = { steady_refusals };
 
     ghost awaits_on = { awaits_on };
 

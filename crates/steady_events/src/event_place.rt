@@ -1,7 +1,7 @@
 //! A place for the event that a line of a script asks for.
 
-ghost use Rattle.std.specs.Prelude.{◌≡◌, true, IfOk, Ok};
-ghost use Rattle.cca_base.specs.Prelude.{IsCompiled, MayCome};
+ghost use Rattle.std.specs.Prelude.{◌≡◌, true, IfErr, IfOk, IsSome, Ok};
+ghost use Rattle.cca_base.specs.Prelude.{stop_code, IsCompiled, MayCome};
 ghost use Rattle.cca_base.specs.declared.events.Event.TheVariants.{Tick};
 ghost use Rattle.executive_loop.specs.Borrowed.{event_read};
 ghost use Rattle.formula_syntax.specs.Lookups.{NamesFit};
@@ -65,6 +65,7 @@ impl EventPlace {
             (tokens_of line.now)) }
         ensures may_come { result ≡ Ok true → MayCome executive.now.compiled.model
             executive.now.state.pending executive.now.state.mirrored self.new }
+        ensures no_memory { IfErr result (λ stop. IsSome (stop_code stop)) }
         ensures compiled { IsCompiled executive.now.compiled }
     {
         let context = Context {

@@ -15,6 +15,7 @@ mod PairsApart
 mod PlainNames
 mod ReadReports
 mod ReadWords
+mod RefusalRoom
 mod ReportRoom
 mod RowsOfModels
 mod SameMembers

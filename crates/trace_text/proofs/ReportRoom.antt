@@ -1,6 +1,7 @@
 -- The line of any report of a model fits into the room for reports.
-use Rattle.std.proofs.Common.{◌+◌, ◌*◌, ◌<◌, ◌≤◌, ◌^◌, ℕ, List, [], ◌∷◌, ◌++◌, length, map, ap, arith}
-use Rattle.std.specs.Prelude.{codes}
+use Rattle.std.proofs.Common.{◌+◌, ◌*◌, ◌<◌, ◌≤◌, ◌^◌, ℕ, List, [], ◌∷◌, ◌++◌, length, map, Result, Ok, Err, ap, arith}
+use Rattle.std.specs.Prelude.{codes, OnOk}
+use Rattle.byte_buffer.specs.Outs.{Buffered, Pushes}
 use Rattle.std.specs.Fmt.{decimal}
 use Rattle.std.proofs.lemmas.Fmt.{length-decimal-le}
 use Rattle.std.proofs.lemmas.List.{length-append, length-map}
@@ -67,3 +68,8 @@ unfolding report_line
 report_fits m r h small =
     let shown = behind_spaces (shown_words m r.shown) in
     omega (arith, few_digits r.tick small.0, shown_fits m h r.shown small.1, length-append (decimal r.tick) shown, length-append (decimal r.tick ++ shown) (10 ∷ []))
+
+-- so does what is pushed of it
+pub pushed_fits : {A E : Type 0} (m : PlantModel) (r : TickReport) (result : Result A E) (old new : Buffered) → WellFormed m → HasSmallNumbers r → Pushes (report_line m r) old result new → OnOk result (length new.bytes ≤ length old.bytes + most_bytes m)
+pushed_fits m r (Ok a) old new h small p = omega (arith, ap length p.ok, length-append old.bytes (report_line m r), report_fits m r h small)
+pushed_fits m r (Err e) old new h small p = tt

@@ -28,7 +28,7 @@ pub use limits::{MAX_TRACE_LINE, limit_is_fixed};
 pub use names::push_field;
 pub use proof_lines::{route_lines, world_line};
 pub use read_parts::read_count;
-pub use refusal::refusal_line;
+pub use refusal::{REFUSAL_ROOM, bare_refusal_to, refusal_line};
 pub use report::{line_of, report_room, report_to};
 pub use report_ref::{ReportRef, ShownRef};
 pub use target::target_lines;

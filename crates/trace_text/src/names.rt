@@ -61,16 +61,21 @@ pub fn push_name(out: &mut Out, names: &[Name], at: usize) -> Result<(), AllocEr
     out.push(name_at(names, at))
 }
 
-/// A name with one of its choices.
-fn push_choice(out: &mut Out, name: &[u8], choices: &[Name], at: u8) -> Result<(), AllocError>
-    ensures { Pushes (choice_text name.now choices.now at) out.old result out.new }
+/// A byte with others behind it.
+fn push_behind(out: &mut Out, byte: u8, bytes: &[u8]) -> Result<(), AllocError>
+    ensures { Pushes (byte ∷ bytes.now) out.old result out.new }
 {
-    out.push(name)?;
-    out.push_byte(b'=')?;
-    push_name(out, choices, at as usize)
+    let _room = out.capacity();
+    let Some(count) = bytes.len().checked_add(1) else {
+        return Err(AllocError);
+    };
+    out.reserve(count)?;
+    out.push_within(&[byte]);
+    out.push_within(bytes);
+    Ok(())
 }
 
-/// The same behind a space.
+/// A name with one of its choices, behind a space.
 pub fn push_choice_word(
     out: &mut Out,
     name: &[u8],
@@ -79,8 +84,8 @@ pub fn push_choice_word(
 ) -> Result<(), AllocError>
     ensures { Pushes (32 ∷ choice_text name.now choices.now at) out.old result out.new }
 {
-    out.push_byte(b' ')?;
-    push_choice(out, name, choices, at)
+    push_behind(out, b' ', name)?;
+    push_behind(out, b'=', name_at(choices, at as usize))
 }
 
 /// A component with one of its modes, and a byte between them.

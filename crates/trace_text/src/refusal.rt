@@ -1,8 +1,10 @@
 //! The line of a refusal.
 
-ghost use Rattle.std.specs.Prelude.{◌≡◌, ◌++◌, ◌∷◌, [], codes, IfOk};
+ghost use Rattle.std.specs.Prelude.{◌≡◌, ◌++◌, ◌∷◌, [], codes, IfOk, IsOk, OnErr, OnOk};
 ghost use Rattle.std.specs.Fmt.{decimal};
-ghost use Rattle.byte_buffer.specs.Outs.{Pushes};
+ghost use Rattle.cca_base.specs.Prelude.{bare};
+ghost use Rattle.byte_buffer.specs.Outs.{HasRoomLeft, Pushes};
+ghost use Rattle.trace_text.specs.declared.refusal.TheConstants.{REFUSAL_ROOM};
 ghost use Rattle.trace_text.specs.Json.{refusal_text};
 ghost use Rattle.trace_text.specs.Refusals.{code_name, detail_text, refusal_line};
 
@@ -11,6 +13,9 @@ use crate::names::{push_components, push_field, push_move_at, push_pairs, push_w
 use byte_buffer::Out;
 use cca_base::{Detail, List, Model, Refusal, codes};
 use std::alloc::{AllocError, Global};
+
+/// How much room is enough for the line in words of a refusal that names nothing besides its code.
+pub const REFUSAL_ROOM: usize = 80;
 
 /// The name of a code.
 pub fn code_name(code: u8) -> &'static str
@@ -73,6 +78,30 @@ fn refusal_to(model: &Model, line: u64, refusal: &Refusal, out: &mut Out) -> Res
     push_code(out, refusal.code)?;
     push_detail(out, model, &refusal.detail)?;
     out.push_byte(b'\n')
+}
+
+/// Appends the line in words of a refusal that names nothing besides its code. The error is out of memory.
+fn push_bare(model: &Model, line: u64, code: u8, out: &mut Out) -> Result<(), AllocError>
+    ensures { Pushes (refusal_line model.now line (bare code)) out.old result out.new }
+{
+    refusal_to(model, line, &Refusal::bare(code), out)
+}
+
+/// Appends the line in words of a refusal that names nothing besides its code, and takes memory only where there is no room. The
+/// error is out of memory, and then all is as it was.
+#[tactic(auto, using(crate::proofs::RefusalRoom::refusal_fits))]
+pub fn bare_refusal_to(model: &Model, line: u64, code: u8, out: &mut Out) -> Result<(), AllocError>
+    ensures ok { OnOk result
+        (out.new.bytes ≡ out.old.bytes ++ refusal_line model.now line (bare code)) }
+    ensures err { OnErr result (out.new ≡ out.old) }
+    ensures succeeds { HasRoomLeft out.old REFUSAL_ROOM → IsOk result }
+    ensures stays { HasRoomLeft out.old REFUSAL_ROOM → out.new.capacity ≡ out.old.capacity }
+{
+    out.reserve(REFUSAL_ROOM)?;
+    let Ok(()) = push_bare(model, line, code, out) else {
+        unreachable!()
+    };
+    Ok(())
 }
 
 /// The line of a refusal in words.

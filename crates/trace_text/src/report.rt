@@ -1,6 +1,6 @@
 //! The line of a tick.
 
-ghost use Rattle.std.specs.Prelude.{◌≡◌, ◌++◌, ◌∷◌, [], codes, IfOk, IsOk};
+ghost use Rattle.std.specs.Prelude.{◌≡◌, ◌++◌, ◌+◌, ◌≤◌, ◌∷◌, [], codes, length, IfOk, IsOk, OnOk};
 ghost use Rattle.std.specs.Fmt.{decimal};
 ghost use Rattle.byte_buffer.specs.Outs.{HasRoomLeft, Pushes};
 ghost use Rattle.trace_text.specs.LineWords.{mode_words, reply_words, shown_words};
@@ -96,7 +96,7 @@ fn push_report(out: &mut Out, model: &Model, report: ReportRef) -> Result<(), Al
 
 /// Appends the line of a tick's report, with its LF, by the model's names. It takes memory only where the line doesn't fit. The
 /// error is out of memory.
-#[tactic(auto, using(crate::proofs::ReportRoom::report_fits))]
+#[tactic(auto, using(crate::proofs::ReportRoom::report_fits, crate::proofs::ReportRoom::pushed_fits))]
 pub fn report_to(model: &Model, report: ReportRef, out: &mut Out) -> Result<(), AllocError>
     ensures pushes { Pushes (report_line model.now (report_read report.entry)) out.old result out.new }
 
@@ -104,6 +104,8 @@ pub fn report_to(model: &Model, report: ReportRef, out: &mut Out) -> Result<(), 
     ensures succeeds { HasRoomLeft out.old (most_bytes model.now) → IsOk result }
     ensures stays { HasRoomLeft out.old (most_bytes model.now) →
         out.new.capacity ≡ out.old.capacity }
+    ensures fits { OnOk result
+        (length out.new.bytes ≤ length out.old.bytes + most_bytes model.now) }
 {
     let _components = model.components();
     report.reads_small_numbers();

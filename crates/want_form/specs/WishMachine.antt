@@ -66,6 +66,7 @@ wish_lines = record {
   serves = ServesRequest;
   closing = λ x n. answer Ended [];
   awaits = λ x n. ⊤;
+  steady = λ x n. ⊥;
 }
 
 -- the machine of the lines, which may end anywhere

@@ -201,6 +201,8 @@ impl LineForm<Request> for Wishing {
 
     ghost serves_one = { serves_one };
 
+    ghost steady_refusals = { λ x n h. absurd h };
+
     ghost awaits_on = { λ x n h. tt };
 
     fn model(&self) -> &Model {

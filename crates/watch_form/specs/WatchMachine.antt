@@ -77,6 +77,7 @@ watch_lines = record {
   serves = λ event x n u text. ServesEvent event x u text;
   closing = λ x n. answer Ended [];
   awaits = WatchAwaits;
+  steady = λ x n. ⊥;
 }
 
 -- the machine of the lines

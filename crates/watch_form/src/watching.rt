@@ -162,6 +162,8 @@ impl LineForm<WatchEvent> for Watching {
 
     ghost serves_one = { serves_one };
 
+    ghost steady_refusals = { λ x n h. absurd h };
+
     ghost awaits_on = { awaits_on };
 
     fn model(&self) -> &Model {

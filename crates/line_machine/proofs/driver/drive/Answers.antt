@@ -1,5 +1,5 @@
 use Rattle.line_machine.proofs.RunsAreOne.{IsFixed}
-use Rattle.line_machine.proofs.KnownInputs.{streamed, told_tells, told_ends, only_memory}
+use Rattle.line_machine.proofs.KnownInputs.{streamed, told_tells, told_ends}
 use Rattle.line_machine.proofs.driver.drive.Goals as goal
 
 pub returns : goal.returns
@@ -11,11 +11,5 @@ returns g c =
       order = c.drive_lines.ensures.driven;
       text = told_tells m c.args.machine.now fixed _ _ _ _ c.drive_lines.result c.drive_lines.ensures.driven.driven;
       ends = told_ends m c.args.machine.now fixed _ _ _ c.drive_lines.result (told_tells m c.args.machine.now fixed _ _ _ _ c.drive_lines.result c.drive_lines.ensures.driven.driven);
-      faults = record {
-        read = c.drive_lines.ensures.read;
-        write = c.drive_lines.ensures.write;
-        quiet_read = c.drive_lines.ensures.quiet_read;
-        quiet_write = c.drive_lines.ensures.quiet_write;
-        complete = only_memory c.drive_lines.result _ _ c.drive_lines.ensures.read c.drive_lines.ensures.write;
-      };
+      faults = c.drive_lines.ensures.faults;
     }

@@ -19,6 +19,6 @@ returns-clause-makes c =
     let ended = c.prepare-ended.result in
     let acts = subst (λ (b : CompiledModel). Acts b (Promising b) z.state Tick y.state (Some report)) c.prepare-ended.ensures.compiled c.tick-made.ensures.acts in
     let model : c.model-model.result.now ≡ x.compiled.model = c.model-model.ensures.value ∙ ap (λ (b : CompiledModel). b.model) (c.compiled.ensures.value ∙ c.tick-made.ensures.compiled ∙ c.prepare-ended.ensures.compiled) in
-    let said = subst (λ e. OnOk c.tell.result (c.tell.new.out.bytes ≡ c.args.out.now.bytes ++ told_text c.model-model.result.now (record { report = report_with e c.tick-made.result; ended = ended }))) c.estimate.ensures c.tell.ensures.ok in
+    let said = subst (λ e. OnOk c.tell.result (c.tell.new.out.bytes ≡ c.args.out.now.bytes ++ told_text c.model-model.result.now (record { report = report_with e c.tick-made.result; ended = ended }))) c.estimate.ensures c.tell.ensures.pushes.ok in
     let text = subst (λ (m : PlantModel). OnOk c.tell.result (c.tell.new.out.bytes ≡ c.args.out.now.bytes ++ told_text m (record { report = report; ended = ended }))) model said in
     tick_made x.compiled x.state z.state y.state c.args.running.now.runner c.prepare-ended.new.running.runner ended report c.tell.result c.args.out.now c.tell.new.out c.prepare-ended.ensures.puts acts text

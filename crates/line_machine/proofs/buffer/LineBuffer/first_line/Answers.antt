@@ -9,12 +9,16 @@ invariant_of-self c =
     let same = ap (λ l. length (take (length l - (f.start + f.scanned)) (drop (f.start + f.scanned) l))) c.deref.ensures.value in (
       omega (arith, c.self.invariant.0, c.in-Some.ensures.within, same),
       (line_from f.bytes.items c.deref.result.now f.start f.scanned c.deref.ensures.value c.self.invariant.1 c.in-Some.len (omega (arith, c.self.invariant.0)) c.in-Some.ensures.place).1,
+      c.self.invariant.2,
     )
 
 pub invariant_of-self-in-None : goal.invariant_of-self-in-None
 invariant_of-self-in-None c =
-    let f = c.self.inside in
-    (omega (arith, c.self.invariant.0, c.len.ensures), front_clean _ (drop f.start f.bytes.items) (none_from f.bytes.items c.deref.result.now f.start f.scanned c.deref.ensures.value c.self.invariant.1 c.in-None.ensures.place))
+    let f = c.self.inside in (
+      omega (arith, c.self.invariant.0, c.len.ensures),
+      front_clean _ (drop f.start f.bytes.items) (none_from f.bytes.items c.deref.result.now f.start f.scanned c.deref.ensures.value c.self.invariant.1 c.in-None.ensures.place),
+      c.self.invariant.2,
+    )
 
 pub returns-in-Some-clause-some : goal.returns-in-Some-clause-some
 returns-in-Some-clause-some c =
