@@ -5,6 +5,7 @@ pub mod FormAnswers
 pub mod FormStatuses
 pub mod Fronts
 pub mod MachineLaws
+pub mod Memory
 pub mod Migrations
 pub mod OutcomesAreOne
 pub mod OwnInputs

@@ -2,6 +2,7 @@ pub mod CheckedTrace
 pub mod Faults
 pub mod FormFront
 pub mod Laws
+pub mod LastRead
 pub mod Meanings
 pub mod Output
 pub mod OwnTraces

@@ -5,9 +5,12 @@ ghost use Rattle.std.specs.Io.KnownBytes.{prepend_known, IsAtEnd};
 ghost use Rattle.titan_wire.specs.Wire.{Rose, HasRoom};
 ghost use Rattle.line_machine.specs.Faults.{AnswersFaults};
 ghost use Rattle.model_form.specs.FormMeaning.{promises_of};
+ghost use Rattle.model_form.specs.ModelEnds.{HoldsModel};
+ghost use Rattle.run_form.specs.declared.notation.Notation.TheVariants.{Words};
 ghost use Rattle.titan_top.specs.CheckedTrace.{IsCheckedTrace};
 ghost use Rattle.titan_top.specs.Faults.{TellsFaults};
 ghost use Rattle.titan_top.specs.FormFront.{IsFrontOf};
+ghost use Rattle.titan_top.specs.LastRead.{BeforeLastRead};
 ghost use Rattle.titan_top.specs.Meanings.{meaning_of};
 ghost use Rattle.titan_top.specs.Output.{Outcome, IsOutcome, OfAnswer, NothingRefused, SomeRefused, SomeRejected, IsCut, usage, usage_text, AreNoForm};
 ghost use Rattle.titan_top.specs.OwnTraces.{HasOwnTrace};
@@ -193,6 +196,11 @@ pub fn titan<S: Source, K: Sink>(
         OfInput (asked words.now.items) (S.left source.old) (λ input.
         ((o : Outcome) × IsOutcome words.now.items input o × (result ≡ o.status))
         ⊎ (result ≡ Status.Memory)) }
+
+    // Behind an accepted model a run in words takes no memory: where it ran out, the bytes before the last read hold no model up to its line
+    // `script` that is accepted.
+    ensures memory { IsForm words.now.items (Form.Run Words) → result ≡ Status.Memory →
+        BeforeLastRead HoldsModel (S.left source.old) (S.left source.new) }
 
     // Only a check rejects anything.
     ensures only_check { result ≡ Status.Rejected → IsForm words.now.items Form.Check }

@@ -7,11 +7,13 @@ use Rattle.titan_top.specs.Streams.{HasRoomForWords, OfInput, input_for}
 use Rattle.titan_top.specs.Wire.{WritesAs}
 use Rattle.titan_top.specs.Words.{asked}
 use Rattle.titan_top.specs.declared.status.Status.TheVariants.{Ended, Rejected, Refused, Memory}
-use Rattle.titan_top.specs.declared.words.Form.TheVariants.{Show, Trial, Check}
+use Rattle.titan_top.specs.declared.words.Form.TheVariants.{Run, Show, Trial, Check}
+use Rattle.run_form.specs.declared.notation.Notation.TheVariants.{Words}
 use Rattle.titan_top.proofs.EverySource.{only_check, whole_at_end, form_silent, show_to_script}
 use Rattle.titan_top.proofs.FormAnswers.{usage_room, form_prints, form_streams}
 use Rattle.titan_top.proofs.FormStatuses.{no_read, form_ended, form_refused, form_rejected, ended_where, refused_where, rejected_where, completes}
 use Rattle.titan_top.proofs.Fronts.{form_front}
+use Rattle.titan_top.proofs.Memory.{words_memory}
 use Rattle.titan_top.proofs.Promised.{all_also, all_promised}
 use Rattle.titan_top.proofs.OwnTraces.{own_where}
 use Rattle.titan_top.proofs.TraceIsChecked.{check_is_checked}
@@ -80,6 +82,9 @@ returns-in-Some-clause-only_check g c e = sym (rw c.deref.ensures.value at c.in-
 
 pub returns-in-Some-clause-to_script : goal.returns-in-Some-clause-to_script
 returns-in-Some-clause-to_script g c show e = show_to_script c.in-Some.form (g.S.Source.left c.args.source.now) (g.S.Source.left c.drive_form.new.source) (g.K.Sink.written c.args.sink.now) (g.K.Sink.written c.drive_form.new.sink) c.drive_form.result (the_form c.args.words.now.items c.in-Some.form (rw c.deref.ensures.value at c.in-Some.ensures) Show show) (form_streams c.in-Some.form (g.S.Source.left c.args.source.now) (g.S.Source.left c.drive_form.new.source) (g.K.Sink.written c.args.sink.now) (g.K.Sink.written c.drive_form.new.sink) _ _ c.drive_form.result c.drive_form.ensures.driven) (sym c.status_of.ensures ∙ e)
+
+pub returns-in-Some-clause-memory : goal.returns-in-Some-clause-memory
+returns-in-Some-clause-memory g c words e = words_memory (g.S.Source.left c.args.source.now) (g.S.Source.left c.drive_form.new.source) (g.K.Sink.written c.args.sink.now) (g.K.Sink.written c.drive_form.new.sink) _ _ c.drive_form.result c.in-Some.form (the_form c.args.words.now.items c.in-Some.form (rw c.deref.ensures.value at c.in-Some.ensures) (Run Words) words) c.drive_form.ensures.driven (sym c.status_of.ensures ∙ e)
 
 pub returns-in-Some-clause-trial_not_asked : goal.returns-in-Some-clause-trial_not_asked
 returns-in-Some-clause-trial_not_asked g c = λ seed is. c.drive_form.ensures.not_asked seed (the_form c.args.words.now.items c.in-Some.form (rw c.deref.ensures.value at c.in-Some.ensures) (Trial seed) is)
