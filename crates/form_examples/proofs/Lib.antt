@@ -1,0 +1,5 @@
+pub mod CheckExamples
+pub mod EventExamples
+pub mod RunExamples
+pub mod WatchExamples
+pub mod WishExamples
