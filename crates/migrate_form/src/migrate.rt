@@ -73,7 +73,8 @@ impl<L: OpensSecond<I> + Drop, I: Drop> ModelForm<Lines<L, I>> for Migrate {
         let model = compiled.into_model().to_second();
         print_model_and_script(alloc, &model, out)?;
         let script = L::open(alloc, model, names);
-        Ok(Opened::Lines(Lines::new(alloc, script)?))
+        let lines = Lines::new(alloc, script)?;
+        Ok(Opened::Lines(Box::new(alloc, lines)?))
     }
 }
 

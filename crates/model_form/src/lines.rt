@@ -39,6 +39,7 @@ impl<B: BehindModel> ModelForm<B> for OfLines {
     }
 
     fn begin(&self, alloc: Global, accepted: Accepted, _number: u64, _out: &mut Out) -> Begun<B> {
-        Ok(Opened::Lines(B::open(alloc, accepted)?))
+        let behind = B::open(alloc, accepted)?;
+        Ok(Opened::Lines(Box::new(alloc, behind)?))
     }
 }

@@ -27,7 +27,7 @@ use std::mem;
 enum Stage<F, B> {
     /// In its model.
     Model(F, ModelReader),
-    /// Behind it. The machine there is large and made once, so it has a place of its own.
+    /// Behind it.
     Behind(Box<B>),
 }
 
@@ -111,7 +111,7 @@ impl<F: ModelForm<B> + Drop, B: Machine + Drop> WithModel<F, B> {
                     let (model, names) = read.finish_named();
                     match at_script(alloc, form, model, names, number, out)? {
                         Opened::Lines(behind) => {
-                            self.stage = Stage::Behind(Box::new(alloc, behind)?);
+                            self.stage = Stage::Behind(behind);
                             Ok(None)
                         }
                         Opened::Ended(end) => Ok(Some(end)),
