@@ -1,0 +1,5 @@
+pub mod KindNames
+pub mod Listed
+pub mod NumberLaws
+pub mod NumberedLines
+pub mod ReportNumbers
